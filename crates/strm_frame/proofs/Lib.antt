@@ -11,3 +11,6 @@ pub mod Behind
 pub mod Asked
 pub mod Seeking
 mod Staying
+pub mod Pairs
+mod Letting
+pub mod Flags

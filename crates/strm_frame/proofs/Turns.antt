@@ -5,7 +5,7 @@ use Rattle.strm_types.specs.declared.rules.Fates.{Fates}
 use Rattle.strm_types.specs.declared.spots.Spot.{Spot}
 use Rattle.strm_types.specs.Deliver.{Parcel, Fate, Took, Carried, in_turn, carried, tallied}
 
-tallied-append : {C : Type 0} (xs ys : List (Fate C)) (counts : Fates) → tallied (xs ++ ys) counts ≡ tallied ys (tallied xs counts)
+pub tallied-append : {C : Type 0} (xs ys : List (Fate C)) (counts : Fates) → tallied (xs ++ ys) counts ≡ tallied ys (tallied xs counts)
 tallied-append [] ys counts = refl
 tallied-append (x ∷ xs) ys counts = tallied-append xs ys _
 

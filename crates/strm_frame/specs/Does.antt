@@ -1,25 +1,32 @@
 -- What a put, a delivery, a call of a service procedure, the end of a turn and a pop did to a store and what stands beside it.
-use Rattle.std.specs.Prelude.{ℕ, ◌≡◌, ◌<◌, ◌≤◌, Bool, true, false, List, [], ◌∷◌, Option}
+use Rattle.std.specs.Prelude.{ℕ, ◌≡◌, ◌<◌, ◌≤◌, Bool, true, false, if◌then◌else◌, List, [], ◌∷◌, Option, IfSome}
 use Rattle.std.specs.Bool.{OnTrue}
 use Rattle.strm_types.specs.declared.limits.TheConstants.{STOP_BLOCKS}
+use Rattle.strm_types.specs.declared.names.Side.{Side}
+use Rattle.strm_types.specs.declared.names.Way.{Way}
 use Rattle.strm_types.specs.declared.rules.Fates.{Fates}
+use Rattle.strm_types.specs.declared.rules.Rule.{Rule}
+use Rattle.strm_types.specs.declared.spots.Note.TheVariants.{Room}
 use Rattle.strm_types.specs.declared.spots.Spot.{Spot}
 use Rattle.strm_types.specs.Deliver.{Acted, Carried, Parcel, Took, tallied}
 use Rattle.strm_types.specs.Dropped.{is_met}
 use Rattle.strm_types.specs.Input.{made_of}
-use Rattle.strm_types.specs.LdtermCalls.{most_made}
 use Rattle.strm_types.specs.Message.{Message, is_held}
-use Rattle.strm_types.specs.Service.{Serving}
+use Rattle.strm_types.specs.Service.{Serving, queues_cleared, most_made}
+use Rattle.strm_types.specs.Standings.{messages_on}
 use Rattle.strm_blocks.specs.Blocks.{StoreValue}
 use Rattle.strm_queue.specs.Stored.{FreesBlocks, FreesNone}
 use Rattle.strm_frame.specs.declared.modules.Acts.{Acts}
 use Rattle.strm_frame.specs.declared.modules.LetGo.{LetGo}
 use Rattle.strm_frame.specs.declared.parcels.Sent.{Sent}
+use Rattle.strm_frame.specs.declared.queue_pair.QueuePair.{QueuePair}
+use Rattle.strm_frame.specs.declared.queues.Emptied.{Emptied}
 use Rattle.strm_frame.specs.declared.service.Served.{Served}
 use Rattle.strm_frame.specs.declared.service.TurnEnd.{TurnEnd}
 use Rattle.strm_frame.specs.Hands.{Handles, Hands, HasRoom, OnlyOwn, SamePool, Spends, Takes}
 use Rattle.strm_frame.specs.Outboxes.{message_in, sent_of, times_sent, parcels_in, AreChains}
 use Rattle.strm_frame.specs.Serves.{SameHand, least_free, later_cost}
+use Rattle.strm_frame.specs.Standings.{IsPairReady, lists_of, queues_in, queues_own}
 
 -- What is on its way is nothing, or one message that stays, by what stays.
 abbrev pub StaysAlone : {P : Type 0} → (P → Spot → Message ℕ → Type 0) → P → List (Parcel ℕ) → Type 0
@@ -116,3 +123,16 @@ module _ {X P : Type 0} (plain : StoreValue → X → P) (IsHeld : StoreValue �
     pub own : OnlyOwn old new (owns x) (owns y)
     pub hand : SameHand old new
     pub frees : FreesBlocks old new
+
+-- All went that stood on the queue of a way, where there are queues, as the definition says. Only their lists changed, they are ready still, and no block was
+-- taken.
+pub record ClearsQueue (side : Side) (way : Way) (rule : Rule) (old new : StoreValue) (q r : Option QueuePair) (seeking : Option ℕ) (gone : Emptied) (t t' : Fates) : Type 0 where
+  pub state : queues_in new r ≡ (queues_cleared side rule way (queues_in old q)).state
+  pub notes : (if gone.room then Room way ∷ [] else []) ≡ (queues_cleared side rule way (queues_in old q)).notes
+  pub met : gone.met ≡ is_met seeking (messages_on way (queues_in old q))
+  pub told : t' ≡ tallied (queues_cleared side rule way (queues_in old q)).gone t
+  pub ready : IfSome r (IsPairReady new)
+  pub lists : lists_of r ≡ lists_of q
+  pub own : OnlyOwn old new (queues_own q) (queues_own r)
+  pub hand : SameHand old new
+  pub frees : FreesBlocks old new

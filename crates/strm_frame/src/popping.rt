@@ -2,14 +2,17 @@
 
 ghost use Rattle.std.specs.Prelude.{ℕ, ◌≡◌, ◌<◌, [], length, map, slice_index_or};
 ghost use Rattle.strm_types.specs.declared.names.Way.TheVariants.{Down};
-ghost use Rattle.strm_types.specs.ModuleQueues.{at_place, messages_at};
+ghost use Rattle.strm_types.specs.ModuleQueues.{at_place};
+ghost use Rattle.strm_types.specs.Standings.{messages_at};
 ghost use Rattle.strm_types.specs.Modules.{act_among};
 ghost use Rattle.strm_types.specs.Service.{cleared};
 ghost use Rattle.strm_frame.specs.Does.{Clears};
+ghost use Rattle.strm_frame.specs.Standings.{Fits, keeps_of, owns, standing_in};
 ghost use Rattle.strm_frame.specs.Stacks.{all_in, all_of, AreHeld};
 
 use crate::modules::{LetGo, Module};
 use crate::stack::Stack;
+use crate::standing::Standing;
 use strm_blocks::Blocks;
 use strm_types::{Fates, Rule, Side};
 
@@ -17,7 +20,7 @@ use strm_types::{Fates, Rule, Side};
 // counted from 0.
 fn clear_among<B: Blocks, M: Module>(
     store: &mut B,
-    modules: &mut [M],
+    modules: &mut [Standing<M>],
     at: usize,
     side: Side,
     rule: Rule,
@@ -25,13 +28,14 @@ fn clear_among<B: Blocks, M: Module>(
     told: &mut Fates,
 ) -> LetGo
     requires within { at < length modules.old }
-    requires held { AreHeld M.IsHeld M.owns (B.value store.old) modules.old }
-    requires rests { (i : ℕ) → all_of M.keeps modules.old i ≡ 0 }
+    requires held { AreHeld (Fits M.IsHeld) owns (B.value store.old) modules.old }
+    requires rests { (i : ℕ) → all_of (keeps_of M.keeps) modules.old i ≡ 0 }
     ensures length { length modules.new ≡ length modules.old }
-    ensures does { let s = B.value store.old in let ps = all_in M.plain s modules.old in
-        Clears (all_in M.plain) (AreHeld M.IsHeld M.owns) (all_of M.owns) (all_of M.keeps) s (B.value store.new) modules.old modules.new
-        seeking (slice_index_or (map (messages_at M.queue_of Down) ps) at []) result told.old told.new
-        (act_among (cleared M.queue_of M.with_queue M.line_of M.without_line side rule) at ps) }
+    ensures does { let s = B.value store.old in let ps = all_in (standing_in M.plain) s modules.old in
+        Clears (all_in (standing_in M.plain)) (AreHeld (Fits M.IsHeld) owns) (all_of owns) (all_of (keeps_of M.keeps)) s (B.value store.new)
+        modules.old modules.new
+        seeking (slice_index_or (map (messages_at Down) ps) at []) result told.old told.new
+        (act_among (cleared M.line_of M.without_line side rule) at ps) }
 {
     store.audit();
     modules[at].clear(store, side, rule, seeking, told)
@@ -49,13 +53,14 @@ impl<M: Module + Default> Stack<M> {
         seeking: Option<u32>,
         told: &mut Fates,
     ) -> LetGo
-        requires held { AreHeld M.IsHeld M.owns (B.value store.old) self.old.modules.items }
-        requires rests { (i : ℕ) → all_of M.keeps self.old.modules.items i ≡ 0 }
+        requires held { AreHeld (Fits M.IsHeld) owns (B.value store.old) self.old.modules.items }
+        requires rests { (i : ℕ) → all_of (keeps_of M.keeps) self.old.modules.items i ≡ 0 }
         ensures length { length self.new.modules.items ≡ length self.old.modules.items }
-        ensures does { let s = B.value store.old in let xs = self.old.modules.items in let ps = all_in M.plain s xs in
-            Clears (all_in M.plain) (AreHeld M.IsHeld M.owns) (all_of M.owns) (all_of M.keeps) s (B.value store.new) xs self.new.modules.items
-            seeking (at_place (messages_at M.queue_of Down) [] 1 ps) result told.old told.new
-            (act_among (cleared M.queue_of M.with_queue M.line_of M.without_line side rule) 0 ps) }
+        ensures does { let s = B.value store.old in let xs = self.old.modules.items in let ps = all_in (standing_in M.plain) s xs in
+            Clears (all_in (standing_in M.plain)) (AreHeld (Fits M.IsHeld) owns) (all_of owns) (all_of (keeps_of M.keeps)) s (B.value store.new) xs
+            self.new.modules.items
+            seeking (at_place (messages_at Down) [] 1 ps) result told.old told.new
+            (act_among (cleared M.line_of M.without_line side rule) 0 ps) }
     {
         if self.modules.is_empty() {
             return LetGo::nothing();

@@ -6,10 +6,12 @@ ghost use Rattle.std.specs.Prelude.{◌≡◌, ◌<◌, ◌≤◌, ◌-◌, true
 ghost use Rattle.strm_types.specs.declared.limits.TheConstants.{MODULES};
 ghost use Rattle.strm_types.specs.declared.spots.Asks.TheVariants.{Empty};
 ghost use Rattle.strm_types.specs.Modules.{change_among};
-ghost use Rattle.strm_types.specs.ModuleQueues.{at_place, messages_at, queue_changed};
+ghost use Rattle.strm_types.specs.ModuleQueues.{at_place};
+ghost use Rattle.strm_types.specs.Standings.{HoldsOfPart, of_part, messages_at, queue_changed};
 ghost use Rattle.strm_types.specs.Service.{turn_ended, end_relieves, has_more};
 ghost use Rattle.strm_types.specs.Queue.{first_size};
 ghost use Rattle.strm_frame.specs.Does.{EndsTurn, Serves};
+ghost use Rattle.strm_frame.specs.Standings.{Fits, keeps_of, owns, standing_in};
 ghost use Rattle.strm_frame.specs.Hands.{AreIn, HasRoom};
 ghost use Rattle.strm_frame.specs.Serves.{served_among, stop_of};
 ghost use Rattle.strm_frame.specs.Stacks.{all_in, all_of, AreHeld};
@@ -17,16 +19,17 @@ ghost use Rattle.strm_frame.specs.Stacks.{all_in, all_of, AreHeld};
 use crate::modules::Module;
 use crate::service::{Served, TurnEnd};
 use crate::stack::Stack;
+use crate::standing::Standing;
 use strm_blocks::Blocks;
 use strm_types::{Asks, Fates, Spot, Way};
 
 // What the first message asks, of one of several modules, counted from 0.
-fn asks_among<B: Blocks, M: Module>(store: &B, modules: &[M], at: usize, way: Way) -> Asks
+fn asks_among<B: Blocks, M: Module>(store: &B, modules: &[Standing<M>], at: usize, way: Way) -> Asks
     requires within { at < length modules.now }
-    requires held { AreHeld M.IsHeld M.owns (B.value store.now) modules.now }
-    ensures asks { result ≡ slice_index_or (map (M.asks way) (map (M.plain (B.value store.now)) modules.now)) at Empty }
-    ensures few { slice_index_or (map (λ p. first_size (messages_at M.queue_of way p))
-        (map (M.plain (B.value store.now)) modules.now)) at 0 ≤ 16777216 }
+    requires held { AreHeld (Fits M.IsHeld) owns (B.value store.now) modules.now }
+    ensures asks { result ≡ slice_index_or (map (M.asks way) (map (standing_in M.plain (B.value store.now)) modules.now)) at Empty }
+    ensures few { slice_index_or (map (λ p. first_size (messages_at way p))
+        (map (standing_in M.plain (B.value store.now)) modules.now)) at 0 ≤ 16777216 }
 {
     modules[at].asks(store, way)
 }
@@ -34,18 +37,19 @@ fn asks_among<B: Blocks, M: Module>(store: &B, modules: &[M], at: usize, way: Wa
 // Ends a turn, of one of several modules, counted from 0.
 fn end_turn_among<B: Blocks, M: Module>(
     store: &B,
-    modules: &mut [M],
+    modules: &mut [Standing<M>],
     at: usize,
     way: Way,
     took: bool,
 ) -> TurnEnd
     requires within { at < length modules.old }
-    requires held { AreHeld M.IsHeld M.owns (B.value store.now) modules.old }
+    requires held { AreHeld (Fits M.IsHeld) owns (B.value store.now) modules.old }
     ensures length { length modules.new ≡ length modules.old }
-    ensures does { let s = B.value store.now in let ps = all_in M.plain s modules.old in
-        EndsTurn (all_in M.plain) (AreHeld M.IsHeld M.owns) (all_of M.owns) (all_of M.keeps) s modules.old modules.new result
-        (slice_index_or (map (end_relieves M.queue_of took way) ps) at false) (slice_index_or (map (has_more M.queue_of way) ps) at false)
-        (change_among (queue_changed M.queue_of M.with_queue way (turn_ended took)) at ps) }
+    ensures does { let s = B.value store.now in let ps = all_in (standing_in M.plain) s modules.old in
+        EndsTurn (all_in (standing_in M.plain)) (AreHeld (Fits M.IsHeld) owns) (all_of owns) (all_of (keeps_of M.keeps)) s modules.old modules.new
+        result
+        (slice_index_or (map (end_relieves took way) ps) at false) (slice_index_or (map (has_more way) ps) at false)
+        (change_among (queue_changed way (turn_ended took)) at ps) }
 {
     modules[at].end_turn(store, way, took)
 }
@@ -53,26 +57,26 @@ fn end_turn_among<B: Blocks, M: Module>(
 // Treats the first message, of one of several modules, counted from 0.
 fn serve_among<B: Blocks, M: Module>(
     store: &mut B,
-    modules: &mut [M],
+    modules: &mut [Standing<M>],
     at: usize,
     here: Spot,
     again: bool,
     told: &mut Fates,
 ) -> Served
     requires within { at < length modules.old }
-    requires held { AreHeld M.IsHeld M.owns (B.value store.old) modules.old }
-    requires turn { HoldsAt (M.MayServe here.way again) (map (M.plain (B.value store.old)) modules.old) at }
-    requires kept { AreIn (B.value store.old) (λ _. 0) (all_of M.keeps modules.old) }
-    requires room { HasRoom (B.value store.old) (slice_index_or (map (M.turn_cost here again)
-        (map (M.plain (B.value store.old)) modules.old)) at 0) }
+    requires held { AreHeld (Fits M.IsHeld) owns (B.value store.old) modules.old }
+    requires turn { HoldsAt (HoldsOfPart (M.MayServe here.way again)) (map (standing_in M.plain (B.value store.old)) modules.old) at }
+    requires kept { AreIn (B.value store.old) (λ _. 0) (all_of (keeps_of M.keeps) modules.old) }
+    requires room { HasRoom (B.value store.old) (slice_index_or (map (of_part (M.turn_cost here again))
+        (map (standing_in M.plain (B.value store.old)) modules.old)) at 0) }
     requires inside { 0 < here.at }
     requires small { here.at ≤ MODULES }
     ensures length { length modules.new ≡ length modules.old }
     ensures does { let s = B.value store.old in
-        Serves (all_in M.plain) (AreHeld M.IsHeld M.owns) (all_of M.owns) (all_of M.keeps)
-        (λ ps. slice_index_or (map (M.turn_cost here true) ps) at 0) (λ bytes ps. HoldsAt (M.MayStop here.way again bytes) ps at)
+        Serves (all_in (standing_in M.plain)) (AreHeld (Fits M.IsHeld) owns) (all_of owns) (all_of (keeps_of M.keeps))
+        (λ ps. slice_index_or (map (of_part (M.turn_cost here true)) ps) at 0) (λ bytes ps. HoldsAt (M.MayStop here.way again bytes) ps at)
         s (B.value store.new) modules.old modules.new result told.old told.new
-        (served_among (M.serves here again (stop_of result)) at (all_in M.plain s modules.old)) }
+        (served_among (M.serves here again (stop_of result)) at (all_in (standing_in M.plain) s modules.old)) }
 {
     store.audit();
     modules[at].serve(store, here, again, told)
@@ -83,11 +87,11 @@ impl<M: Module + Default> Stack<M> {
     pub fn asks<B: Blocks>(&self, store: &B, place: usize, way: Way) -> Asks
         requires inside { 0 < place }
         requires within { place ≤ length self.now.modules.items }
-        requires held { AreHeld M.IsHeld M.owns (B.value store.now) self.now.modules.items }
+        requires held { AreHeld (Fits M.IsHeld) owns (B.value store.now) self.now.modules.items }
         ensures asks { result ≡ at_place (M.asks way) Empty place
-            (map (M.plain (B.value store.now)) self.now.modules.items) }
-        ensures few { at_place (λ p. first_size (messages_at M.queue_of way p)) 0 place
-            (map (M.plain (B.value store.now)) self.now.modules.items) ≤ 16777216 }
+            (map (standing_in M.plain (B.value store.now)) self.now.modules.items) }
+        ensures few { at_place (λ p. first_size (messages_at way p)) 0 place
+            (map (standing_in M.plain (B.value store.now)) self.now.modules.items) ≤ 16777216 }
     {
         asks_among(store, self.modules.as_slice(), place - 1, way)
     }
@@ -105,18 +109,18 @@ impl<M: Module + Default> Stack<M> {
     ) -> Served
         requires inside { 0 < here.at }
         requires within { here.at ≤ length self.old.modules.items }
-        requires held { AreHeld M.IsHeld M.owns (B.value store.old) self.old.modules.items }
-        requires turn { HoldsAt (M.MayServe here.way again)
-            (map (M.plain (B.value store.old)) self.old.modules.items) (here.at - 1) }
-        requires kept { AreIn (B.value store.old) (λ _. 0) (all_of M.keeps self.old.modules.items) }
-        requires room { HasRoom (B.value store.old) (at_place (M.turn_cost here again) 0 here.at
-            (map (M.plain (B.value store.old)) self.old.modules.items)) }
+        requires held { AreHeld (Fits M.IsHeld) owns (B.value store.old) self.old.modules.items }
+        requires turn { HoldsAt (HoldsOfPart (M.MayServe here.way again))
+            (map (standing_in M.plain (B.value store.old)) self.old.modules.items) (here.at - 1) }
+        requires kept { AreIn (B.value store.old) (λ _. 0) (all_of (keeps_of M.keeps) self.old.modules.items) }
+        requires room { HasRoom (B.value store.old) (at_place (of_part (M.turn_cost here again)) 0 here.at
+            (map (standing_in M.plain (B.value store.old)) self.old.modules.items)) }
         ensures length { length self.new.modules.items ≡ length self.old.modules.items }
         ensures does { let s = B.value store.old in let xs = self.old.modules.items in
-            Serves (all_in M.plain) (AreHeld M.IsHeld M.owns) (all_of M.owns) (all_of M.keeps)
-            (at_place (M.turn_cost here true) 0 here.at) (λ bytes ps. HoldsAt (M.MayStop here.way again bytes) ps (here.at - 1))
+            Serves (all_in (standing_in M.plain)) (AreHeld (Fits M.IsHeld) owns) (all_of owns) (all_of (keeps_of M.keeps))
+            (at_place (of_part (M.turn_cost here true)) 0 here.at) (λ bytes ps. HoldsAt (M.MayStop here.way again bytes) ps (here.at - 1))
             s (B.value store.new) xs self.new.modules.items result told.old told.new
-            (served_among (M.serves here again (stop_of result)) (here.at - 1) (all_in M.plain s xs)) }
+            (served_among (M.serves here again (stop_of result)) (here.at - 1) (all_in (standing_in M.plain) s xs)) }
     {
         serve_among(
             store,
@@ -133,12 +137,13 @@ impl<M: Module + Default> Stack<M> {
     pub fn end_turn<B: Blocks>(&mut self, store: &B, place: usize, way: Way, took: bool) -> TurnEnd
         requires inside { 0 < place }
         requires within { place ≤ length self.old.modules.items }
-        requires held { AreHeld M.IsHeld M.owns (B.value store.now) self.old.modules.items }
+        requires held { AreHeld (Fits M.IsHeld) owns (B.value store.now) self.old.modules.items }
         ensures length { length self.new.modules.items ≡ length self.old.modules.items }
-        ensures does { let s = B.value store.now in let xs = self.old.modules.items in let ps = all_in M.plain s xs in
-            EndsTurn (all_in M.plain) (AreHeld M.IsHeld M.owns) (all_of M.owns) (all_of M.keeps) s xs self.new.modules.items result
-            (at_place (end_relieves M.queue_of took way) false place ps) (at_place (has_more M.queue_of way) false place ps)
-            (change_among (queue_changed M.queue_of M.with_queue way (turn_ended took)) (place - 1) ps) }
+        ensures does { let s = B.value store.now in let xs = self.old.modules.items in let ps = all_in (standing_in M.plain) s xs in
+            EndsTurn (all_in (standing_in M.plain)) (AreHeld (Fits M.IsHeld) owns) (all_of owns) (all_of (keeps_of M.keeps)) s xs
+            self.new.modules.items result
+            (at_place (end_relieves took way) false place ps) (at_place (has_more way) false place ps)
+            (change_among (queue_changed way (turn_ended took)) (place - 1) ps) }
     {
         end_turn_among(store, self.modules.as_mut_slice(), place - 1, way, took)
     }

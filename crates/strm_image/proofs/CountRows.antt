@@ -9,10 +9,11 @@ use Rattle.strm_types.specs.declared.names.Way.{Way}
 use Rattle.strm_types.specs.declared.names.Way.TheVariants.{Up, Down}
 use Rattle.strm_types.specs.Message.{Message, cells_of, weight_of}
 use Rattle.strm_types.specs.Queue.{weight, is_none_left}
+use Rattle.strm_types.specs.Standings.{messages_at}
 use Rattle.strm_laws.specs.Ledgers.{queued}
-use Rattle.strm_laws.specs.Stacked.{Module}
+use Rattle.strm_laws.specs.Stacked.{Standing}
 use Rattle.strm_laws.specs.State.{State}
-use Rattle.strm_image.specs.Counts.{balances, cells_at, counted_in, down_cells, module_messages, up_cells}
+use Rattle.strm_image.specs.Counts.{balances, cells_at, counted_in, down_cells, up_cells}
 use Rattle.strm_image.specs.Image.{Account, Imaged, are_balanced, laid_on}
 use Rattle.strm_image.specs.Loads.{counted_of}
 
@@ -28,12 +29,12 @@ unfolding weight_of counted_of
 weight_counted [] = refl
 weight_counted (m ∷ ms) = rw (sum_by-cons (weight_of (λ c. true)) m ms, sum_by-cons counted_of m ms, count_all (cells_of m), weight_counted ms) refl
 
-counted_flat : (way : Way) (ps : List (Module ℕ)) → counted_in (flat_map (module_messages way) ps) ≡ sum_by (cells_at way) ps
+counted_flat : (way : Way) (ps : List (Standing ℕ)) → counted_in (flat_map (messages_at way) ps) ≡ sum_by (cells_at way) ps
 counted_flat way [] = refl
-counted_flat way (p ∷ ps) = rw (flat_map-cons (module_messages way) p ps, sum_by-append counted_of (module_messages way p) (flat_map (module_messages way) ps), counted_flat way ps) (sym (sum_by-cons (cells_at way) p ps))
+counted_flat way (p ∷ ps) = rw (flat_map-cons (messages_at way) p ps, sum_by-append counted_of (messages_at way p) (flat_map (messages_at way) ps), counted_flat way ps) (sym (sum_by-cons (cells_at way) p ps))
 
-weight_at : (way : Way) (ps : List (Module ℕ)) → weight (λ c. true) (flat_map (module_messages way) ps) ≡ sum_by (cells_at way) ps
-weight_at way ps = weight_counted (flat_map (module_messages way) ps) ∙ counted_flat way ps
+weight_at : (way : Way) (ps : List (Standing ℕ)) → weight (λ c. true) (flat_map (messages_at way) ps) ≡ sum_by (cells_at way) ps
+weight_at way ps = weight_counted (flat_map (messages_at way) ps) ∙ counted_flat way ps
 
 four_parts : (a b c d e f g h : ℕ) → a ≡ e → b ≡ f → c ≡ g → d ≡ h → (((0 + a) + b) + c) + d ≡ (e + f) + (g + h)
 four_parts a b c d e f g h p q r s = omega (arith, p, q, r, s)

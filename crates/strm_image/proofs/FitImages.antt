@@ -1,12 +1,13 @@
 -- A state that has what an image asks has one.
 use Rattle.std.proofs.Common.{◌≡◌, ℕ, ◌<◌, ◌≤◌, true, not, List, [], ◌∷◌, length, map, refl, sym, ap, ◌∙◌, arith}
-use Rattle.std.specs.Prelude.{◌^◌}
+use Rattle.std.specs.Prelude.{◌^◌, ◌||◌}
 use Rattle.std.specs.List.{AllByRecursion, list_all, list_any}
 use Rattle.std.proofs.lemmas.Bool.{and_from, eq-eqb, lt-ltb}
 use Rattle.strm_types.specs.declared.books.Book.{Book}
 use Rattle.strm_types.specs.declared.limits.TheConstants.{BANDS}
 use Rattle.strm_types.specs.declared.names.Dir.{Dir}
 use Rattle.strm_types.specs.declared.names.Dir.TheVariants.{MasterToSlave, SlaveToMaster}
+use Rattle.strm_types.specs.declared.names.ModuleName.{ModuleName}
 use Rattle.strm_types.specs.declared.names.ModuleName.TheVariants as modules
 use Rattle.strm_types.specs.declared.names.Openness.{Openness}
 use Rattle.strm_types.specs.declared.names.Openness.TheVariants.{Never, Open, Closed}
@@ -20,11 +21,11 @@ use Rattle.strm_types.specs.declared.names.Way.TheVariants.{Up, Down}
 use Rattle.strm_types.specs.declared.rules.TheConstants.{RULES}
 use Rattle.strm_types.specs.Both.{get}
 use Rattle.strm_types.specs.Modules.{stands}
-use Rattle.strm_types.specs.Names.{IsOnce, has_service, has_service_at, same_place, same_queue, same_side, same_way, times}
+use Rattle.strm_types.specs.Names.{IsOnce, has_service, has_service_at, same_module, same_place, same_queue, same_side, same_way, times}
 use Rattle.strm_types.specs.Queue.{IsOrdered, Queue}
 use Rattle.strm_laws.specs.Restorable.{IsThere, is_ldterm, is_there_among}
 use Rattle.strm_laws.specs.StackCosts.{stands_of}
-use Rattle.strm_laws.specs.Stacked.{Module, OfLdterm, OfPtem, OfPckt, module_name}
+use Rattle.strm_laws.specs.Stacked.{Standing, module_name}
 use Rattle.strm_laws.specs.State.{State, queues_of, stream, stream_queues}
 use Rattle.strm_types.proofs.EnabledNames.{once-room}
 use Rattle.strm_laws.proofs.RestorableSteps.{opening-restorable}
@@ -87,18 +88,22 @@ few_names (n ∷ ns) once =
     omega (arith, room)
 
 -- a queue that is there has service
-served : (p : Place) (w : Way) (ps : List (Module ℕ)) → is_there_among p w (map module_name ps) ≡ true → has_service_at p ≡ true
+served : (p : Place) (w : Way) (ps : List (Standing ℕ)) → is_there_among p w (map module_name ps) ≡ true → has_service_at p ≡ true
 served places.Head w ps there = absurd cc
 served places.Ldterm w ps there = refl
 served places.Driver w ps there = refl
 
-pub ldterm_stands : (ps : List (Module ℕ)) → list_any is_ldterm (map module_name ps) ≡ stands module_name modules.Ldterm ps
-ldterm_stands [] = refl
-ldterm_stands (OfLdterm l ∷ ps) = refl
-ldterm_stands (OfPtem p ∷ ps) = ldterm_stands ps
-ldterm_stands (OfPckt p ∷ ps) = ldterm_stands ps
+is_same : (name : ModuleName) → is_ldterm name ≡ same_module name modules.Ldterm
+is_same modules.Ldterm = refl
+is_same modules.Ptem = refl
+is_same modules.Pckt = refl
 
-stands_there : (p : Place) (w : Way) (ps : List (Module ℕ)) → is_there_among p w (map module_name ps) ≡ true → has_queue_at p w ps ≡ true
+pub ldterm_stands : (ps : List (Standing ℕ)) → list_any is_ldterm (map module_name ps) ≡ stands module_name modules.Ldterm ps
+ldterm_stands [] = refl
+ldterm_stands (p ∷ ps) =
+    ap (λ b. b || list_any is_ldterm (map module_name ps)) (is_same (module_name p)) ∙ ap (λ b. same_module (module_name p) modules.Ldterm || b) (ldterm_stands ps)
+
+stands_there : (p : Place) (w : Way) (ps : List (Standing ℕ)) → is_there_among p w (map module_name ps) ≡ true → has_queue_at p w ps ≡ true
 stands_there places.Head w ps there = absurd cc
 stands_there places.Ldterm w ps there = sym (ldterm_stands ps) ∙ there
 stands_there places.Driver Up ps there = absurd cc

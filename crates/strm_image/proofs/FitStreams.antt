@@ -1,8 +1,8 @@
 -- The modules and the streams of a restorable state fit their formats.
-use Rattle.std.proofs.Common.{◌≡◌, ℕ, ◌<◌, ◌≤◌, Bool, true, false, not, ◌&&◌, ◌||◌, eqb, List, [], ◌∷◌, ◌++◌, length, map, refl, ap, arith}
-use Rattle.std.specs.Prelude.{◌^◌, nat_lt}
+use Rattle.std.proofs.Common.{◌≡◌, ℕ, ◌<◌, ◌≤◌, Bool, true, false, not, ◌&&◌, ◌||◌, eqb, List, [], ◌∷◌, ◌++◌, length, map, refl, sym, ap, arith}
+use Rattle.std.specs.Prelude.{◌^◌, nat_lt, Option, None, Some}
 use Rattle.std.specs.List.{AllByRecursion}
-use Rattle.std.proofs.lemmas.Bool.{and_from, eq-eqb, le-leb, lt-ltb, ltb-false}
+use Rattle.std.proofs.lemmas.Bool.{and_from, eq-eqb, false≢true, le-leb, lt-ltb, ltb-false}
 use Rattle.strm_types.specs.declared.limits.TheConstants.{IOCTL_MAX, MODULES, SIGNAL_LAST}
 use Rattle.strm_types.specs.declared.modes.ControlMode.{ControlMode}
 use Rattle.strm_types.specs.declared.modes.ControlMode.TheVariants as controls
@@ -15,24 +15,26 @@ use Rattle.strm_types.specs.declared.output.TheConstants.{COLUMN_MAX}
 use Rattle.strm_types.specs.declared.slots.Slot.TheVariants.{Free, Waiting, Answered}
 use Rattle.strm_types.specs.declared.termios.Termios.{Termios}
 use Rattle.strm_types.specs.declared.winsize.Winsize.{Winsize}
-use Rattle.strm_types.specs.Ldterms.{Ldterm, IsIdle, waits_there}
+use Rattle.strm_types.specs.Ldterms.{Discipline, IsIdle, by_itself, discipline, waits_there}
 use Rattle.strm_types.specs.Names.{is_master, is_open, same_module}
 use Rattle.strm_types.specs.Queue.{is_none_left}
+use Rattle.strm_types.specs.Standings.{QueuePair, stood}
 use Rattle.strm_types.specs.Signals.{AreSignals, is_signal}
 use Rattle.strm_types.specs.Slots.{PlainSlot, answer_bytes, is_free}
 use Rattle.strm_laws.specs.LdtermTurns.{ldterm_rests}
-use Rattle.strm_laws.specs.Restorable.{GoodLdterm, GoodModule, GoodModules, GoodStream, IsShut, IsWhole, goes_out, is_part_kind, stands_below}
+use Rattle.strm_laws.specs.Restorable.{GoodModule, GoodModules, GoodStream, IsShut, IsWhole, goes_out, is_part_kind, stands_below}
 use Rattle.strm_laws.specs.StackCosts.{EachOnce, times_there}
-use Rattle.strm_laws.specs.Stacked.{IsAtRest, Module, OfLdterm, OfPtem, OfPckt, module_name, module_queues, queues_of_modules}
+use Rattle.strm_laws.specs.Stacked.{IsAtRest, KindRests, Module, OfLdterm, OfPtem, OfPckt, Standing, module_name, module_queues, queues_of_modules}
 use Rattle.strm_laws.specs.State.{Stream, stream_queues}
 use Rattle.strm_laws.specs.Within.{IsWithin}
 use Rattle.strm_types.proofs.SignalRoom.{signals-fit, times, times-cons}
+use Rattle.strm_laws.proofs.GoodLdterms.{GoodDiscipline, good-with}
 use Rattle.strm_laws.proofs.StackOnce.{top-times}
 use Rattle.strm_image.specs.declared.versions.QueueKind.TheVariants as queues
 use Rattle.strm_image.specs.declared.versions.Version.TheVariants.{Second}
 use Rattle.strm_image.specs.Codes.{control_mode, module_kind, read_mode}
 use Rattle.strm_image.specs.Format.{byte, only, u32}
-use Rattle.strm_image.specs.HasImage.{HasHalves, HasModuleNumbers, HasNumbers, HasSlotNumbers, HasWords, IsLaid}
+use Rattle.strm_image.specs.HasImage.{HasHalves, HasKindNumbers, HasModuleNumbers, HasNumbers, HasSlotNumbers, HasWords, IsLaid}
 use Rattle.strm_image.specs.Image.{is_quiet, laid_on}
 use Rattle.strm_image.specs.Modules.{are_few, ldterm, module_below, module_format, modules, next_names, ptem, termios, winsize}
 use Rattle.strm_image.specs.Streams.{Bits, HeadBits, bits, bits_code, group_if, head_bits, is_answer, laid, signals, signals_behind, slot, slot_kind}
@@ -51,23 +53,30 @@ winsize_fits : (w : Winsize) → HasHalves w → winsize.fits w ≡ true
 unfolding winsize
 winsize_fits w halves = and_from _ _ (u16_fits w.rows halves.rows) (and_from _ _ (u16_fits w.columns halves.columns) (and_from _ _ (u16_fits w.x_pixels halves.x_pixels) (u16_fits w.y_pixels halves.y_pixels)))
 
-rests : (l : Ldterm ℕ) → IsIdle l → ldterm_rests l ≡ true
+rests : (l : Discipline ℕ) → IsIdle l → ldterm_rests (by_itself l) ≡ true
 rests l idle = rw (idle.0, idle.1, idle.2, idle.3) refl
 
-ldterm_fits : (l : Ldterm ℕ) → GoodLdterm l → IsIdle l → HasWords l.termios → IsLaid l.read_queue → IsLaid l.write_queue → (ldterm Second).fits l ≡ true
+ldterm_fits : (l : Discipline ℕ) → GoodDiscipline l → IsIdle l → HasWords l.termios → IsLaid l.read_queue → IsLaid l.write_queue → (ldterm Second).fits l ≡ true
 unfolding ldterm
 ldterm_fits l good idle words reads writes =
     and_from _ _ (rests l idle) (and_from _ _ (termios_fits l.termios good.termios words) (and_from _ _ (flag_fits l.stopped) (and_from _ _ (flag_fits l.after_lnext)
     (and_from _ _ (and_from _ _ (u32_fits l.column (omega (arith, good.column))) (le-leb l.column COLUMN_MAX good.column)) (and_from _ _ (bytes_fit byte l.line (lt-ltb (length l.line) 256 (omega (arith, good.line))))
     (and_from _ _ (queue_fits queues.LdtermRead waits_there (λ k. refl) l.read_queue good.read_queue reads) (queue_fits queues.LdtermWrite goes_out (λ k. refl) l.write_queue good.write_queue writes)))))))
 
-module_fits : (p : Module ℕ) → GoodModule p → IsAtRest p → HasModuleNumbers p → AllByRecursion IsLaid (module_queues p) → (module_format Second).fits p ≡ true
+kind_fits : (part : Module ℕ) (queues : Option (QueuePair ℕ)) → GoodModule (stood part queues) → KindRests part → HasKindNumbers part → AllByRecursion IsLaid (module_queues (stood part queues))
+    → (module_format Second).fits (stood part queues) ≡ true
 unfolding module_format module_kind ptem
-module_fits (OfLdterm l) good idle words queues = ldterm_fits l good idle words queues.0 queues.1.0
-module_fits (OfPtem p) good idle words queues = and_from _ _ (termios_fits p.termios good words.0) (winsize_fits p.window words.1)
-module_fits (OfPckt p) good idle words queues = refl
+kind_fits (OfLdterm l) None good idle words laid = absurd (false≢true good.has)
+kind_fits (OfLdterm l) (Some pair) good idle words laid = ldterm_fits (discipline l pair) (good-with l (Some pair) good.kind good.queues) idle words laid.0 laid.1.0
+kind_fits (OfPtem p) None good idle words laid = and_from _ _ (termios_fits p.termios good.kind words.0) (winsize_fits p.window words.1)
+kind_fits (OfPtem p) (Some pair) good idle words laid = absurd (false≢true (sym good.has))
+kind_fits (OfPckt p) None good idle words laid = refl
+kind_fits (OfPckt p) (Some pair) good idle words laid = absurd (false≢true (sym good.has))
 
-each_fits : (ps : List (Module ℕ)) → AllByRecursion GoodModule ps → AllByRecursion (λ p. IsAtRest p) ps → AllByRecursion HasModuleNumbers ps → AllByRecursion (λ p. AllByRecursion IsLaid (module_queues p)) ps
+module_fits : (p : Standing ℕ) → GoodModule p → IsAtRest p → HasModuleNumbers p → AllByRecursion IsLaid (module_queues p) → (module_format Second).fits p ≡ true
+module_fits p good idle words laid = kind_fits p.part p.queues good idle words laid
+
+each_fits : (ps : List (Standing ℕ)) → AllByRecursion GoodModule ps → AllByRecursion (λ p. IsAtRest p) ps → AllByRecursion HasModuleNumbers ps → AllByRecursion (λ p. AllByRecursion IsLaid (module_queues p)) ps
     → AllByRecursion (λ p. (module_format Second).fits p ≡ true) ps
 each_fits [] good idle words queues = tt
 each_fits (p ∷ ps) good idle words queues = (module_fits p good.0 idle.0 words.0 queues.0, each_fits ps good.1 idle.1 words.1 queues.1)
@@ -90,15 +99,15 @@ unfolding names_count
 names_once ns each name = each.once name (length ns)
 
 -- modules that fit, none of which has a name above
-record Below (above : List ModuleName) (ps : List (Module ℕ)) : Type 0 where
+record Below (above : List ModuleName) (ps : List (Standing ℕ)) : Type 0 where
   new : AreNew same_module above (map module_name ps)
   each : AllByRecursion (λ p. (module_format Second).fits p ≡ true) ps
 
-below_fits : (above : List ModuleName) (p : Module ℕ) (ps : List (Module ℕ)) → Below above (p ∷ ps) → ((module_below Second above).fits p ≡ true) × Below (next_names p above) ps
+below_fits : (above : List ModuleName) (p : Standing ℕ) (ps : List (Standing ℕ)) → Below above (p ∷ ps) → ((module_below Second above).fits p ≡ true) × Below (next_names p above) ps
 unfolding module_below AreNew
 below_fits above p ps b = (and_from _ _ b.each.0 (ap not b.new.0), record { new = b.new.1; each = b.each.1 })
 
-modules_fit : (ps : List (Module ℕ)) → GoodModules ps → AllByRecursion (λ p. (module_format Second).fits p ≡ true) ps → (modules Second).fits ps ≡ true
+modules_fit : (ps : List (Standing ℕ)) → GoodModules ps → AllByRecursion (λ p. (module_format Second).fits p ≡ true) ps → (modules Second).fits ps ≡ true
 unfolding modules
 modules_fit ps good each =
     let new = all_new same_module same_name names_count is_names_count (map module_name ps) (names_once (map module_name ps) good.once) in

@@ -24,7 +24,7 @@ use Rattle.strm_laws.specs.Bases.{IsBase}
 use Rattle.strm_laws.specs.Ledgers.{Balanced, FewBooked}
 use Rattle.strm_laws.specs.Restorable.{GoodStream, IsThere, is_there_among}
 use Rattle.strm_laws.specs.StackCosts.{stands_of}
-use Rattle.strm_laws.specs.Stacked.{IsAtRest, Module, module_name}
+use Rattle.strm_laws.specs.Stacked.{IsAtRest, Standing, module_name}
 use Rattle.strm_laws.specs.State.{State, book, queues_of, stream, stream_queues}
 use Rattle.strm_laws.specs.Within.{IsWithin}
 use Rattle.strm_image.specs.declared.versions.Version.{Version}
@@ -71,7 +71,7 @@ enabled_told ns fits =
     record { once = new_once same_queue same_queue-sound times is_times ns named.new; served = named.served }
 
 -- a queue with service, of a stream, is one that may be enabled
-there_among : (p : Place) (w : Way) (ps : List (Module ℕ)) → has_service_at p ≡ true → has_queue_at p w ps ≡ true → is_there_among p w (map module_name ps) ≡ true
+there_among : (p : Place) (w : Way) (ps : List (Standing ℕ)) → has_service_at p ≡ true → has_queue_at p w ps ≡ true → is_there_among p w (map module_name ps) ≡ true
 there_among places.Head w ps served there = absurd cc
 there_among places.Ldterm w ps served there = ldterm_stands ps ∙ there
 there_among places.Driver Up ps served there = absurd cc

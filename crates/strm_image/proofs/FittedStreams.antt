@@ -11,16 +11,17 @@ use Rattle.strm_types.specs.declared.output.TheConstants.{COLUMN_MAX}
 use Rattle.strm_types.specs.declared.slots.Slot.TheVariants.{Free, Waiting, Answered}
 use Rattle.strm_types.specs.declared.termios.Termios.{Termios}
 use Rattle.strm_types.specs.declared.winsize.Winsize.{Winsize}
-use Rattle.strm_types.specs.Ldterms.{Ldterm, Between, IsIdle, Stage, is_between, waits_there}
+use Rattle.strm_types.specs.Ldterms.{Discipline, Between, IsIdle, Stage, by_itself, discipline, is_between, waits_there}
 use Rattle.strm_types.specs.Message.{Message}
 use Rattle.strm_types.specs.Names.{is_master, is_open, same_module}
 use Rattle.strm_types.specs.Queue.{is_none_left}
 use Rattle.strm_types.specs.Signals.{AreSignals, has_signal, is_signal}
 use Rattle.strm_types.specs.Slots.{PlainSlot, answer_bytes, is_free}
 use Rattle.strm_laws.specs.LdtermTurns.{ldterm_rests}
+use Rattle.strm_types.specs.Standings.{QueuePair, stood}
 use Rattle.strm_laws.specs.Restorable.{GoodModule, GoodStream, IsShut, IsWhole, IsWork, goes_out, is_part_kind, stands_below}
 use Rattle.strm_laws.specs.StackCosts.{EachOnce, times_there}
-use Rattle.strm_laws.specs.Stacked.{IsAtRest, Module, OfLdterm, OfPtem, OfPckt, module_name, module_queues, queues_of_modules}
+use Rattle.strm_laws.specs.Stacked.{IsAtRest, Module, OfLdterm, OfPtem, OfPckt, Standing, ldterm_stands, module_name, module_queues, queues_of_modules}
 use Rattle.strm_laws.specs.State.{Stream, stream_queues}
 use Rattle.strm_laws.specs.Within.{IsWithin}
 use Rattle.strm_types.proofs.SignalRoom.{times, times-cons}
@@ -68,7 +69,7 @@ free_is Free e = refl
 free_is _ e = absurd cc
 
 -- what is told of a module: it is good and at rest, and its words and its queues have their widths
-record IsTold (p : Module ℕ) : Type 0 where
+record IsTold (p : Standing ℕ) : Type 0 where
   good : GoodModule p
   rests : IsAtRest p
   words : HasModuleNumbers p
@@ -86,17 +87,17 @@ between : (s : Stage ℕ) → is_between s ≡ true → s ≡ Between
 between Between e = refl
 between _ e = absurd cc
 
-idle_told : (l : Ldterm ℕ) → ldterm_rests l ≡ true → IsIdle l
+idle_told : (l : Discipline ℕ) → ldterm_rests (by_itself l) ≡ true → IsIdle l
 idle_told l rests =
     let a = and_parts (not (is_some l.in_work)) _ rests in
     let b = and_parts (is_none_left l.gathered) _ a.1 in
     let c = and_parts (not l.echoing) (is_between l.stage) b.1 in
     (none_there l.in_work a.0, nothing_left l.gathered b.0, not-true l.echoing c.0, between l.stage c.1)
 
-ldterm_told : (l : Ldterm ℕ) → (ldterm Second).fits l ≡ true → IsTold (OfLdterm l)
+ldterm_told : (l : Discipline ℕ) → (ldterm Second).fits l ≡ true → IsTold (ldterm_stands l)
 unfolding ldterm
 ldterm_told l fits =
-    let rests = and_parts (ldterm_rests l) _ fits in
+    let rests = and_parts (ldterm_rests (by_itself l)) _ fits in
     let set = and_parts (termios.fits l.termios) _ rests.1 in
     let stopped = and_parts (flag.fits l.stopped) _ set.1 in
     let after = and_parts (flag.fits l.after_lnext) _ stopped.1 in
@@ -110,26 +111,34 @@ ldterm_told l fits =
     let short : length l.line < 256 = ltb-true (length l.line) 256 (bytes_count byte l.line line.0) in
     record {
       good = record {
-        termios = terminal.0;
-        column = leb-true l.column COLUMN_MAX (and_parts (u32.fits l.column) _ column.0).1;
-        line = omega (arith, short);
-        read_queue = reads.0;
-        write_queue = writes.0;
-        work = no_work l.in_work idle.0;
+        kind = record {
+          termios = terminal.0;
+          column = leb-true l.column COLUMN_MAX (and_parts (u32.fits l.column) _ column.0).1;
+          line = omega (arith, short);
+          work = no_work l.in_work idle.0;
+        };
+        queues = (reads.0, writes.0);
+        has = refl;
       };
       rests = idle;
       words = terminal.1;
       laid = (reads.1, (writes.1, tt));
     }
 
-module_told : (p : Module ℕ) → (module_format Second).fits p ≡ true → IsTold p
+kind_told : (part : Module ℕ) (queues : Option (QueuePair ℕ)) → (module_format Second).fits (stood part queues) ≡ true → IsTold (stood part queues)
 unfolding module_format module_kind ptem
-module_told (OfLdterm l) fits = ldterm_told l fits
-module_told (OfPtem p) fits =
+kind_told (OfLdterm l) (Some pair) fits = ldterm_told (discipline l pair) fits
+kind_told (OfLdterm l) None fits = absurd cc
+kind_told (OfPtem p) None fits =
     let a = and_parts (termios.fits p.termios) (winsize.fits p.window) fits in
     let set = termios_told p.termios a.0 in
-    record { good = set.0; rests = tt; words = (set.1, winsize_told p.window a.1); laid = tt }
-module_told (OfPckt p) fits = record { good = tt; rests = tt; words = tt; laid = tt }
+    record { good = record { kind = set.0; queues = tt; has = refl }; rests = tt; words = (set.1, winsize_told p.window a.1); laid = tt }
+kind_told (OfPtem p) (Some pair) fits = absurd cc
+kind_told (OfPckt p) None fits = record { good = record { kind = tt; queues = tt; has = refl }; rests = tt; words = tt; laid = tt }
+kind_told (OfPckt p) (Some pair) fits = absurd cc
+
+module_told : (p : Standing ℕ) → (module_format Second).fits p ≡ true → IsTold p
+module_told p fits = kind_told p.part p.queues fits
 
 same_name_is : (a b : ModuleName) → same_module a b ≡ true → a ≡ b
 same_name_is names.Ldterm names.Ldterm e = refl
@@ -148,7 +157,7 @@ each_once : (ns : List ModuleName) → AreNew same_module [] ns → EachOnce ns
 each_once ns new = record { once = λ name at. omega (arith, among_all name ns at, new_once same_module same_name_is names_count is_names_count ns new name) }
 
 -- modules of which each is told, and none has a name above
-record AreTold (above : List ModuleName) (ps : List (Module ℕ)) : Type 0 where
+record AreTold (above : List ModuleName) (ps : List (Standing ℕ)) : Type 0 where
   new : AreNew same_module above (map module_name ps)
   each : AllByRecursion IsTold ps
 
@@ -156,19 +165,19 @@ none_told : (above : List ModuleName) → AreTold above []
 unfolding AreNew
 none_told above = record { new = tt; each = tt }
 
-one_told : (above : List ModuleName) (p : Module ℕ) (ps : List (Module ℕ)) → (module_below Second above).fits p ≡ true → AreTold (next_names p above) ps → AreTold above (p ∷ ps)
+one_told : (above : List ModuleName) (p : Standing ℕ) (ps : List (Standing ℕ)) → (module_below Second above).fits p ≡ true → AreTold (next_names p above) ps → AreTold above (p ∷ ps)
 unfolding module_below AreNew
 one_told above p ps fits rest =
     let a = and_parts ((module_format Second).fits p) (not (has_name (module_name p) above)) fits in
     record { new = (not-true (has_name (module_name p) above) a.1, rest.new); each = (module_told p a.0, rest.each) }
 
 -- what is told of the modules of a stream
-record ModulesTold (ps : List (Module ℕ)) : Type 0 where
+record ModulesTold (ps : List (Standing ℕ)) : Type 0 where
   few : length ps ≤ MODULES
   once : EachOnce (map module_name ps)
   each : AllByRecursion IsTold ps
 
-modules_told : (ps : List (Module ℕ)) → (modules Second).fits ps ≡ true → ModulesTold ps
+modules_told : (ps : List (Standing ℕ)) → (modules Second).fits ps ≡ true → ModulesTold ps
 unfolding modules
 modules_told ps fits =
     let a = counted_parts next_names (module_below Second) (only are_few byte) [] ps fits in

@@ -7,8 +7,10 @@ use Rattle.strm_types.specs.declared.limits.TheConstants.{BANDS, HIGH_PRIORITY_R
 use Rattle.strm_types.specs.declared.names.ModuleName.{ModuleName}
 use Rattle.strm_types.specs.declared.names.ModuleName.TheVariants as names
 use Rattle.strm_types.specs.Queue.{Flow}
+use Rattle.strm_types.specs.Ldterms.{by_itself}
 use Rattle.strm_laws.specs.LdtermTurns.{ldterm_rests}
-use Rattle.strm_laws.specs.Stacked.{OfLdterm, module_name}
+use Rattle.strm_laws.specs.Stacked.{ldterm_stands, module_name}
+use Rattle.strm_laws.specs.TurnCalls.{discipline_of}
 use Rattle.strm_image.specs.declared.versions.QueueKind.{QueueKind}
 use Rattle.strm_image.specs.declared.versions.QueueKind.TheVariants as queues
 use Rattle.strm_image.specs.declared.versions.Version.TheVariants.{First, Second}
@@ -17,7 +19,7 @@ use Rattle.strm_image.specs.Codes.{control_mode, flag, kind, module_kind, openne
 use Rattle.strm_image.specs.Format.{Format, always, byte, bytes_of, chain, counted, fit_from, keep, made, only, tagged, times, u32, ◌then◌}
 use Rattle.strm_image.specs.Image.{Imaged, account, are_balanced, are_quiet, are_there, body, enabled, image, imaged_of, imaged_parts, is_mark, is_number, mark, version_of, versioned}
 use Rattle.strm_image.specs.Messages.{Parts, any, is_message, may_follow, message, message_behind, message_of, message_parts, messages, next_rank, part, parts_fit}
-use Rattle.strm_image.specs.Modules.{are_few, has_name, is_column, is_named, ldterm, ldterm_of, ldterm_parts, module_below, module_body, module_format, modules, next_names, termios, the_ldterm}
+use Rattle.strm_image.specs.Modules.{are_few, has_name, is_column, is_named, ldterm, ldterm_of, ldterm_parts, module_below, module_body, module_format, modules, next_names, termios}
 use Rattle.strm_image.specs.Queues.{behind_last, entries, few_flows, first_flow, first_ones, flags, flow, flow_parts, flows, is_listed, is_widened, list_out, listed, listed_behind, marks_fit, next_band, no_flow, queue, queue_of, queue_parts, same_flow, widened}
 use Rattle.strm_image.specs.Streams.{head_bits, laid, laid_of, laid_parts, signals, slot}
 use Rattle.strm_image.proofs.BandRows.{widened_is}
@@ -178,11 +180,11 @@ queue_later at = made_later any queue_of queue_parts _ _ (then_later _ _ _ _ (sa
 
 ldterm_later : Later (ldterm First) (ldterm Second)
 unfolding ldterm
-ldterm_later = made_later ldterm_rests ldterm_of ldterm_parts _ _
+ldterm_later = made_later (λ l. ldterm_rests (by_itself l)) ldterm_of ldterm_parts _ _
     (then_later _ _ _ _ (same termios) (then_later _ _ _ _ (same flag) (then_later _ _ _ _ (same flag) (then_later _ _ _ _ (same (only is_column u32)) (then_later _ _ _ _ (same (counted byte bytes_of)) (then_later _ _ _ _ (queue_later queues.LdtermRead) (queue_later queues.LdtermWrite)))))))
 
 body_later : (name : ModuleName) → Later (module_body First name) (module_body Second name)
-body_later names.Ldterm = made_later (is_named names.Ldterm) OfLdterm the_ldterm (ldterm First) (ldterm Second) ldterm_later
+body_later names.Ldterm = made_later (is_named names.Ldterm) ldterm_stands discipline_of (ldterm First) (ldterm Second) ldterm_later
 body_later names.Ptem = same (module_body First names.Ptem)
 body_later names.Pckt = same (module_body First names.Pckt)
 

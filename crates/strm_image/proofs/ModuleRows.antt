@@ -4,18 +4,20 @@ use Rattle.std.specs.Prelude.{is_some}
 use Rattle.std.proofs.lemmas.Bool.{and_parts}
 use Rattle.strm_types.specs.declared.names.ModuleName.{ModuleName}
 use Rattle.strm_types.specs.declared.names.ModuleName.TheVariants as names
-use Rattle.strm_types.specs.Ldterms.{Ldterm, Stage, Between, Begun, Answered, is_between}
+use Rattle.strm_types.specs.Ldterms.{Discipline, Stage, Between, Begun, Answered, by_itself, is_between}
 use Rattle.strm_types.specs.Message.{Message}
 use Rattle.strm_types.specs.Names.{same_module}
 use Rattle.strm_types.specs.Queue.{is_none_left}
+use Rattle.strm_types.specs.Standings.{QueuePair, stood}
 use Rattle.strm_laws.specs.LdtermTurns.{ldterm_rests}
-use Rattle.strm_laws.specs.Stacked.{Module, OfLdterm, OfPtem, OfPckt, module_name}
+use Rattle.strm_laws.specs.Stacked.{Module, OfLdterm, OfPtem, OfPckt, Standing, ldterm_stands, module_name}
+use Rattle.strm_laws.specs.TurnCalls.{discipline_of}
 use Rattle.strm_image.specs.declared.versions.QueueKind.TheVariants as queues
 use Rattle.strm_image.specs.declared.versions.Version.{Version}
 use Rattle.strm_image.specs.Codes.{module_kind}
 use Rattle.strm_image.specs.Format.{IsExact, nothing}
 use Rattle.strm_image.specs.Messages.{any}
-use Rattle.strm_image.specs.Modules.{termios, termios_of, termios_parts, winsize, winsize_of, winsize_parts, is_column, ldterm, ldterm_of, ldterm_parts, ptem, ptem_of, ptem_parts, is_named, the_ldterm, the_ptem, pckt_of, pckt_parts, module_body, module_format, module_below, next_names, are_few, modules}
+use Rattle.strm_image.specs.Modules.{termios, termios_of, termios_parts, winsize, winsize_of, winsize_parts, is_column, ldterm, ldterm_of, ldterm_parts, ptem, ptem_of, ptem_parts, alone, is_named, the_ptem, pckt_of, pckt_parts, module_body, module_format, module_below, next_names, are_few, modules}
 use Rattle.strm_image.proofs.CodeRows.{flag_exact, module_kind_exact}
 use Rattle.strm_image.proofs.Formats.{byte_exact, nothing_exact, u16_exact, u32_exact, bytes_exact, bytes_long, only_exact, chain_exact, chain_long, counted_exact, tagged_exact, then_exact, made_exact, IsMade}
 use Rattle.strm_image.proofs.QueueRows.{queue_exact}
@@ -29,7 +31,7 @@ unfolding winsize
 winsize_exact = made_exact any winsize_of winsize_parts _ (then_exact _ _ u16_exact (then_exact _ _ u16_exact (then_exact _ _ u16_exact u16_exact))) (record { back = λ x fits. (refl, refl); whole = λ y shape. refl })
 
 -- ldterm between two turns is what its text tells
-ldterm_whole : (l : Ldterm ℕ) → ldterm_rests l ≡ true → ldterm_of (ldterm_parts l) ≡ l
+ldterm_whole : (l : Discipline ℕ) → ldterm_rests (by_itself l) ≡ true → ldterm_of (ldterm_parts l) ≡ l
 ldterm_whole l rests =
     let p = and_parts _ _ rests in
     let q = and_parts _ _ p.1 in
@@ -48,7 +50,7 @@ ldterm_whole l rests =
 
 pub ldterm_exact : (v : Version) → IsExact (ldterm v)
 unfolding ldterm
-ldterm_exact v = made_exact ldterm_rests ldterm_of ldterm_parts _
+ldterm_exact v = made_exact (λ l. ldterm_rests (by_itself l)) ldterm_of ldterm_parts _
     (then_exact _ _ termios_exact (then_exact _ _ flag_exact (then_exact _ _ flag_exact (then_exact _ _ (only_exact _ u32_exact is_column) (then_exact _ _ (counted_exact _ _ byte_exact bytes_exact bytes_long) (then_exact _ _ (queue_exact v queues.LdtermRead) (queue_exact v queues.LdtermWrite)))))))
     (record { back = λ x fits. (refl, refl); whole = ldterm_whole })
 
@@ -56,14 +58,33 @@ pub ptem_exact : IsExact ptem
 unfolding ptem
 ptem_exact = made_exact any ptem_of ptem_parts _ (then_exact _ _ termios_exact winsize_exact) (record { back = λ x fits. (refl, refl); whole = λ y shape. refl })
 
-ldterm_made : (v : Version) → IsMade (is_named names.Ldterm) OfLdterm the_ldterm (ldterm v)
-ldterm_made v = record { back = λ x fits. (refl, refl); whole = λ m shape. elim m as (λ m. is_named names.Ldterm m ≡ true → OfLdterm (the_ldterm m) ≡ m) [ OfLdterm l ↦ λ e. refl | OfPtem p ↦ λ e. absurd cc | OfPckt p ↦ λ e. absurd cc ] shape }
+-- a module of a name, with its queues where it has any, is what its parts make
+ldterm_back : (part : Module ℕ) (queues : Option (QueuePair ℕ)) → is_named names.Ldterm (stood part queues) ≡ true → ldterm_stands (discipline_of (stood part queues)) ≡ stood part queues
+ldterm_back (OfLdterm l) (Some pair) e = refl
+ldterm_back (OfLdterm l) None e = absurd cc
+ldterm_back (OfPtem p) queues e = absurd cc
+ldterm_back (OfPckt p) queues e = absurd cc
 
-ptem_made : IsMade (is_named names.Ptem) OfPtem the_ptem ptem
-ptem_made = record { back = λ x fits. (refl, refl); whole = λ m shape. elim m as (λ m. is_named names.Ptem m ≡ true → OfPtem (the_ptem m) ≡ m) [ OfLdterm l ↦ λ e. absurd cc | OfPtem p ↦ λ e. refl | OfPckt p ↦ λ e. absurd cc ] shape }
+ptem_back : (part : Module ℕ) (queues : Option (QueuePair ℕ)) → is_named names.Ptem (stood part queues) ≡ true → alone (OfPtem (the_ptem (stood part queues))) ≡ stood part queues
+ptem_back (OfPtem p) None e = refl
+ptem_back (OfPtem p) (Some pair) e = absurd cc
+ptem_back (OfLdterm l) queues e = absurd cc
+ptem_back (OfPckt p) queues e = absurd cc
+
+pckt_back : (part : Module ℕ) (queues : Option (QueuePair ℕ)) → is_named names.Pckt (stood part queues) ≡ true → pckt_of (pckt_parts (stood part queues)) ≡ stood part queues
+pckt_back (OfPckt p) None e = refl
+pckt_back (OfPckt p) (Some pair) e = absurd cc
+pckt_back (OfLdterm l) queues e = absurd cc
+pckt_back (OfPtem p) queues e = absurd cc
+
+ldterm_made : (v : Version) → IsMade (is_named names.Ldterm) ldterm_stands discipline_of (ldterm v)
+ldterm_made v = record { back = λ x fits. (refl, refl); whole = λ m shape. ldterm_back m.part m.queues shape }
+
+ptem_made : IsMade (is_named names.Ptem) (λ p. alone (OfPtem p)) the_ptem ptem
+ptem_made = record { back = λ x fits. (refl, refl); whole = λ m shape. ptem_back m.part m.queues shape }
 
 pckt_made : IsMade (is_named names.Pckt) pckt_of pckt_parts (nothing tt)
-pckt_made = record { back = λ x fits. (refl, refl); whole = λ m shape. elim m as (λ m. is_named names.Pckt m ≡ true → pckt_of (pckt_parts m) ≡ m) [ OfLdterm l ↦ λ e. absurd cc | OfPtem p ↦ λ e. absurd cc | OfPckt p ↦ λ e. refl ] shape }
+pckt_made = record { back = λ x fits. (refl, refl); whole = λ m shape. pckt_back m.part m.queues shape }
 
 body_exact : (v : Version) (name : ModuleName) → IsExact (module_body v name)
 body_exact v names.Ldterm = made_exact _ _ _ _ (ldterm_exact v) (ldterm_made v)
@@ -81,10 +102,10 @@ same_name names.Pckt names.Ldterm e = absurd cc
 same_name names.Pckt names.Ptem e = absurd cc
 same_name names.Pckt names.Pckt e = refl
 
-body_named : (v : Version) (name : ModuleName) (m : Module ℕ) → (module_body v name).fits m ≡ true → module_name m ≡ name
-body_named v names.Ldterm m fits = same_name (module_name m) names.Ldterm (and_parts _ _ fits).0
-body_named v names.Ptem m fits = same_name (module_name m) names.Ptem (and_parts _ _ fits).0
-body_named v names.Pckt m fits = same_name (module_name m) names.Pckt (and_parts _ _ fits).0
+body_named : (v : Version) (name : ModuleName) (m : Standing ℕ) → (module_body v name).fits m ≡ true → module_name m ≡ name
+body_named v names.Ldterm m fits = same_name (module_name m) names.Ldterm (and_parts _ _ (and_parts _ _ fits).0).0
+body_named v names.Ptem m fits = same_name (module_name m) names.Ptem (and_parts _ _ (and_parts _ _ fits).0).0
+body_named v names.Pckt m fits = same_name (module_name m) names.Pckt (and_parts _ _ (and_parts _ _ fits).0).0
 
 pub module_exact : (v : Version) → IsExact (module_format v)
 unfolding module_format

@@ -1,5 +1,6 @@
 -- How long the texts of version 2 are at most.
 use Rattle.std.proofs.Common.{◌≡◌, ℕ, ◌≤◌, ◌+◌, ◌*◌, Bool, true, false, not, cond, List, [], ◌∷◌, ◌++◌, length, map, Option, None, Some, refl, sym, arith}
+use Rattle.std.proofs.lemmas.Bool.{false≢true}
 use Rattle.std.specs.Prelude.{nat_lt}
 use Rattle.std.specs.List.{AllByRecursion, sum_by}
 use Rattle.std.proofs.Math.Nat.{suc-mul, zero-mul}
@@ -19,15 +20,17 @@ use Rattle.strm_types.specs.declared.slots.Slot.TheVariants.{Free, Waiting, Answ
 use Rattle.strm_types.specs.declared.termios.Termios.{Termios}
 use Rattle.strm_types.specs.declared.winsize.Winsize.{Winsize}
 use Rattle.strm_types.specs.Flush.{is_data_kind}
-use Rattle.strm_types.specs.Ldterms.{Ldterm}
+use Rattle.strm_types.specs.Ldterms.{Discipline, discipline}
+use Rattle.strm_types.specs.Standings.{QueuePair, stood}
 use Rattle.strm_types.specs.Message.{Message, cells_of, part, size_of}
 use Rattle.strm_types.specs.Names.{IsOnce, is_master}
 use Rattle.strm_types.specs.Queue.{Flow, Queue, bytes_of}
 use Rattle.strm_types.specs.Signals.{AreSignals}
 use Rattle.strm_types.specs.Slots.{PlainSlot, answer_bytes}
-use Rattle.strm_laws.specs.Restorable.{GoodLdterm, GoodModule, GoodModules, GoodStream, IsWhole}
+use Rattle.strm_laws.specs.Restorable.{GoodModule, GoodModules, GoodStream, IsWhole}
 use Rattle.strm_laws.specs.StackCosts.{EachOnce}
-use Rattle.strm_laws.specs.Stacked.{Module, OfLdterm, OfPtem, OfPckt, module_name, module_queues, queues_of_modules}
+use Rattle.strm_laws.specs.Stacked.{Module, OfLdterm, OfPtem, OfPckt, Standing, module_name, module_queues, queues_of_modules}
+use Rattle.strm_laws.proofs.GoodLdterms.{GoodDiscipline, good-with}
 use Rattle.strm_laws.specs.State.{Stream, messages_in, queues_of, stream, stream_queues}
 use Rattle.strm_laws.specs.Within.{IsWithin}
 use Rattle.strm_types.proofs.SignalRoom.{signals-fit}
@@ -153,7 +156,7 @@ flag_length : (b : Bool) → AtMost 1 (flag.text b)
 unfolding flag
 flag_length b = short 1 _ (omega arith)
 
-ldterm_length : (l : Ldterm ℕ) → GoodLdterm l → HasBands l.read_queue → HasBands l.write_queue → AtMost (297 + 2 * QUEUE_FIXED + (load l.read_queue + load l.write_queue)) ((ldterm Second).text l)
+ldterm_length : (l : Discipline ℕ) → GoodDiscipline l → HasBands l.read_queue → HasBands l.write_queue → AtMost (297 + 2 * QUEUE_FIXED + (load l.read_queue + load l.write_queue)) ((ldterm Second).text l)
 unfolding ldterm
 ldterm_length l good reads writes =
     let line = behind (short 1 (byte.text (length l.line)) (omega arith)) (short LINE_MAX l.line good.line) in
@@ -166,17 +169,23 @@ size names.Ldterm = 298 + 2 * QUEUE_FIXED
 size names.Ptem = 44
 size names.Pckt = 1
 
-weigh : Module ℕ → ℕ
+weigh : Standing ℕ → ℕ
 weigh p = size (module_name p) + sum_by load (module_queues p)
 
-module_length : (p : Module ℕ) → GoodModule p → AllByRecursion HasBands (module_queues p) → AtMost (weigh p) ((module_format Second).text p)
+kind_length : (part : Module ℕ) (queues : Option (QueuePair ℕ)) → GoodModule (stood part queues) → AllByRecursion HasBands (module_queues (stood part queues))
+    → AtMost (weigh (stood part queues)) ((module_format Second).text (stood part queues))
 unfolding module_format module_kind ptem size weigh
-module_length (OfLdterm l) good banded =
-    within (behind (short 1 (module_kind.text names.Ldterm) (omega arith)) (ldterm_length l good banded.0 banded.1.0)) (omega (arith, sum_by-cons load l.read_queue (l.write_queue ∷ []), sum_by-cons load l.write_queue []))
-module_length (OfPtem p) good banded = within (behind (short 1 (module_kind.text names.Ptem) (omega arith)) (behind (termios_length p.termios good) (winsize_length p.window))) (omega arith)
-module_length (OfPckt p) good banded = short _ _ (omega arith)
+kind_length (OfLdterm l) None good banded = absurd (false≢true good.has)
+kind_length (OfLdterm l) (Some pair) good banded =
+    within (behind (short 1 (module_kind.text names.Ldterm) (omega arith)) (ldterm_length (discipline l pair) (good-with l (Some pair) good.kind good.queues) banded.0 banded.1.0))
+    (omega (arith, sum_by-cons load pair.read (pair.write ∷ []), sum_by-cons load pair.write []))
+kind_length (OfPtem p) queues good banded = within (behind (short 1 (module_kind.text names.Ptem) (omega arith)) (behind (termios_length p.termios good.kind) (winsize_length p.window))) (omega arith)
+kind_length (OfPckt p) queues good banded = short _ _ (omega arith)
 
-each_length : (ps : List (Module ℕ)) → AllByRecursion GoodModule ps → AllByRecursion (λ p. AllByRecursion HasBands (module_queues p)) ps → AllByRecursion (IsWeighed next_names (module_below Second) weigh) ps
+module_length : (p : Standing ℕ) → GoodModule p → AllByRecursion HasBands (module_queues p) → AtMost (weigh p) ((module_format Second).text p)
+module_length p good banded = kind_length p.part p.queues good banded
+
+each_length : (ps : List (Standing ℕ)) → AllByRecursion GoodModule ps → AllByRecursion (λ p. AllByRecursion HasBands (module_queues p)) ps → AllByRecursion (IsWeighed next_names (module_below Second) weigh) ps
 unfolding module_below IsWeighed
 each_length [] good banded = tt
 each_length (p ∷ ps) good banded = (λ above. module_length p good.0 banded.0, each_length ps good.1 banded.1)
@@ -199,14 +208,14 @@ sizes_once : (on : List ModuleName) → EachOnce on → sizes on ≤ 343 + 2 * Q
 unfolding size sizes
 sizes_once on each = omega (arith, names_once on each names.Ldterm, names_once on each names.Ptem, names_once on each names.Pckt)
 
-modules_weigh : (ps : List (Module ℕ)) → sum_by weigh ps ≡ sizes (map module_name ps) + sum_by load (queues_of_modules ps)
+modules_weigh : (ps : List (Standing ℕ)) → sum_by weigh ps ≡ sizes (map module_name ps) + sum_by load (queues_of_modules ps)
 modules_weigh [] = omega (arith, no_sizes)
 modules_weigh (p ∷ ps) =
     let one : weigh p ≡ size (module_name p) + sum_by load (module_queues p) = unfold weigh in refl in
     let split : sum_by load (queues_of_modules (p ∷ ps)) ≡ sum_by load (module_queues p) + sum_by load (queues_of_modules ps) = rw (flat_map-cons module_queues p ps) (sum_by-append load (module_queues p) (queues_of_modules ps)) in
     omega (arith, sum_by-cons weigh p ps, one, split, one_more (module_name p) (map module_name ps), modules_weigh ps)
 
-modules_length : (ps : List (Module ℕ)) → GoodModules ps → AllByRecursion (λ p. AllByRecursion HasBands (module_queues p)) ps → AtMost (344 + 2 * QUEUE_FIXED + sum_by load (queues_of_modules ps)) ((modules Second).text ps)
+modules_length : (ps : List (Standing ℕ)) → GoodModules ps → AllByRecursion (λ p. AllByRecursion HasBands (module_queues p)) ps → AtMost (344 + 2 * QUEUE_FIXED + sum_by load (queues_of_modules ps)) ((modules Second).text ps)
 unfolding modules
 modules_length ps good banded =
     within (behind (short 1 (byte.text (length ps)) (omega arith)) (texts next_names (module_below Second) weigh ps (each_length ps good.each banded) [])) (omega (arith, sizes_once (map module_name ps) good.once, modules_weigh ps))

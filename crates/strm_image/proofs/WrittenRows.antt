@@ -8,19 +8,19 @@ use Rattle.strm_types.specs.declared.limits.TheConstants.{BANDS}
 use Rattle.strm_types.specs.declared.names.ModuleName.TheVariants as names
 use Rattle.strm_types.specs.declared.names.QueueName.{QueueName}
 use Rattle.strm_types.specs.declared.options.Marks.{Marks}
-use Rattle.strm_types.specs.Ldterms.{Ldterm}
+use Rattle.strm_types.specs.Ldterms.{Discipline}
 use Rattle.strm_types.specs.Message.{Message}
 use Rattle.strm_types.specs.Pckts.{Pckt}
 use Rattle.strm_types.specs.Ptems.{Ptem}
 use Rattle.strm_types.specs.Queue.{Flow, Queue}
-use Rattle.strm_laws.specs.Stacked.{Module, OfLdterm, OfPtem, OfPckt}
+use Rattle.strm_laws.specs.Stacked.{OfPtem, OfPckt, Standing, ldterm_stands}
 use Rattle.strm_image.specs.declared.versions.QueueKind.{QueueKind}
 use Rattle.strm_image.specs.declared.versions.Version.TheVariants.{Second}
 use Rattle.strm_image.specs.Codes.{module_kind, version}
 use Rattle.strm_image.specs.Format.{always, byte, keep, u32, u64, ◌then◌}
 use Rattle.strm_image.specs.Image.{Imaged, body, enabled, enabled_behind, image, next_enabled, queue_name, rule_counts}
 use Rattle.strm_image.specs.Messages.{message, message_behind, messages, next_rank}
-use Rattle.strm_image.specs.Modules.{ldterm, module_below, module_format, modules, next_names, ptem}
+use Rattle.strm_image.specs.Modules.{alone, ldterm, module_below, module_format, modules, next_names, ptem}
 use Rattle.strm_image.specs.Queues.{flow, listed, no_flow, queue, same_flow, IsNoneFrom, RestAbove}
 use Rattle.strm_image.specs.Sinks.{Given, put}
 use Rattle.strm_image.specs.Streams.{Laid, laid}
@@ -90,7 +90,7 @@ pub messages_told : (at : QueueKind) (ms : List (Message ℕ)) → (messages Sec
 unfolding messages message_behind
 messages_told at ms = ap (λ t. u32.text (length ms) ++ t) (text_flat next_rank (message_behind Second at) (message Second).text (λ s x. refl) _ ms)
 
-pub modules_told : (ms : List (Module ℕ)) → (modules Second).text ms ≡ byte.text (length ms) ++ flat_map (module_format Second).text ms
+pub modules_told : (ms : List (Standing ℕ)) → (modules Second).text ms ≡ byte.text (length ms) ++ flat_map (module_format Second).text ms
 unfolding modules module_below
 modules_told ms = ap (λ t. byte.text (length ms) ++ t) (text_flat next_names (module_below Second) (module_format Second).text (λ s x. refl) [] ms)
 
@@ -100,15 +100,15 @@ pub queue_told : (at : QueueKind) (q : Queue ℕ) → (queue Second at).text q �
 unfolding queue
 queue_told at q = refl
 
-pub ldterm_told : (l : Ldterm ℕ) → (module_format Second).text (OfLdterm l) ≡ ldterm_text l
+pub ldterm_told : (l : Discipline ℕ) → (module_format Second).text (ldterm_stands l) ≡ ldterm_text l
 unfolding module_format ldterm
 ldterm_told l = refl
 
-pub ptem_told : (p : Ptem) → (module_format Second).text (OfPtem p) ≡ module_kind.text names.Ptem ++ ptem.text p
+pub ptem_told : (p : Ptem) → (module_format Second).text (alone (OfPtem p)) ≡ module_kind.text names.Ptem ++ ptem.text p
 unfolding module_format
 ptem_told p = refl
 
-pub pckt_told : (p : Pckt) → (module_format Second).text (OfPckt p) ≡ module_kind.text names.Pckt
+pub pckt_told : (p : Pckt) → (module_format Second).text (alone (OfPckt p)) ≡ module_kind.text names.Pckt
 unfolding module_format
 pckt_told p = append-nil (module_kind.text names.Pckt)
 

@@ -1,15 +1,12 @@
 -- What the messages of a stream take and hold, and that this is what the ledger of a direction counts.
-use Rattle.std.specs.Prelude.{ℕ, ◌+◌, ◌==◌, Bool, List, [], length, if◌then◌else◌}
+use Rattle.std.specs.Prelude.{ℕ, ◌+◌, ◌==◌, Bool, List, length}
 use Rattle.std.specs.List.{sum, sum_by}
-use Rattle.strm_types.specs.declared.names.Place.TheVariants as places
 use Rattle.strm_types.specs.declared.names.Way.{Way}
 use Rattle.strm_types.specs.declared.names.Way.TheVariants.{Up, Down}
 use Rattle.strm_types.specs.Message.{Message}
-use Rattle.strm_types.specs.ModuleQueues.{messages_at}
-use Rattle.strm_types.specs.Names.{place_of}
+use Rattle.strm_types.specs.Standings.{messages_at}
 use Rattle.strm_types.specs.Queue.{Queue}
-use Rattle.strm_laws.specs.Pushes.{is_there}
-use Rattle.strm_laws.specs.Stacked.{Module, module_line, module_name, module_queue, module_queues}
+use Rattle.strm_laws.specs.Stacked.{Standing, module_line, module_queues}
 use Rattle.strm_image.specs.Image.{Account}
 use Rattle.strm_image.specs.Loads.{blocks_of, counted_of}
 use Rattle.strm_image.specs.Streams.{Laid}
@@ -18,12 +15,9 @@ use Rattle.strm_image.specs.Streams.{Laid}
 abbrev pub counted_in : List (Message ℕ) → ℕ
 counted_in ms = sum_by counted_of ms
 
--- the messages of a way at a module
-abbrev pub module_messages : Way → Module ℕ → List (Message ℕ)
-module_messages way p = if is_there places.Ldterm (place_of (module_name p)) then messages_at module_queue way p else []
-
-abbrev pub cells_at : Way → Module ℕ → ℕ
-cells_at way p = counted_in (module_messages way p)
+-- what those of a way hold at a module
+abbrev pub cells_at : Way → Standing ℕ → ℕ
+cells_at way p = counted_in (messages_at way p)
 
 -- those that stand on the queues of a stream on the way up, on the way down, and in its unfinished lines
 abbrev pub up_cells : Laid → ℕ
@@ -39,7 +33,7 @@ inline_cells t = sum_by (λ p. length (module_line p)) t.modules
 abbrev pub queue_blocks : Queue ℕ → ℕ
 queue_blocks q = sum_by blocks_of q.messages
 
-abbrev pub module_blocks : Module ℕ → ℕ
+abbrev pub module_blocks : Standing ℕ → ℕ
 module_blocks p = sum_by queue_blocks (module_queues p)
 
 abbrev pub laid_blocks : Laid → ℕ

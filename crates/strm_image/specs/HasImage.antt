@@ -20,7 +20,7 @@ use Rattle.strm_types.specs.Rules.{fates_of}
 use Rattle.strm_types.specs.Slots.{PlainSlot}
 use Rattle.strm_laws.specs.Ledgers.{inline, queued}
 use Rattle.strm_laws.specs.Restorable.{Restorable}
-use Rattle.strm_laws.specs.Stacked.{Module, OfLdterm, OfPtem, OfPckt}
+use Rattle.strm_laws.specs.Stacked.{Module, OfLdterm, OfPtem, OfPckt, Standing}
 use Rattle.strm_laws.specs.State.{AreOrdered, State, Stream, book, opening, queues_of}
 use Rattle.strm_image.specs.Image.{Imaged}
 
@@ -62,10 +62,13 @@ pub record HasHalves (w : Winsize) : Type 0 where
   pub x_pixels : w.x_pixels < 2 ^ 16
   pub y_pixels : w.y_pixels < 2 ^ 16
 
-abbrev pub HasModuleNumbers : Module ℕ → Type 0
-HasModuleNumbers (OfLdterm l) = HasWords l.termios
-HasModuleNumbers (OfPtem p) = HasWords p.termios × HasHalves p.window
-HasModuleNumbers (OfPckt p) = Unit {0}
+abbrev pub HasKindNumbers : Module ℕ → Type 0
+HasKindNumbers (OfLdterm l) = HasWords l.termios
+HasKindNumbers (OfPtem p) = HasWords p.termios × HasHalves p.window
+HasKindNumbers (OfPckt p) = Unit {0}
+
+abbrev pub HasModuleNumbers : Standing ℕ → Type 0
+HasModuleNumbers x = HasKindNumbers x.part
 
 -- the number, the command and the error of an ioctl have 32 bits (sys/stream.h: struct iocblk)
 abbrev pub HasSlotNumbers : PlainSlot → Type 0

@@ -20,7 +20,7 @@ use Rattle.strm_types.specs.Names.{has_service, is_enabled, is_open, same_way, s
 use Rattle.strm_types.specs.Queue.{is_none_left}
 use Rattle.strm_types.specs.Slots.{is_free}
 use Rattle.strm_laws.specs.Ledgers.{queued, inline}
-use Rattle.strm_laws.specs.Stacked.{Module, module_name}
+use Rattle.strm_laws.specs.Stacked.{Standing, module_name}
 use Rattle.strm_laws.specs.State.{State, Stream, book, stream}
 use Rattle.strm_image.specs.declared.versions.Version.{Version}
 use Rattle.strm_image.specs.declared.versions.Version.TheVariants.{First, Second}
@@ -138,7 +138,7 @@ abbrev pub are_quiet : Imaged → Bool
 are_quiet x = is_quiet x.state.ends.master && is_quiet x.state.ends.slave
 
 -- A head has a read queue alone and a driver a write queue alone. The queues of ldterm are there where it stands.
-abbrev pub has_queue_at : Place → Way → List (Module ℕ) → Bool
+abbrev pub has_queue_at : Place → Way → List (Standing ℕ) → Bool
 has_queue_at places.Head w ms = same_way w Up
 has_queue_at places.Ldterm w ms = stands module_name modules.Ldterm ms
 has_queue_at places.Driver w ms = same_way w Down

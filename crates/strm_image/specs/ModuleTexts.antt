@@ -1,29 +1,37 @@
 -- Modules in a text, seen as plain values.
 use Rattle.std.specs.Prelude.{ℕ, List, map}
 use Rattle.strm_types.specs.declared.names.ModuleName.{ModuleName}
-use Rattle.strm_types.specs.Ldterms.{Ldterm}
+use Rattle.strm_types.specs.Ldterms.{Discipline, Ldterm, by_itself, pair_of}
 use Rattle.strm_types.specs.Pckts.{new_pckt}
 use Rattle.strm_types.specs.Ptems.{Ptem}
-use Rattle.strm_laws.specs.Stacked.{Module, OfLdterm, OfPtem, OfPckt, module_name}
+use Rattle.strm_types.specs.Standings.{QueuePair}
+use Rattle.strm_laws.specs.Stacked.{OfPtem, OfPckt, Standing, ldterm_stands, module_name}
 use Rattle.strm_image.specs.declared.modules.LdtermText.{LdtermText}
 use Rattle.strm_image.specs.declared.modules.ModuleText.{ModuleText}
 use Rattle.strm_image.specs.declared.modules.ModuleText.TheVariants as texts
 use Rattle.strm_image.specs.declared.modules.PtemText.{PtemText}
-use Rattle.strm_image.specs.Modules.{ldterm_of, ptem_of}
+use Rattle.strm_image.specs.Modules.{alone, ldterm_of, ptem_of}
 use Rattle.strm_image.specs.QueueTexts.{queue_now}
 
-abbrev pub ldterm_now : LdtermText → Ldterm ℕ
+abbrev pub ldterm_now : LdtermText → Discipline ℕ
 ldterm_now l = ldterm_of (l.termios, (l.stopped, (l.after_lnext, (l.column, (l.line.now, (queue_now l.read_queue, queue_now l.write_queue))))))
+
+-- the module by itself, and its queues
+abbrev pub own_now : LdtermText → Ldterm ℕ
+own_now l = by_itself (ldterm_now l)
+
+abbrev pub pair_now : LdtermText → QueuePair ℕ
+pair_now l = pair_of (ldterm_now l)
 
 abbrev pub ptem_now : PtemText → Ptem
 ptem_now p = ptem_of (p.termios, p.window)
 
-abbrev pub module_now : ModuleText → Module ℕ
-module_now (texts.Ldterm l) = OfLdterm (ldterm_now l)
-module_now (texts.Ptem p) = OfPtem (ptem_now p)
-module_now texts.Pckt = OfPckt new_pckt
+abbrev pub module_now : ModuleText → Standing ℕ
+module_now (texts.Ldterm l) = ldterm_stands (ldterm_now l)
+module_now (texts.Ptem p) = alone (OfPtem (ptem_now p))
+module_now texts.Pckt = alone (OfPckt new_pckt)
 
-abbrev pub modules_now : List ModuleText → List (Module ℕ)
+abbrev pub modules_now : List ModuleText → List (Standing ℕ)
 modules_now ms = map module_now ms
 
 abbrev pub names_now : List ModuleText → List ModuleName

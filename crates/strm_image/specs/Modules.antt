@@ -1,5 +1,5 @@
 -- The text of the modules of a stream.
-use Rattle.std.specs.Prelude.{ℕ, Bool, false, not, nat_le, List, [], ◌∷◌, ◌++◌, None}
+use Rattle.std.specs.Prelude.{ℕ, Bool, true, false, ◌&&◌, not, nat_le, List, [], ◌∷◌, ◌++◌, None, is_some}
 use Rattle.std.specs.List.{list_any}
 use Rattle.strm_types.specs.declared.limits.TheConstants.{MODULES}
 use Rattle.strm_types.specs.declared.names.ModuleName.{ModuleName}
@@ -7,13 +7,15 @@ use Rattle.strm_types.specs.declared.names.ModuleName.TheVariants as names
 use Rattle.strm_types.specs.declared.output.TheConstants.{COLUMN_MAX}
 use Rattle.strm_types.specs.declared.termios.Termios.{Termios}
 use Rattle.strm_types.specs.declared.winsize.Winsize.{Winsize}
-use Rattle.strm_types.specs.Ldterms.{Ldterm, Between, new_ldterm}
-use Rattle.strm_types.specs.Names.{same_module}
+use Rattle.strm_types.specs.Ldterms.{Between, Discipline, by_itself}
+use Rattle.strm_types.specs.Names.{place_of, same_module}
+use Rattle.strm_types.specs.Standings.{has_queues}
 use Rattle.strm_types.specs.Pckts.{new_pckt}
 use Rattle.strm_types.specs.Ptems.{Ptem, new_ptem}
 use Rattle.strm_types.specs.Queue.{Queue}
 use Rattle.strm_laws.specs.LdtermTurns.{ldterm_rests}
-use Rattle.strm_laws.specs.Stacked.{Module, OfLdterm, OfPtem, OfPckt, module_name}
+use Rattle.strm_laws.specs.Stacked.{Module, OfPtem, OfPckt, Standing, ldterm_stands, module_name}
+use Rattle.strm_laws.specs.TurnCalls.{discipline_of}
 use Rattle.strm_image.specs.declared.versions.QueueKind.TheVariants as queues
 use Rattle.strm_image.specs.declared.versions.Version.{Version}
 use Rattle.strm_image.specs.Codes.{flag, module_kind}
@@ -53,7 +55,7 @@ abbrev pub LdtermParts : Type 0
 LdtermParts = Termios × (Bool × (Bool × (ℕ × (List ℕ × (Queue ℕ × Queue ℕ)))))
 
 -- between two turns, so that nothing of one is under way
-abbrev pub ldterm_of : LdtermParts → Ldterm ℕ
+abbrev pub ldterm_of : LdtermParts → Discipline ℕ
 ldterm_of (set, (stopped, (after, (column, (line, (reads, writes)))))) = record {
   termios = set;
   stopped = stopped;
@@ -68,11 +70,12 @@ ldterm_of (set, (stopped, (after, (column, (line, (reads, writes)))))) = record 
   stage = Between;
 }
 
-abbrev pub ldterm_parts : Ldterm ℕ → LdtermParts
+abbrev pub ldterm_parts : Discipline ℕ → LdtermParts
 ldterm_parts l = (l.termios, (l.stopped, (l.after_lnext, (l.column, (l.line, (l.read_queue, l.write_queue))))))
 
-unfoldable pub ldterm : Version → Format (Ldterm ℕ)
-ldterm v = made ldterm_rests ldterm_of ldterm_parts
+-- the module, and its queues behind it
+unfoldable pub ldterm : Version → Format (Discipline ℕ)
+ldterm v = made (λ l. ldterm_rests (by_itself l)) ldterm_of ldterm_parts
     (termios then (flag then (flag then (only is_column u32 then (counted byte bytes_of then (queue v queues.LdtermRead then queue v queues.LdtermWrite))))))
 
 abbrev pub ptem_of : Termios × Winsize → Ptem
@@ -86,29 +89,37 @@ ptem = made any ptem_of ptem_parts (termios then winsize)
 
 -- ---- a module, behind its name
 
-abbrev pub is_named : ModuleName → Module ℕ → Bool
-is_named name m = same_module (module_name m) name
+-- one of a name, which has queues where those of its name have
+abbrev pub same_bool : Bool → Bool → Bool
+same_bool true b = b
+same_bool false b = not b
 
-abbrev pub the_ldterm : Module ℕ → Ldterm ℕ
-the_ldterm (OfLdterm l) = l
-the_ldterm _ = new_ldterm
+abbrev pub is_named : ModuleName → Standing ℕ → Bool
+is_named name m = same_module (module_name m) name && same_bool (is_some (place_of name)) (has_queues m)
 
-abbrev pub the_ptem : Module ℕ → Ptem
-the_ptem (OfPtem p) = p
-the_ptem _ = new_ptem
+-- a module that has none
+abbrev pub alone : Module ℕ → Standing ℕ
+alone p = record { part = p; queues = None }
 
-abbrev pub pckt_of : Unit {0} → Module ℕ
-pckt_of x = OfPckt new_pckt
+abbrev pub the_ptem : Standing ℕ → Ptem
+the_ptem m = by m.part
+  where
+    by : Module ℕ → Ptem
+    by (OfPtem p) = p
+    by _ = new_ptem
 
-abbrev pub pckt_parts : Module ℕ → Unit {0}
+abbrev pub pckt_of : Unit {0} → Standing ℕ
+pckt_of x = alone (OfPckt new_pckt)
+
+abbrev pub pckt_parts : Standing ℕ → Unit {0}
 pckt_parts m = tt
 
-abbrev pub module_body : Version → ModuleName → Format (Module ℕ)
-module_body v names.Ldterm = made (is_named names.Ldterm) OfLdterm the_ldterm (ldterm v)
-module_body v names.Ptem = made (is_named names.Ptem) OfPtem the_ptem ptem
+abbrev pub module_body : Version → ModuleName → Format (Standing ℕ)
+module_body v names.Ldterm = made (is_named names.Ldterm) ldterm_stands discipline_of (ldterm v)
+module_body v names.Ptem = made (is_named names.Ptem) (λ p. alone (OfPtem p)) the_ptem ptem
 module_body v names.Pckt = made (is_named names.Pckt) pckt_of pckt_parts (nothing tt)
 
-unfoldable pub module_format : Version → Format (Module ℕ)
+unfoldable pub module_format : Version → Format (Standing ℕ)
 module_format v = tagged module_name module_kind (module_body v)
 
 -- ---- the modules of a stream, from the top
@@ -117,15 +128,15 @@ abbrev pub has_name : ModuleName → List ModuleName → Bool
 has_name name names = list_any (λ n. same_module n name) names
 
 -- a module below others of these names, none of which is its own
-unfoldable pub module_below : Version → List ModuleName → Format (Module ℕ)
+unfoldable pub module_below : Version → List ModuleName → Format (Standing ℕ)
 module_below v above = only (λ m. not (has_name (module_name m) above)) (module_format v)
 
-abbrev pub next_names : Module ℕ → List ModuleName → List ModuleName
+abbrev pub next_names : Standing ℕ → List ModuleName → List ModuleName
 next_names m above = above ++ module_name m ∷ []
 
 abbrev pub are_few : ℕ → Bool
 are_few n = nat_le n MODULES
 
 -- three at most, and each once
-unfoldable pub modules : Version → Format (List (Module ℕ))
+unfoldable pub modules : Version → Format (List (Standing ℕ))
 modules v = counted (only are_few byte) (chain next_names (module_below v) [])

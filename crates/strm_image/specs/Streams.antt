@@ -8,7 +8,7 @@ use Rattle.strm_types.specs.Heads.{Head}
 use Rattle.strm_types.specs.Queue.{Queue}
 use Rattle.strm_types.specs.Signals.{is_signal, has_signal}
 use Rattle.strm_types.specs.Slots.{PlainSlot}
-use Rattle.strm_laws.specs.Stacked.{Module}
+use Rattle.strm_laws.specs.Stacked.{Standing}
 use Rattle.strm_image.specs.declared.versions.QueueKind.TheVariants as queues
 use Rattle.strm_image.specs.declared.versions.SlotKind.{SlotKind}
 use Rattle.strm_image.specs.declared.versions.SlotKind.TheVariants as slots
@@ -154,11 +154,11 @@ head_bits is_slave = tagged bits_of (only (may_have_group is_slave) bits) behind
 -- a stream, whether open or not
 pub record Laid : Type 0 where
   pub head : Head ℕ
-  pub modules : List (Module ℕ)
+  pub modules : List (Standing ℕ)
   pub driver : Queue ℕ
 
 abbrev pub LaidParts : Type 0
-LaidParts = ReadMode × (ControlMode × (HeadBits × (List ℕ × (PlainSlot × (List (Module ℕ) × (Queue ℕ × Queue ℕ))))))
+LaidParts = ReadMode × (ControlMode × (HeadBits × (List ℕ × (PlainSlot × (List (Standing ℕ) × (Queue ℕ × Queue ℕ))))))
 
 abbrev pub laid_of : LaidParts → Laid
 laid_of (reads, (controls, (flagged, (ns, (under_way, (ms, (heads, drivers))))))) = record {

@@ -4,7 +4,7 @@ use Rattle.strm_types.specs.declared.names.Openness.{Openness}
 use Rattle.strm_types.specs.declared.slots.Slot.TheVariants.{Free, Waiting, Answered}
 use Rattle.strm_types.specs.declared.names.ModuleName.TheVariants as names
 use Rattle.strm_types.specs.Heads.{Head}
-use Rattle.strm_types.specs.Ldterms.{Ldterm}
+use Rattle.strm_types.specs.Ldterms.{Discipline}
 use Rattle.strm_types.specs.Queue.{Queue}
 use Rattle.strm_types.specs.Slots.{PlainSlot}
 use Rattle.strm_image.specs.declared.versions.QueueKind.{QueueKind}
@@ -33,7 +33,7 @@ head_text is_slave h =
 abbrev pub queue_text : QueueKind → Queue ℕ → List ℕ
 queue_text at q = flags.text (q.want_read, q.no_enable) ++ ((flows Second at).text q.flows ++ (messages Second at).text q.messages)
 
-abbrev pub ldterm_text : Ldterm ℕ → List ℕ
+abbrev pub ldterm_text : Discipline ℕ → List ℕ
 ldterm_text l =
     module_kind.text names.Ldterm ++ (termios.text l.termios ++ (flag.text l.stopped ++ (flag.text l.after_lnext ++ (u32.text l.column ++ ((counted byte bytes_of).text l.line
     ++ ((queue Second queues.LdtermRead).text l.read_queue ++ (queue Second queues.LdtermWrite).text l.write_queue))))))

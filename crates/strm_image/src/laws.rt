@@ -3,12 +3,12 @@
 ghost use Rattle.std.specs.Prelude.{◌≡◌, ◌++◌, ℕ, Bool, List, length, true};
 ghost use Rattle.std.specs.List.{flat_map};
 ghost use Rattle.strm_types.specs.declared.names.ModuleName.TheVariants as names;
-ghost use Rattle.strm_types.specs.Ldterms.{Ldterm};
+ghost use Rattle.strm_types.specs.Ldterms.{Discipline};
 ghost use Rattle.strm_types.specs.Message.{Message};
 ghost use Rattle.strm_types.specs.Pckts.{Pckt};
 ghost use Rattle.strm_types.specs.Ptems.{Ptem};
 ghost use Rattle.strm_types.specs.Queue.{Queue};
-ghost use Rattle.strm_laws.specs.Stacked.{Module, OfLdterm, OfPtem, OfPckt};
+ghost use Rattle.strm_laws.specs.Stacked.{OfPtem, OfPckt, Standing, ldterm_stands};
 ghost use Rattle.strm_image.specs.declared.versions.QueueKind.{QueueKind};
 ghost use Rattle.strm_image.specs.declared.versions.Version.{Version};
 ghost use Rattle.strm_image.specs.declared.versions.Version.TheVariants.{First, Second};
@@ -16,7 +16,7 @@ ghost use Rattle.strm_image.specs.Codes.{module_kind};
 ghost use Rattle.strm_image.specs.Format.{byte, u32};
 ghost use Rattle.strm_image.specs.Image.{Imaged, image};
 ghost use Rattle.strm_image.specs.Messages.{message, messages};
-ghost use Rattle.strm_image.specs.Modules.{module_format, modules, ptem};
+ghost use Rattle.strm_image.specs.Modules.{alone, module_format, modules, ptem};
 ghost use Rattle.strm_image.specs.Queues.{queue};
 ghost use Rattle.strm_image.specs.Streams.{Laid, laid};
 ghost use Rattle.strm_image.specs.Written.{image_text, laid_text, ldterm_text, queue_text};
@@ -36,11 +36,11 @@ pub fn versions_agree()
 /// stream, and the whole.
 pub fn second_in_parts()
     ensures messages { (at : QueueKind) (ms : List (Message ℕ)) → (messages Second at).text ms ≡ u32.text (length ms) ++ flat_map (message Second).text ms }
-    ensures modules { (ms : List (Module ℕ)) → (modules Second).text ms ≡ byte.text (length ms) ++ flat_map (module_format Second).text ms }
+    ensures modules { (ms : List (Standing ℕ)) → (modules Second).text ms ≡ byte.text (length ms) ++ flat_map (module_format Second).text ms }
     ensures queue { (at : QueueKind) (q : Queue ℕ) → (queue Second at).text q ≡ queue_text at q }
-    ensures ldterm { (l : Ldterm ℕ) → (module_format Second).text (OfLdterm l) ≡ ldterm_text l }
-    ensures ptem { (p : Ptem) → (module_format Second).text (OfPtem p) ≡ module_kind.text names.Ptem ++ ptem.text p }
-    ensures pckt { (p : Pckt) → (module_format Second).text (OfPckt p) ≡ module_kind.text names.Pckt }
+    ensures ldterm { (l : Discipline ℕ) → (module_format Second).text (ldterm_stands l) ≡ ldterm_text l }
+    ensures ptem { (p : Ptem) → (module_format Second).text (alone (OfPtem p)) ≡ module_kind.text names.Ptem ++ ptem.text p }
+    ensures pckt { (p : Pckt) → (module_format Second).text (alone (OfPckt p)) ≡ module_kind.text names.Pckt }
     ensures stream { (is_slave : Bool) (t : Laid) → (laid Second is_slave).text t ≡ laid_text is_slave t }
     ensures whole { (x : Imaged) → image.text (Second, x) ≡ image_text x }
 {}

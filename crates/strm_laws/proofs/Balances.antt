@@ -42,7 +42,7 @@ use Rattle.strm_laws.specs.Pushes.{head_above, named_by}
 use Rattle.strm_laws.specs.Puts.{delivered, flushed_on}
 use Rattle.strm_laws.specs.Refusals.{blocks_asked, in_range, refused_at_once, refused_by_state, unfit}
 use Rattle.strm_types.specs.Refused.{or_else}
-use Rattle.strm_laws.specs.Stacked.{Module}
+use Rattle.strm_laws.specs.Stacked.{Standing}
 use Rattle.strm_laws.specs.State.{State, book, stream, with_book, with_stream}
 use Rattle.strm_laws.specs.Step.{after}
 use Rattle.strm_laws.specs.Turns.{turned}
@@ -61,7 +61,7 @@ use Rattle.strm_laws.proofs.TurnOrder.{all_made}
 
 -- a push, a pop, a close and what a head is told book nothing
 module _ {C : Type 0} where
-  abbrev AnyModules : List (Module C) → Type 0
+  abbrev AnyModules : List (Standing C) → Type 0
   AnyModules ps = Unit {0}
 
   books-survive : (s : State C) (side : Side) → Survives side (SameBooks s) AnyModules

@@ -1,5 +1,6 @@
 -- A pair as it is made is a base, and so is each state of a legal journal that begins at one.
 use Rattle.std.proofs.Common.{ℕ, ◌<◌, ◌^◌, List, [], ◌∷◌, ◌++◌, refl, arith}
+use Rattle.std.specs.Prelude.{Option, None, Some}
 use Rattle.std.specs.List.{AllByRecursion}
 use Rattle.strm_types.specs.declared.names.Dir.{Dir}
 use Rattle.strm_types.specs.declared.names.Dir.TheVariants.{MasterToSlave, SlaveToMaster}
@@ -10,11 +11,12 @@ use Rattle.strm_types.specs.Cells.{plain}
 use Rattle.strm_types.specs.Journal.{PlainEntry}
 use Rattle.strm_types.specs.Queue.{IsOrdered, Queue}
 use Rattle.strm_types.specs.Rules.{no_fates}
+use Rattle.strm_types.specs.Standings.{QueuePair, stood}
 use Rattle.strm_laws.specs.Bases.{IsBase}
 use Rattle.strm_laws.specs.Kept.{NothingUnread, told_by}
 use Rattle.strm_laws.specs.Ledgers.{Balanced, FewBooked}
-use Rattle.strm_laws.specs.Restorable.{AreWithinEntries, GoodModule, GoodStream, Restorable}
-use Rattle.strm_laws.specs.Stacked.{Module, OfLdterm, OfPtem, OfPckt, queues_of_modules}
+use Rattle.strm_laws.specs.Restorable.{AreWithinEntries, GoodModule, GoodPair, GoodStream, Restorable}
+use Rattle.strm_laws.specs.Stacked.{Standing, queues_of_modules}
 use Rattle.strm_laws.specs.State.{AreOrdered, State, Stream, book, opening, stream, stream_queues}
 use Rattle.strm_laws.specs.Step.{IsLegal, replay}
 use Rattle.strm_laws.proofs.LedgerSums.{agrees}
@@ -29,11 +31,13 @@ module _ {C : Type 0} where
   join-order (q ∷ qs) rs all more = (all.0, join-order qs rs all.1 more)
 
   -- each queue that an image may hold is in order
-  modules-order : (ps : List (Module C)) → AllByRecursion GoodModule ps → AllByRecursion InOrder (queues_of_modules ps)
+  modules-order : (ps : List (Standing C)) → AllByRecursion GoodModule ps → AllByRecursion InOrder (queues_of_modules ps)
   modules-order [] all = tt
-  modules-order (OfLdterm l ∷ ps) all = (all.0.read_queue.order, (all.0.write_queue.order, modules-order ps all.1))
-  modules-order (OfPtem p ∷ ps) all = modules-order ps all.1
-  modules-order (OfPckt p ∷ ps) all = modules-order ps all.1
+  modules-order (p ∷ ps) all = by p.queues all.0.queues (modules-order ps all.1)
+    where
+      by : (queues : Option (QueuePair C)) → GoodPair queues → AllByRecursion InOrder (queues_of_modules ps) → AllByRecursion InOrder (queues_of_modules (stood p.part queues ∷ ps))
+      by None good below = below
+      by (Some pair) good below = (good.0.order, (good.1.order, below))
 
   stream-order : (side : Side) (t : Stream C) → GoodStream side t → AllByRecursion InOrder (stream_queues t)
   stream-order side t good =

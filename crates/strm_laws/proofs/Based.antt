@@ -1,27 +1,23 @@
 -- What stands in a state with the origins of a base: how often a test is passed there by bytes that are numbered, and that the bytes are the base's.
 use Rattle.std.proofs.Common.{ℕ, suc, ◌≡◌, ◌+◌, Bool, true, false, List, [], ◌∷◌, ◌++◌, length, map, refl, ap, ◌∙◌, arith}
-use Rattle.std.specs.Prelude.{count_by, flat_map, sum_by, if◌then◌else◌, option_map, Option, None, Some}
+use Rattle.std.specs.Prelude.{count_by, flat_map, sum_by, option_map, Option, None, Some}
 use Rattle.std.specs.List.{AllByRecursion}
 use Rattle.std.proofs.lemmas.List.Sums.{sum_by-cons}
 use Rattle.strm_types.specs.declared.names.Dir.{Dir}
 use Rattle.strm_types.specs.declared.names.Dir.TheVariants.{MasterToSlave, SlaveToMaster}
-use Rattle.strm_types.specs.declared.names.Place.TheVariants as places
 use Rattle.strm_types.specs.declared.names.Side.{Side}
 use Rattle.strm_types.specs.declared.names.Side.TheVariants.{Master, Slave}
 use Rattle.strm_types.specs.declared.names.Way.{Way}
 use Rattle.strm_types.specs.declared.names.Way.TheVariants.{Up, Down}
 use Rattle.strm_types.specs.Cells.{Tagged, tagged}
-use Rattle.strm_types.specs.Ldterms.{Ldterm, IsIdle}
 use Rattle.strm_types.specs.Message.{Message, cells_of, map_message, part, weight_of}
-use Rattle.strm_types.specs.ModuleQueues.{messages_at}
-use Rattle.strm_types.specs.Names.{direction_at, is_open, place_of}
+use Rattle.strm_types.specs.Standings.{QueuePair, map_pair, messages_at, messages_on, stood}
+use Rattle.strm_types.specs.Names.{direction_at, is_open}
 use Rattle.strm_types.specs.Queue.{Queue, map_messages, map_queue, weight}
-use Rattle.strm_laws.specs.Based.{based, cells_in, held_by, held_in, number, number_ldterm, number_message, number_messages, number_module, number_modules, number_queue, number_stream}
+use Rattle.strm_laws.specs.Based.{based, cells_in, held_by, held_in, number, number_kind, number_message, number_messages, number_module, number_modules, number_pair, number_queue, number_stream}
 use Rattle.strm_laws.specs.Kept.{AreIdle, NothingUnread, state_weight, stream_weight}
-use Rattle.strm_laws.specs.LdtermOrigins.{map_ldterm}
 use Rattle.strm_laws.specs.Ledgers.{base_count, inline, queued}
-use Rattle.strm_laws.specs.Pushes.{is_there}
-use Rattle.strm_laws.specs.Stacked.{Module, OfLdterm, OfPtem, OfPckt, IsAtRest, map_module, module_line, module_name, module_queue, module_weight, modules_weight}
+use Rattle.strm_laws.specs.Stacked.{Module, OfLdterm, OfPtem, OfPckt, Standing, IsAtRest, KindRests, kind_line, kind_weight, map_kind, map_module, module_line, module_weight, modules_weight, queues_weight}
 use Rattle.strm_laws.specs.State.{State, Stream, map_state, map_stream}
 use Rattle.strm_types.proofs.BySide.{each-side}
 use Rattle.strm_types.proofs.Weights.{count-join, weight-take}
@@ -41,29 +37,25 @@ module _ {C : Type 0} where
   cells-join (m ∷ xs) ys = omega (arith, weight-take (λ c. true) m xs, weight-take (λ c. true) m (xs ++ ys), cells-join xs ys)
 
   -- what stands on the queues of a way of modules, and in their lines
-  abbrev on_queues : Way → List (Module C) → List (Message C)
-  on_queues way ps = flat_map (λ q. if is_there places.Ldterm (place_of (module_name q)) then messages_at module_queue way q else []) ps
+  abbrev on_queues : Way → List (Standing C) → List (Message C)
+  on_queues way ps = flat_map (messages_at way) ps
 
-  abbrev in_lines : List (Module C) → ℕ
+  abbrev in_lines : List (Standing C) → ℕ
   in_lines ps = sum_by (λ q. length (module_line q)) ps
 
-  held-down : (ps : List (Module C)) → sum_by (held_by Down) ps ≡ cells_in (on_queues Down ps)
+  held-down : (ps : List (Standing C)) → sum_by (held_by Down) ps ≡ cells_in (on_queues Down ps)
   held-down [] = refl
-  held-down (OfPtem q ∷ ps) = omega (arith, sum_by-cons (held_by Down) (OfPtem q) ps, held-down ps)
-  held-down (OfPckt q ∷ ps) = omega (arith, sum_by-cons (held_by Down) (OfPckt q) ps, held-down ps)
-  held-down (OfLdterm l ∷ ps) = omega (arith, sum_by-cons (held_by Down) (OfLdterm l) ps, held-down ps, cells-join l.write_queue.messages (on_queues Down ps))
+  held-down (q ∷ ps) = omega (arith, sum_by-cons (held_by Down) q ps, held-down ps, cells-join (messages_at Down q) (on_queues Down ps))
 
-  held-up : (ps : List (Module C)) → sum_by (held_by Up) ps ≡ cells_in (on_queues Up ps) + in_lines ps
+  held-up : (ps : List (Standing C)) → sum_by (held_by Up) ps ≡ cells_in (on_queues Up ps) + in_lines ps
   held-up [] = refl
-  held-up (OfPtem q ∷ ps) = omega (arith, sum_by-cons (held_by Up) (OfPtem q) ps, sum_by-cons (λ q. length (module_line q)) (OfPtem q) ps, held-up ps)
-  held-up (OfPckt q ∷ ps) = omega (arith, sum_by-cons (held_by Up) (OfPckt q) ps, sum_by-cons (λ q. length (module_line q)) (OfPckt q) ps, held-up ps)
-  held-up (OfLdterm l ∷ ps) =
+  held-up (q ∷ ps) =
       omega (
         arith,
-        sum_by-cons (held_by Up) (OfLdterm l) ps,
-        sum_by-cons (λ q. length (module_line q)) (OfLdterm l) ps,
+        sum_by-cons (held_by Up) q ps,
+        sum_by-cons (λ q. length (module_line q)) q ps,
         held-up ps,
-        cells-join l.read_queue.messages (on_queues Up ps),
+        cells-join (messages_at Up q) (on_queues Up ps),
       )
 
 -- The master's stream and the slave's hold what a ledger says. A direction goes a way on each.
@@ -136,20 +128,27 @@ module _ (p : Dir → Tagged → Bool) (numbered : NumberedBase p) where
     stays : (up down : ℕ) → before up down ≡ before (up + 0) (down + 0)
     stays up down = same-before up (up + 0) down (down + 0) (omega arith) (omega arith)
 
-    module-counted : (up down : ℕ) (q : Module ℕ) → module_weight p side (number_module side up down q) + before up down ≡ before (up + held_by Up q) (down + held_by Down q)
-    module-counted up down (OfPtem q) = omega (arith, stays up down)
-    module-counted up down (OfPckt q) = omega (arith, stays up down)
-    module-counted up down (OfLdterm l) =
-        let read = l.read_queue.messages in
+    kind-counted : (up : ℕ) (q : Module ℕ) → kind_weight p side (number_kind side up q) + numbered.upto into up ≡ numbered.upto into (up + length (kind_line q))
+    kind-counted up (OfPtem q) = omega (arith, same-upto into up (up + 0) (omega arith))
+    kind-counted up (OfPckt q) = omega (arith, same-upto into up (up + 0) (omega arith))
+    kind-counted up (OfLdterm l) = omega (arith, numbered.counted into up l.line)
+
+    queues-counted : (up down : ℕ) (queues : Option (QueuePair ℕ)) → queues_weight p side (option_map (number_pair side up down) queues) + before up down
+        ≡ before (up + cells_in (messages_on Up queues)) (down + cells_in (messages_on Down queues))
+    queues-counted up down None = omega (arith, stays up down)
+    queues-counted up down (Some pair) = omega (arith, messages-counted into up pair.read.messages, messages-counted out_of down pair.write.messages)
+
+    module-counted : (up down : ℕ) (q : Standing ℕ) → module_weight p side (number_module side up down q) + before up down ≡ before (up + held_by Up q) (down + held_by Down q)
+    module-counted up down q =
+        let line = length (module_line q) in
         omega (
           arith,
-          numbered.counted into up l.line,
-          messages-counted into (up + length l.line) read,
-          messages-counted out_of down l.write_queue.messages,
-          same-upto into (up + length l.line + cells_in read) (up + (length l.line + cells_in read)) (omega arith),
+          kind-counted up q.part,
+          queues-counted (up + line) down q.queues,
+          same-upto into (up + line + cells_in (messages_at Up q)) (up + held_by Up q) (omega arith),
         )
 
-    modules-counted : (up down : ℕ) (ps : List (Module ℕ)) → modules_weight p side (number_modules side up down ps) + before up down ≡ before (up + sum_by (held_by Up) ps) (down + sum_by (held_by Down) ps)
+    modules-counted : (up down : ℕ) (ps : List (Standing ℕ)) → modules_weight p side (number_modules side up down ps) + before up down ≡ before (up + sum_by (held_by Up) ps) (down + sum_by (held_by Down) ps)
     modules-counted up down [] = omega (arith, stays up down)
     modules-counted up down (q ∷ ps) =
         let up' = up + held_by Up q in
@@ -225,17 +224,27 @@ queue-forgets : (dir : Dir) (n : ℕ) (q : Queue ℕ) → map_queue byte (number
 queue-forgets dir n q = ap (λ ms. record q { messages = ms }) (messages-forget dir n q.messages)
 
 module _ (side : Side) where
-  ldterm-forgets : (up down : ℕ) (l : Ldterm ℕ) → IsIdle l → map_ldterm byte (number_ldterm side up down l) ≡ l
-  ldterm-forgets up down l idle = rw (number-forgets (direction_at Up side) up l.line, queue-forgets (direction_at Up side) (up + length l.line) l.read_queue, queue-forgets (direction_at Down side) down l.write_queue, idle.0, idle.1, idle.3) refl
+  kind-forgets : (up : ℕ) (q : Module ℕ) → KindRests q → map_kind byte (number_kind side up q) ≡ q
+  kind-forgets up (OfPtem q) idle = refl
+  kind-forgets up (OfPckt q) idle = refl
+  kind-forgets up (OfLdterm l) idle = rw (number-forgets (direction_at Up side) up l.line, idle.0, idle.1, idle.3) refl
 
-  modules-forget : (up down : ℕ) (ps : List (Module ℕ)) → AllByRecursion (λ q. IsAtRest q) ps → map (map_module byte) (number_modules side up down ps) ≡ ps
+  queues-forget : (up down : ℕ) (queues : Option (QueuePair ℕ)) → option_map (map_pair byte) (option_map (number_pair side up down) queues) ≡ queues
+  queues-forget up down None = refl
+  queues-forget up down (Some pair) = rw (queue-forgets (direction_at Up side) up pair.read, queue-forgets (direction_at Down side) down pair.write) refl
+
+  module-forgets : (up down : ℕ) (q : Standing ℕ) → IsAtRest q → map_module byte (number_module side up down q) ≡ q
+  module-forgets up down q idle =
+      let line = length (module_line q) in
+      ap (λ (part : Module ℕ). stood part (option_map (map_pair byte) (option_map (number_pair side (up + line) down) q.queues))) (kind-forgets up q.part idle)
+      ∙ ap (λ queues. stood q.part queues) (queues-forget (up + line) down q.queues)
+
+  modules-forget : (up down : ℕ) (ps : List (Standing ℕ)) → AllByRecursion (λ q. IsAtRest q) ps → map (map_module byte) (number_modules side up down ps) ≡ ps
   modules-forget up down [] idle = refl
-  modules-forget up down (OfPtem q ∷ ps) idle = ap (λ qs. OfPtem q ∷ qs) (modules-forget (up + 0) (down + 0) ps idle.1)
-  modules-forget up down (OfPckt q ∷ ps) idle = ap (λ qs. OfPckt q ∷ qs) (modules-forget (up + 0) (down + 0) ps idle.1)
-  modules-forget up down (OfLdterm l ∷ ps) idle =
-      let up' = up + held_by Up (OfLdterm l) in
-      let down' = down + held_by Down (OfLdterm l) in
-      ap (λ x. OfLdterm x ∷ map (map_module byte) (number_modules side up' down' ps)) (ldterm-forgets up down l idle.0) ∙ ap (λ qs. OfLdterm l ∷ qs) (modules-forget up' down' ps idle.1)
+  modules-forget up down (q ∷ ps) idle =
+      let up' = up + held_by Up q in
+      let down' = down + held_by Down q in
+      ap (λ x. x ∷ map (map_module byte) (number_modules side up' down' ps)) (module-forgets up down q idle.0) ∙ ap (λ qs. q ∷ qs) (modules-forget up' down' ps idle.1)
 
   stream-forgets : (up down : ℕ) (t : Stream ℕ) → AllByRecursion (λ q. IsAtRest q) t.modules → map_stream byte (number_stream side up down t) ≡ t
   stream-forgets up down t idle =
@@ -246,11 +255,14 @@ module _ (side : Side) where
       ) refl
 
   -- nothing of a turn is under way in what is numbered
-  modules-rest : (up down : ℕ) (ps : List (Module ℕ)) → AllByRecursion (λ q. IsAtRest q) ps → AllByRecursion (λ q. IsAtRest q) (number_modules side up down ps)
+  kind-rests : (up : ℕ) (q : Module ℕ) → KindRests q → KindRests (number_kind side up q)
+  kind-rests up (OfPtem q) idle = tt
+  kind-rests up (OfPckt q) idle = tt
+  kind-rests up (OfLdterm l) idle = (refl, refl, idle.2, refl)
+
+  modules-rest : (up down : ℕ) (ps : List (Standing ℕ)) → AllByRecursion (λ q. IsAtRest q) ps → AllByRecursion (λ q. IsAtRest q) (number_modules side up down ps)
   modules-rest up down [] idle = tt
-  modules-rest up down (OfPtem q ∷ ps) idle = (tt, modules-rest (up + 0) (down + 0) ps idle.1)
-  modules-rest up down (OfPckt q ∷ ps) idle = (tt, modules-rest (up + 0) (down + 0) ps idle.1)
-  modules-rest up down (OfLdterm l ∷ ps) idle = ((refl, refl, idle.0.2, refl), modules-rest (up + held_by Up (OfLdterm l)) (down + held_by Down (OfLdterm l)) ps idle.1)
+  modules-rest up down (q ∷ ps) idle = (kind-rests up q.part idle.0, modules-rest (up + held_by Up q) (down + held_by Down q) ps idle.1)
 
 pub based-forgets : (s : State ℕ) → AreIdle s → map_state tagged.byte (based s) ≡ s
 based-forgets s idle =

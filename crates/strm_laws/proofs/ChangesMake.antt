@@ -18,7 +18,7 @@ use Rattle.strm_types.specs.Options.{mode_message}
 use Rattle.strm_laws.specs.Places.{weight_made}
 use Rattle.strm_laws.specs.Pushes.{all_taken, head_above, modules_emptied, mode_behind, mode_on_push, mode_put, popped, pushed_named, top_on, top_taken, with_modules}
 use Rattle.strm_types.specs.Reads.{read_gone, takes_none}
-use Rattle.strm_laws.specs.Stacked.{Module, module_name}
+use Rattle.strm_laws.specs.Stacked.{Standing, module_name}
 use Rattle.strm_laws.specs.State.{State, stream}
 use Rattle.strm_laws.proofs.DeliveryKeeps.{made-append}
 use Rattle.strm_laws.proofs.PushKeeps.{clears-make-none}
@@ -41,15 +41,15 @@ module _ {C : Type 0} (p : Dir → C → Bool) where
   mode-none side None s = refl
   mode-none side (Some mode) s = head-none p side (head_above side) (mode_message mode false) s
 
-  pub push-none : (side : Side) (q : Option (Module C)) (s : State C) → None-made (pushed_named side q s).gone
+  pub push-none : (side : Side) (q : Option (Standing C)) (s : State C) → None-made (pushed_named side q s).gone
   push-none side None s = refl
   push-none side (Some q) s = mode-none side (mode_on_push (module_name q)) (with_modules side (q ∷ (stream side s).modules) s)
 
-  top-none : (rule : Rule) (side : Side) (ps : List (Module C)) (s : State C) → None-made (top_taken rule side ps s).gone
+  top-none : (rule : Rule) (side : Side) (ps : List (Standing C)) (s : State C) → None-made (top_taken rule side ps s).gone
   top-none rule side [] s = refl
   top-none rule side (q ∷ ps) s = clears-make-none p side rule q
 
-  all-none : (rule : Rule) (side : Side) (ps : List (Module C)) (s : State C) → None-made (all_taken rule side ps s).gone
+  all-none : (rule : Rule) (side : Side) (ps : List (Standing C)) (s : State C) → None-made (all_taken rule side ps s).gone
   all-none rule side [] s = refl
   all-none rule side (q ∷ ps) s =
       let t = top_taken rule side (q ∷ ps) s in

@@ -15,7 +15,7 @@ use Rattle.strm_types.specs.Names.{is_open, direction_at}
 use Rattle.strm_laws.specs.Places.{weight_gone, weight_made}
 use Rattle.strm_laws.specs.Pushes.{all_taken, modules_emptied, top_taken}
 use Rattle.strm_types.specs.Queue.{weight}
-use Rattle.strm_laws.specs.Stacked.{Module, IsAtRest}
+use Rattle.strm_laws.specs.Stacked.{Standing, IsAtRest}
 use Rattle.strm_types.specs.Heads.{Head, new_head}
 use Rattle.strm_laws.specs.State.{State, stream, with_stream, Stream, with_head_queue}
 use Rattle.strm_laws.proofs.DeliveryKeeps.{gone-append, made-append}
@@ -52,7 +52,7 @@ module _ {C : Type 0} (p : Dir → C → Bool) where
       omega (arith, head_emptied-keeps p EndClosed of_all side s, modules_emptied-keeps p EndClosed side t.state (head-stays side s idle), gone-append p t.gone u.gone, made-append p t.gone u.gone)
 
   -- what stands at the head has gone before it is as new
-  taken-head : (side : Side) (ps : List (Module C)) (s : State C) → (stream side (all_taken EndClosed side ps s).state).head ≡ (stream side s).head
+  taken-head : (side : Side) (ps : List (Standing C)) (s : State C) → (stream side (all_taken EndClosed side ps s).state).head ≡ (stream side s).head
   taken-head side [] s = refl
   taken-head side (l ∷ ls) s =
       taken-head side ls (top_taken EndClosed side (l ∷ ls) s).state ∙ ap (λ (t : Stream C). t.head) (get-set-same side (record (stream side s) { modules = ls }) s.ends)

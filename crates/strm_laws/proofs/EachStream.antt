@@ -46,7 +46,7 @@ use Rattle.strm_laws.specs.Closes.{closed_at, driver_emptied, ended, head_emptie
 use Rattle.strm_laws.specs.Pushes.{head_above, module_named, named_by, popped, pushed_named}
 use Rattle.strm_laws.specs.Puts.{delivered, put_at_head}
 use Rattle.strm_laws.specs.Refusals.{refused_at_once, unfit}
-use Rattle.strm_laws.specs.Stacked.{Module}
+use Rattle.strm_laws.specs.Stacked.{Standing}
 use Rattle.strm_laws.specs.State.{State, Stream, book, stream, with_driver_queue, with_head_queue, with_ioctl, with_stream}
 use Rattle.strm_laws.specs.Step.{Step}
 use Rattle.strm_laws.specs.Turns.{turned, with_driver}
@@ -69,7 +69,7 @@ module _ {C : Type 0} (P : Side → Stream C → Type 0) where
   OfEach s = AllSides P s.ends
 
   -- It holds of a stream that changes so: at its head, at its driver, or in its modules, which are of a kind.
-  pub record Changes (Good : List (Module C) → Type 0) : Type 0 where
+  pub record Changes (Good : List (Standing C) → Type 0) : Type 0 where
     pub put : (side : Side) (here : Spot) (m : Message C) (t : Stream C) → is_open t.opened ≡ true → P side t → P side (record t { head = (head_put here m t.head).state })
     pub queue : (side : Side) (q : Queue C) (t : Stream C) → (is_open t.opened ≡ false → t.head.queue.messages ≡ [] → q.messages ≡ []) → P side t → P side (with_head_queue q t)
     pub settings : (side : Side) (read : ReadMode) (control : ControlMode) (group : ℕ) (hung_up : Bool) (t : Stream C) → P side t
@@ -79,12 +79,12 @@ module _ {C : Type 0} (P : Side → Stream C → Type 0) where
     pub opened : (side : Side) (t : Stream C) → P side t → P side (record t { opened = Open })
     pub anew : (side : Side) (opened : Openness) (t : Stream C) → P side t → P side (record t { opened = opened; head = new_head })
     pub driver : (side : Side) (q : Queue C) (t : Stream C) → P side t → P side (with_driver_queue q t)
-    pub modules : (side : Side) (ps : List (Module C)) (t : Stream C) → Good ps → P side t → P side (record t { modules = ps })
+    pub modules : (side : Side) (ps : List (Standing C)) (t : Stream C) → Good ps → P side t → P side (record t { modules = ps })
     pub good : (side : Side) (t : Stream C) → P side t → Good t.modules
-    pub below : (p : Module C) (ps : List (Module C)) → Good (p ∷ ps) → Good ps
-    pub above : (name : ModuleName) (ps : List (Module C)) → Good ps → Good (module_named name ∷ ps)
+    pub below : (p : Standing C) (ps : List (Standing C)) → Good (p ∷ ps) → Good ps
+    pub above : (name : ModuleName) (ps : List (Standing C)) → Good ps → Good (module_named name ∷ ps)
 
-  module _ (Good : List (Module C) → Type 0) (changes : Changes Good) where
+  module _ (Good : List (Standing C) → Type 0) (changes : Changes Good) where
     changed : (side : Side) (t : Stream C) (s : State C) → (P side (stream side s) → P side t) → OfEach s → OfEach (with_stream side t s)
     changed side t s keeps all = set-all P side t s.ends (keeps (all side)) all
 
@@ -102,7 +102,7 @@ module _ {C : Type 0} (P : Side → Stream C → Type 0) where
     driver-each side q s all = changed side (with_driver_queue q (stream side s)) s (λ holds. changes.driver side q (stream side s) holds) all
 
     -- and where any modules may stand, deliveries and turns
-    module _ (any : (ps : List (Module C)) → Good ps) where
+    module _ (any : (ps : List (Standing C)) → Good ps) where
       pub each-stays : Stays OfEach
       each-stays = record {
         head = head-each;

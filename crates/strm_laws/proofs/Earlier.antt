@@ -1,6 +1,6 @@
 -- The nearest earlier queue is the same where the origins of cells are forgotten, and where no module stands it is the one by name.
 use Rattle.std.proofs.Common.{ℕ, suc, arith, ◌≡◌, ◌-◌, false, cond, List, [], ◌∷◌, length, map, take, drop, refl, ap, ◌∙◌}
-use Rattle.std.specs.Prelude.{min, nat_le, Option, None, Some}
+use Rattle.std.specs.Prelude.{min, nat_le, Option, None, Some, is_some, option_map}
 use Rattle.std.proofs.lemmas.Bool.Decides.{nat_tests}
 use Rattle.std.proofs.lemmas.List.{take-map, drop-map, length-map}
 use Rattle.strm_types.specs.declared.limits.TheConstants.{MODULES}
@@ -9,49 +9,55 @@ use Rattle.strm_types.specs.declared.names.Side.TheVariants.{Master, Slave}
 use Rattle.strm_types.specs.declared.names.Way.{Way}
 use Rattle.strm_types.specs.declared.names.Way.TheVariants.{Up, Down}
 use Rattle.strm_laws.specs.Earlier.{NoModules, before_among, before_at, before_driver, before_head, modules_on, places_of}
-use Rattle.strm_types.specs.ModuleQueues.{first_place, has_queue, last_place, place_before, place_past}
+use Rattle.strm_types.specs.ModuleQueues.{first_place, last_place, place_before, place_past}
+use Rattle.strm_types.specs.Standings.{has_queues, QueuePair, map_pair}
 use Rattle.strm_types.specs.Names.{place_of}
-use Rattle.strm_laws.specs.Stacked.{Module, OfLdterm, OfPtem, OfPckt, map_module, module_name, module_queue}
+use Rattle.strm_laws.specs.Stacked.{Standing, OfLdterm, OfPtem, OfPckt, map_module, module_name, kind_name, map_kind, Module}
 use Rattle.strm_laws.specs.State.{State, stream, map_state}
 
 module _ {C D : Type 0} (f : C → D) where
-  abbrev images : List (Module C) → List (Module D)
+  abbrev images : List (Standing C) → List (Standing D)
   images ps = map (map_module f) ps
 
-  pub queue-forgets : (way : Way) (p : Module C) → has_queue module_queue way (map_module f p) ≡ has_queue module_queue way p
-  queue-forgets way (OfLdterm l) = refl
-  queue-forgets way (OfPtem p) = refl
-  queue-forgets way (OfPckt p) = refl
+  some-forgets : (queues : Option (QueuePair C)) → is_some (option_map (map_pair f) queues) ≡ is_some queues
+  some-forgets None = refl
+  some-forgets (Some pair) = refl
 
-  pub name-forgets : (p : Module C) → module_name (map_module f p) ≡ module_name p
-  name-forgets (OfLdterm l) = refl
-  name-forgets (OfPtem p) = refl
-  name-forgets (OfPckt p) = refl
+  pub queue-forgets : (p : Standing C) → has_queues (map_module f p) ≡ has_queues p
+  queue-forgets p = some-forgets p.queues
 
-  first-forgets : (way : Way) (place : ℕ) (ps : List (Module C)) → first_place module_queue way place (images ps) ≡ first_place module_queue way place ps
-  first-forgets way place [] = refl
-  first-forgets way place (p ∷ ps) =
-      rw (queue-forgets way p, first-forgets way (suc place) ps) refl
+  kind-forgets : (p : Module C) → kind_name (map_kind f p) ≡ kind_name p
+  kind-forgets (OfLdterm l) = refl
+  kind-forgets (OfPtem p) = refl
+  kind-forgets (OfPckt p) = refl
 
-  last-forgets : (way : Way) (place : ℕ) (last : Option ℕ) (ps : List (Module C)) → last_place module_queue way place last (images ps) ≡ last_place module_queue way place last ps
-  last-forgets way place last [] = refl
-  last-forgets way place last (p ∷ ps) =
-      ap (λ b. last_place module_queue way (suc place) (cond b (Some place) last) (images ps)) (queue-forgets way p)
-      ∙ last-forgets way (suc place) (cond (has_queue module_queue way p) (Some place) last) ps
+  pub name-forgets : (p : Standing C) → module_name (map_module f p) ≡ module_name p
+  name-forgets p = kind-forgets p.part
 
-  place-forgets : (way : Way) (at : ℕ) (ps : List (Module C)) → place_before module_queue way at (images ps) ≡ place_before module_queue way at ps
-  place-forgets Down at ps = ap (λ qs. last_place module_queue Down 1 None qs) (take-map (map_module f) (at - 1) ps) ∙ last-forgets Down 1 None (take (at - 1) ps)
-  place-forgets Up at ps = ap (λ qs. first_place module_queue Up (suc at) qs) (drop-map (map_module f) at ps) ∙ first-forgets Up (suc at) (drop at ps)
+  first-forgets : (place : ℕ) (ps : List (Standing C)) → first_place place (images ps) ≡ first_place place ps
+  first-forgets place [] = refl
+  first-forgets place (p ∷ ps) =
+      rw (queue-forgets p, first-forgets (suc place) ps) refl
 
-  pub place_past-forgets : (way : Way) (at : ℕ) (ps : List (Module C)) → place_past module_queue way at (images ps) ≡ place_past module_queue way at ps
-  place_past-forgets Down at ps = ap (λ qs. first_place module_queue Down (suc at) qs) (drop-map (map_module f) at ps) ∙ first-forgets Down (suc at) (drop at ps)
-  place_past-forgets Up at ps = ap (λ qs. last_place module_queue Up 1 None qs) (take-map (map_module f) (at - 1) ps) ∙ last-forgets Up 1 None (take (at - 1) ps)
+  last-forgets : (place : ℕ) (last : Option ℕ) (ps : List (Standing C)) → last_place place last (images ps) ≡ last_place place last ps
+  last-forgets place last [] = refl
+  last-forgets place last (p ∷ ps) =
+      ap (λ b. last_place (suc place) (cond b (Some place) last) (images ps)) (queue-forgets p)
+      ∙ last-forgets (suc place) (cond (has_queues p) (Some place) last) ps
 
-  pub places-forget : (ps : List (Module C)) → places_of (images ps) ≡ places_of ps
+  place-forgets : (way : Way) (at : ℕ) (ps : List (Standing C)) → place_before way at (images ps) ≡ place_before way at ps
+  place-forgets Down at ps = ap (λ qs. last_place 1 None qs) (take-map (map_module f) (at - 1) ps) ∙ last-forgets 1 None (take (at - 1) ps)
+  place-forgets Up at ps = ap (λ qs. first_place (suc at) qs) (drop-map (map_module f) at ps) ∙ first-forgets (suc at) (drop at ps)
+
+  pub place_past-forgets : (way : Way) (at : ℕ) (ps : List (Standing C)) → place_past way at (images ps) ≡ place_past way at ps
+  place_past-forgets Down at ps = ap (λ qs. first_place (suc at) qs) (drop-map (map_module f) at ps) ∙ first-forgets (suc at) (drop at ps)
+  place_past-forgets Up at ps = ap (λ qs. last_place 1 None qs) (take-map (map_module f) (at - 1) ps) ∙ last-forgets 1 None (take (at - 1) ps)
+
+  pub places-forget : (ps : List (Standing C)) → places_of (images ps) ≡ places_of ps
   places-forget [] = refl
   places-forget (p ∷ ps) = ap (λ name. place_of name ∷ places_of (images ps)) (name-forgets p) ∙ ap (λ qs. place_of (module_name p) ∷ qs) (places-forget ps)
 
-  before_among-forgets : (side : Side) (way : Way) (at : ℕ) (ps : List (Module C)) → before_among side way at (images ps) ≡ before_among side way at ps
+  before_among-forgets : (side : Side) (way : Way) (at : ℕ) (ps : List (Standing C)) → before_among side way at (images ps) ≡ before_among side way at ps
   before_among-forgets side way at ps =
       rw (places-forget ps, place-forgets way at ps) refl
 
@@ -77,7 +83,7 @@ module _ {C : Type 0} where
   none-among side s none = none side
 
   pub none-on : (side : Side) (s : State C) → NoModules s → modules_on side s ≡ 0
-  none-on side s none = ap (λ (ps : List (Module C)). min MODULES (length ps)) (none-among side s none)
+  none-on side s none = ap (λ (ps : List (Standing C)). min MODULES (length ps)) (none-among side s none)
 
 -- no module's place is behind that of three
 few-among : (count : ℕ) → nat_le (suc MODULES) (min MODULES count) ≡ false

@@ -1,8 +1,8 @@
 -- Over a call enabled queues exist, and none is enabled twice: those of a module that is taken off go with it (streamio(7I): I_PUSH, I_POP; close(2)).
 use Rattle.std.proofs.Common.{ℕ, ◌≡◌, Bool, true, false, cond, List, [], ◌∷◌, map, refl, sym, subst}
 use Rattle.std.proofs.lemmas.Bool.{false≢true}
-use Rattle.std.specs.Prelude.{◌&&◌, not, min, slice_index_or, Option, None, Some}
-use Rattle.std.specs.List.{AllByRecursion}
+use Rattle.std.specs.Prelude.{◌&&◌, ◌||◌, not, min, slice_index_or, Option, None, Some}
+use Rattle.std.specs.List.{AllByRecursion, list_any}
 use Rattle.strm_types.specs.declared.events.Caller.{Caller}
 use Rattle.strm_types.specs.declared.events.Event.TheVariants.{OpenMaster, OpenSlave, Shut, Push, Pop, Flush, Write, Read, Put, Get, Mode, Ioctl, IoctlResult, Signals}
 use Rattle.strm_types.specs.declared.limits.TheConstants.{READ_MAX}
@@ -10,6 +10,7 @@ use Rattle.strm_types.specs.declared.modes.Mode as modes
 use Rattle.strm_types.specs.declared.modes.Mode.TheVariants as chosen
 use Rattle.strm_types.specs.declared.modes.Prio.{Prio}
 use Rattle.strm_types.specs.declared.modes.ReadMode.{ReadMode}
+use Rattle.strm_types.specs.declared.names.ModuleName.{ModuleName}
 use Rattle.strm_types.specs.declared.names.ModuleName.TheVariants as names
 use Rattle.strm_types.specs.declared.names.Openness.TheVariants.{Open, Closed}
 use Rattle.strm_types.specs.declared.names.Place.{Place}
@@ -32,7 +33,7 @@ use Rattle.strm_types.specs.Heads.{new_head}
 use Rattle.strm_types.specs.Ioctls.{asking, ioctl_message}
 use Rattle.strm_types.specs.JobControl.{asks_group, group_behind}
 use Rattle.strm_types.specs.Message.{Message}
-use Rattle.strm_types.specs.ModuleQueues.{has_queue}
+use Rattle.strm_types.specs.Standings.{has_queues, stood}
 use Rattle.strm_types.specs.Modules.{without_module}
 use Rattle.strm_types.specs.Names.{direction_from, driver_of, enable_some, is_open, place_of, same_place, same_queue, same_side, same_way, without}
 use Rattle.strm_types.specs.Options.{mode_message}
@@ -44,9 +45,9 @@ use Rattle.strm_laws.specs.Closes.{closed_at, driver_emptied, ended, head_emptie
 use Rattle.strm_laws.specs.Earlier.{before_at, before_driver, before_head, driver_place, places_of, queue_named}
 use Rattle.strm_laws.specs.Pushes.{all_taken, enable_waiting, head_above, let_come, messages_on, mode_behind, mode_on_push, mode_put, named_by, popped, pushed, pushed_named, top_on, top_taken, with_modules}
 use Rattle.strm_laws.specs.Puts.{delivered, earlier_at, noted}
-use Rattle.strm_laws.specs.Restorable.{AreEnabled, IsThere, is_there_among}
+use Rattle.strm_laws.specs.Restorable.{AreEnabled, IsThere, is_ldterm, is_there_among}
 use Rattle.strm_laws.specs.StackCosts.{Stands, stands_of, stands_on}
-use Rattle.strm_laws.specs.Stacked.{Module, OfLdterm, OfPtem, OfPckt, module_name, module_queue}
+use Rattle.strm_laws.specs.Stacked.{Module, OfLdterm, OfPtem, OfPckt, Standing, kind_name, module_name}
 use Rattle.strm_laws.specs.State.{State, Stream, book, stream, with_driver_queue, with_head_queue, with_ioctl, with_stream}
 use Rattle.strm_types.proofs.EnabledNames.{once-without}
 use Rattle.strm_laws.proofs.EnabledExist.{MayBe, any-noted, before-there, if-there, index-there, more-among, noted-there, some-there}
@@ -69,6 +70,13 @@ all-but P Q name so (n ∷ ns) each = at (same_queue n name) refl (all-but P Q n
     at true same more = more
     at false same more = (so n each.0 same, more)
 
+-- a name without queues
+bare-names : (name : ModuleName) (ns : List ModuleName) → is_ldterm name ≡ false → (place : Place) (way : Way) → is_there_among place way (name ∷ ns) ≡ true → is_there_among place way ns ≡ true
+bare-names name ns bare Head way is = is
+bare-names name ns bare Ldterm way is = subst (λ b. (b || list_any is_ldterm ns) ≡ true) bare is
+bare-names name ns bare Driver Up is = is
+bare-names name ns bare Driver Down is = is
+
 -- ldterm, whose queues' names go
 abbrev queue_of : Side → Way → QueueName
 queue_of side way = record { side = side; place = Ldterm; way = way }
@@ -80,7 +88,7 @@ module _ {C : Type 0} where
   pub named-of : (all : Stands) (s : State C) → Enabled all s → Named s
   named-of all s is = subst (λ a. AreEnabled a s.enabled) (sym is.0) is.1
 
-  grown : (side : Side) (p : Module C) (s : State C) (n : QueueName) → IsThere (stands_of s) n → IsThere (stands_of (with_modules side (p ∷ (stream side s).modules) s)) n
+  grown : (side : Side) (p : Standing C) (s : State C) (n : QueueName) → IsThere (stands_of s) n → IsThere (stands_of (with_modules side (p ∷ (stream side s).modules) s)) n
   grown side p s n is = at side n.side is
     where
       at : (side of : Side) → is_there_among n.place n.way (stands_on of (stands_of s)) ≡ true → is_there_among n.place n.way (stands_on of (stands_of (with_modules side (p ∷ (stream side s).modules) s))) ≡ true
@@ -101,25 +109,25 @@ module _ {C : Type 0} where
       at None may = is.1
       at (Some name) may = if-there all (not (is_none_left (messages_on name s))) name s.enabled may is.1
 
-  pushed-named : (side : Side) (p : Module C) (s : State C) → Named s → Named (pushed side p s).state
+  pushed-named : (side : Side) (p : Standing C) (s : State C) → Named s → Named (pushed side p s).state
   pushed-named side p s are =
       let on = with_modules side (p ∷ (stream side s).modules) s in
       let both = stands_of on in
       let first : Enabled both on = (refl, record { once = are.once; there = each-more (stands_of s) both (λ n is. grown side p s n is) s.enabled are.there }) in
       let mode = mode_on_push (module_name p) in
       let told = mode-enabled both side mode on first in
-      named-of both (pushed side p s).state (come-enabled both (has_queue module_queue Up p) side (mode_put side mode on).state told)
+      named-of both (pushed side p s).state (come-enabled both (has_queues p) side (mode_put side mode on).state told)
 
-  push-named : (side : Side) (p : Option (Module C)) (s : State C) → Named s → Named (pushed_named side p s).state
+  push-named : (side : Side) (p : Option (Standing C)) (s : State C) → Named s → Named (pushed_named side p s).state
   push-named side None s are = are
   push-named side (Some p) s are = pushed-named side p s are
 
   -- what is left where the module on top is taken off
-  abbrev left : Side → List (Module C) → State C → Stands
+  abbrev left : Side → List (Standing C) → State C → Stands
   left side ps s = stands_of (with_modules side ps s)
 
   -- one with no queues
-  bare-left : (side : Side) (p : Module C) (ps : List (Module C)) (s : State C) → ((place : Place) (way : Way) → is_there_among place way (map module_name (p ∷ ps)) ≡ true → is_there_among place way (map module_name ps) ≡ true)
+  bare-left : (side : Side) (p : Standing C) (ps : List (Standing C)) (s : State C) → ((place : Place) (way : Way) → is_there_among place way (map module_name (p ∷ ps)) ≡ true → is_there_among place way (map module_name ps) ≡ true)
       → (stream side s).modules ≡ p ∷ ps → (n : QueueName) → IsThere (stands_of s) n → IsThere (left side ps s) n
   bare-left side p ps s fewer top n is = at side n.side top is
     where
@@ -129,7 +137,7 @@ module _ {C : Type 0} where
       at Master Slave top is = is
       at Slave Master top is = is
 
-  ldterm-left : (side : Side) (ps : List (Module C)) (s : State C) (n : QueueName) → IsThere (stands_of s) n → same_queue n (queue_of side Up) ≡ false → same_queue n (queue_of side Down) ≡ false → IsThere (left side ps s) n
+  ldterm-left : (side : Side) (ps : List (Standing C)) (s : State C) (n : QueueName) → IsThere (stands_of s) n → same_queue n (queue_of side Up) ≡ false → same_queue n (queue_of side Down) ≡ false → IsThere (left side ps s) n
   ldterm-left side ps s n is up down = at side n.side n.place n.way is up down
     where
       at : (side of : Side) (place : Place) (way : Way) → is_there_among place way (stands_on of (stands_of s)) ≡ true → (same_side of side && same_place place Ldterm && same_way way Up) ≡ false
@@ -147,31 +155,26 @@ module _ {C : Type 0} where
       at Slave Slave Ldterm Up is up down = absurd (false≢true (sym up))
       at Slave Slave Ldterm Down is up down = absurd (false≢true (sym down))
 
-  left-named : (side : Side) (p : Module C) (ps : List (Module C)) (s : State C) → (stream side s).modules ≡ p ∷ ps → (ns : List QueueName) → AreEnabled (stands_of s) ns → AreEnabled (left side ps s) (without_module side (module_name p) ns)
-  left-named side (OfLdterm l) ps s top ns are =
-      let up = queue_of side Up in
-      let down = queue_of side Down in
-      record {
-        once = once-without (without up ns) down (once-without ns up are.once);
-        there = all-but (λ n. IsThere (stands_of s) n × (same_queue n up ≡ false)) (λ n. IsThere (left side ps s) n) down (λ n is not_down. ldterm-left side ps s n is.0 is.1 not_down) (without up ns)
-            (all-but (λ n. IsThere (stands_of s) n) (λ n. IsThere (stands_of s) n × (same_queue n up ≡ false)) up (λ n is not_up. (is, not_up)) ns are.there);
-      }
-  left-named side (OfPtem l) ps s top ns are = record { once = are.once; there = each-more (stands_of s) (left side ps s) (bare-left side (OfPtem l) ps s same top) ns are.there }
+  left-named : (side : Side) (p : Standing C) (ps : List (Standing C)) (s : State C) → (stream side s).modules ≡ p ∷ ps → (ns : List QueueName) → AreEnabled (stands_of s) ns → AreEnabled (left side ps s) (without_module side (module_name p) ns)
+  left-named side p ps s top ns are = by p.part top
     where
-      same : (place : Place) (way : Way) → is_there_among place way (names.Ptem ∷ map module_name ps) ≡ true → is_there_among place way (map module_name ps) ≡ true
-      same Head way is = is
-      same Ldterm way is = is
-      same Driver Up is = is
-      same Driver Down is = is
-  left-named side (OfPckt l) ps s top ns are = record { once = are.once; there = each-more (stands_of s) (left side ps s) (bare-left side (OfPckt l) ps s same top) ns are.there }
-    where
-      same : (place : Place) (way : Way) → is_there_among place way (names.Pckt ∷ map module_name ps) ≡ true → is_there_among place way (map module_name ps) ≡ true
-      same Head way is = is
-      same Ldterm way is = is
-      same Driver Up is = is
-      same Driver Down is = is
+      by : (part : Module C) → (stream side s).modules ≡ stood part p.queues ∷ ps → AreEnabled (left side ps s) (without_module side (kind_name part) ns)
+      by (OfLdterm l) top =
+          let up = queue_of side Up in
+          let down = queue_of side Down in
+          record {
+            once = once-without (without up ns) down (once-without ns up are.once);
+            there = all-but (λ n. IsThere (stands_of s) n × (same_queue n up ≡ false)) (λ n. IsThere (left side ps s) n) down (λ n is not_down. ldterm-left side ps s n is.0 is.1 not_down) (without up ns)
+                (all-but (λ n. IsThere (stands_of s) n) (λ n. IsThere (stands_of s) n × (same_queue n up ≡ false)) up (λ n is not_up. (is, not_up)) ns are.there);
+          }
+      by (OfPtem q) top =
+          let fewer = bare-left side (stood (OfPtem q) p.queues) ps s (bare-names names.Ptem (map module_name ps) refl) top in
+          record { once = are.once; there = each-more (stands_of s) (left side ps s) fewer ns are.there }
+      by (OfPckt q) top =
+          let fewer = bare-left side (stood (OfPckt q) p.queues) ps s (bare-names names.Pckt (map module_name ps) refl) top in
+          record { once = are.once; there = each-more (stands_of s) (left side ps s) fewer ns are.there }
 
-  taken-named : (rule : Rule) (side : Side) (ps : List (Module C)) (s : State C) → (stream side s).modules ≡ ps → Named s → Named (top_taken rule side ps s).state
+  taken-named : (rule : Rule) (side : Side) (ps : List (Standing C)) (s : State C) → (stream side s).modules ≡ ps → Named s → Named (top_taken rule side ps s).state
   taken-named rule side [] s top are = are
   taken-named rule side (p ∷ ps) s top are =
       let all = stands_of s in
@@ -181,7 +184,7 @@ module _ {C : Type 0} where
       left-named side p ps s top (noted side place (earlier_at side 1 s) notes s.enabled)
       (noted-there all side place (earlier_at side 1 s) (λ way. before-there all s refl side way 1) notes (any-noted all side place there notes) s.enabled are)
 
-  all-named : (rule : Rule) (side : Side) (ps : List (Module C)) (s : State C) → (stream side s).modules ≡ ps → Named s → Named (all_taken rule side ps s).state
+  all-named : (rule : Rule) (side : Side) (ps : List (Standing C)) (s : State C) → (stream side s).modules ≡ ps → Named s → Named (all_taken rule side ps s).state
   all-named rule side [] s top are = are
   all-named rule side (p ∷ ps) s top are = all-named rule side ps (top_taken rule side (p ∷ ps) s).state (with-get side ps [] s) (taken-named rule side (p ∷ ps) s top are)
 

@@ -15,12 +15,12 @@ use Rattle.strm_types.specs.declared.spots.Note.{Note}
 use Rattle.strm_types.specs.declared.spots.Note.TheVariants.{Enable, Room}
 use Rattle.strm_types.specs.declared.limits.TheConstants.{MODULES}
 use Rattle.strm_types.specs.ModuleQueues.{place_before}
-use Rattle.strm_types.specs.Names.{driver_of, enable, enable_found, enable_if, enable_some, is_enabled, other, same_queue, without}
+use Rattle.strm_types.specs.Names.{driver_of, enable, enable_found, enable_if, enable_some, is_enabled, other, same_queue, without, place_of}
 use Rattle.strm_laws.specs.Earlier.{before_at, before_by, before_modules, places_of, queue_named}
 use Rattle.strm_laws.specs.Puts.{noted}
 use Rattle.strm_laws.specs.Restorable.{AreEnabled, IsThere, is_ldterm, is_there_among}
 use Rattle.strm_laws.specs.StackCosts.{Stands, stands_of, stands_on}
-use Rattle.strm_laws.specs.Stacked.{Module, OfLdterm, OfPtem, OfPckt, module_name, module_queue}
+use Rattle.strm_laws.specs.Stacked.{Standing, OfLdterm, OfPtem, OfPckt, module_name, kind_name, Module}
 use Rattle.strm_laws.specs.State.{State, stream}
 use Rattle.strm_types.proofs.EnabledNames.{once-added, once-without, same_queue-sound}
 
@@ -117,11 +117,14 @@ named-there all side way None is = tt
 named-there all side way (Some place) is = is way
 
 module _ {C : Type 0} where
-  index-among : (ps : List (Module C)) (i : ℕ) → PlaceAmong (slice_index_or (places_of ps) i None) (map module_name ps)
+  index-among : (ps : List (Standing C)) (i : ℕ) → PlaceAmong (slice_index_or (places_of ps) i None) (map module_name ps)
   index-among [] i = tt
-  index-among (OfLdterm l ∷ ps) zero = λ way. refl
-  index-among (OfPtem p ∷ ps) zero = tt
-  index-among (OfPckt p ∷ ps) zero = tt
+  index-among (p ∷ ps) zero = by p.part
+    where
+      by : (q : Module C) → PlaceAmong (place_of (kind_name q)) (kind_name q ∷ map module_name ps)
+      by (OfLdterm l) = λ way. refl
+      by (OfPtem p) = tt
+      by (OfPckt p) = tt
   index-among (p ∷ ps) (suc i) = one-more (slice_index_or (places_of ps) i None) (module_name p) (map module_name ps) (index-among ps i)
 
   on-side : (all : Stands) (s : State C) → stands_of s ≡ all → (side : Side) → map module_name (stream side s).modules ≡ stands_on side all
@@ -135,7 +138,7 @@ module _ {C : Type 0} where
 
   -- and so the nearest earlier queues
   pub before-there : (all : Stands) (s : State C) → stands_of s ≡ all → (side : Side) (way : Way) (at : ℕ) → MayBe all (before_at side way at s)
-  before-there all s is side way at = by (place_before module_queue way at (stream side s).modules)
+  before-there all s is side way at = by (place_before way at (stream side s).modules)
     where
       ahead : (way : Way) (count : ℕ) → MayBe all (before_modules side way count at)
       ahead Down count = tt

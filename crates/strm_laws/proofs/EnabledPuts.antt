@@ -36,7 +36,7 @@ use Rattle.strm_laws.specs.Past.{has_room_past, waits_on, writer_waits}
 use Rattle.strm_laws.specs.Puts.{across_of, delivered, earlier_at, made_above, module_acted, put_at_driver, put_at_head, put_at_module, put_in}
 use Rattle.strm_laws.specs.Restorable.{AreEnabled, IsThere}
 use Rattle.strm_laws.specs.StackCosts.{Stands, stands_of}
-use Rattle.strm_laws.specs.Stacked.{Module, module_asks, module_name, module_puts, module_queue, module_rests}
+use Rattle.strm_laws.specs.Stacked.{Standing, module_asks, module_name, module_puts, module_rests}
 use Rattle.strm_laws.specs.State.{State, Stream, stream, with_driver_queue, with_stream}
 use Rattle.strm_laws.specs.Turns.{driver_serves, held_back, is_stopped_across, moved_across, turned, turned_at, turned_queue, up_across, with_driver}
 use Rattle.strm_types.proofs.DeliveryHolds.{PutHolds, carried-holds, in_turn-holds}
@@ -179,7 +179,7 @@ module _ {C : Type 0} (all : Stands) where
       )
 
   -- a module that has acted and keeps its name
-  acted-enabled : (here : Spot) (t : Acted C (List (Module C))) (s : State C) → map module_name t.state ≡ map module_name (stream here.side s).modules → Enabled s → Enabled (module_acted here t s).state
+  acted-enabled : (here : Spot) (t : Acted C (List (Standing C))) (s : State C) → map module_name t.state ≡ map module_name (stream here.side s).modules → Enabled s → Enabled (module_acted here t s).state
   acted-enabled here t s same is =
       let on = stream here.side s in
       let place = slice_index_or (places_of on.modules) (here.at - 1) None in
@@ -210,7 +210,7 @@ module _ {C : Type 0} (all : Stands) where
   waits-enabled : (side : Side) (way : Way) (at band : ℕ) (s : State C) → Enabled s → Enabled (writer_waits side way at band s)
   waits-enabled side way at band s is =
       let t = stream side s in
-      let o = place_past module_queue way at t.modules in
+      let o = place_past way at t.modules in
       stream-enabled side (waits_on way band o t) s (waits-names side way band o t) is
 
   ended-enabled : (here : Spot) (took : Bool) (s : State C) → Enabled s → Enabled (with_stream here.side (queue_ended here took (stream here.side s)) s)
@@ -239,8 +239,8 @@ module _ {C : Type 0} (all : Stands) where
           let on = stream here.side t.state in
           outcome-holds Enabled t.ended _ _ (
             (ended-enabled here took t.state behind).0,
-            if-there all (at_place (has_more module_queue here.way) false here.at on.modules) name _ there
-                (some-there all (at_place (end_relieves module_queue took here.way) false here.at on.modules) (earlier_at here.side here.at t.state here.way) t.state.enabled (before-there all t.state behind.0 here.side here.way here.at) behind.1),
+            if-there all (at_place (has_more here.way) false here.at on.modules) name _ there
+                (some-there all (at_place (end_relieves took here.way) false here.at on.modules) (earlier_at here.side here.at t.state here.way) t.state.enabled (before-there all t.state behind.0 here.side here.way here.at) behind.1),
           )
           is
 

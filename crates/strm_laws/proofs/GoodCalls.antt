@@ -48,7 +48,7 @@ use Rattle.strm_laws.specs.Pushes.{all_taken, head_above, may_stand, module_name
 use Rattle.strm_laws.specs.Puts.{delivered, put_at_head}
 use Rattle.strm_laws.specs.Refusals.{goes_down, is_numbered, refused_at_once, unfit}
 use Rattle.strm_laws.specs.Restorable.{GoodHead, GoodMessage, GoodModule, GoodModules, GoodStream, IsBanded, IsWithinCall, stands_below}
-use Rattle.strm_laws.specs.Stacked.{Module, module_name}
+use Rattle.strm_laws.specs.Stacked.{Standing, module_name}
 use Rattle.strm_laws.specs.State.{State, Stream, book, opening, stream, with_driver_queue, with_head_queue, with_ioctl, with_stream}
 use Rattle.strm_laws.specs.Writes.{Wrote, below_head, chunks_sent, is_full_below}
 use Rattle.strm_types.proofs.BySide.{each-side}
@@ -116,12 +116,16 @@ module _ {C : Type 0} where
   }
 
   -- pushes and pops
-  named-good : (name : ModuleName) (ps : List (Module C)) → GoodModule (module_named {C = C} name)
-  named-good names.Ldterm ps = record { termios = refl; column = omega arith; line = omega arith; read_queue = new-good _ 512 128 (omega arith) (omega arith) (omega arith); write_queue = new-good _ 512 128 (omega arith) (omega arith) (omega arith); work = tt }
-  named-good names.Ptem ps = refl
-  named-good names.Pckt ps = tt
+  named-good : (name : ModuleName) (ps : List (Standing C)) → GoodModule (module_named {C = C} name)
+  named-good names.Ldterm ps = record {
+    kind = record { termios = refl; column = omega arith; line = omega arith; work = tt };
+    queues = (new-good _ 512 128 (omega arith) (omega arith) (omega arith), new-good _ 512 128 (omega arith) (omega arith) (omega arith));
+    has = refl;
+  }
+  named-good names.Ptem ps = record { kind = refl; queues = tt; has = refl }
+  named-good names.Pckt ps = record { kind = tt; queues = tt; has = refl }
 
-  one-more : (name : ModuleName) (ps : List (Module C)) → may_stand (Some (module_named name)) ps ≡ true → GoodModules ps → GoodModules (module_named name ∷ ps)
+  one-more : (name : ModuleName) (ps : List (Standing C)) → may_stand (Some (module_named name)) ps ≡ true → GoodModules ps → GoodModules (module_named name ∷ ps)
   one-more name ps may good = record {
     each = (named-good name ps, good.each);
     few = under (length ps) MODULES (and_parts (nat_lt (length ps) MODULES) (not (stands module_name (module_name (module_named {C = C} name)) ps)) may).0;
@@ -134,11 +138,11 @@ module _ {C : Type 0} where
       pushed-holds side (OpenGood side) GoodModules (survives side) (module_named name) s (one-more name (stream side s).modules may (all.0.0 side).modules) all
 
   -- closes: when all modules are taken, none is left
-  pub with-get : (side : Side) (ps : List (Module C)) (names : List QueueName) (s : State C) → (stream side (record (with_modules side ps s) { enabled = names })).modules ≡ ps
+  pub with-get : (side : Side) (ps : List (Standing C)) (names : List QueueName) (s : State C) → (stream side (record (with_modules side ps s) { enabled = names })).modules ≡ ps
   with-get Master ps names s = refl
   with-get Slave ps names s = refl
 
-  all-gone : (rule : Rule) (side : Side) (ps : List (Module C)) (s : State C) → (stream side s).modules ≡ ps → (stream side (all_taken rule side ps s).state).modules ≡ []
+  all-gone : (rule : Rule) (side : Side) (ps : List (Standing C)) (s : State C) → (stream side s).modules ≡ ps → (stream side (all_taken rule side ps s).state).modules ≡ []
   all-gone rule side [] s is = is
   all-gone rule side (p ∷ ps) s is = all-gone rule side ps (top_taken rule side (p ∷ ps) s).state (with-get side ps [] s)
 

@@ -18,13 +18,13 @@ use Rattle.strm_types.specs.declared.output.TheConstants.{COLUMN_MAX}
 use Rattle.strm_types.specs.declared.rules.Rule.TheVariants.{LineFull, LineOver, Flushed, SignalKey}
 use Rattle.strm_types.specs.declared.spots.Spot.{Spot}
 use Rattle.strm_types.specs.Cells.{Cells, cells_made}
-use Rattle.strm_types.specs.Deliver.{Acted, Parcel}
+use Rattle.strm_types.specs.Deliver.{Acted, Parcel, onward}
 use Rattle.strm_types.specs.Flushing.{flush_bytes, flush_message}
 use Rattle.strm_types.specs.Input.{back_on, begins_next, cells_left, finished, input_begins, is_data, left_of, made_of, next_stage, passes, stage_at, stages, stages_done, then_on, to_treat, treats, with_left}
 use Rattle.strm_types.specs.Keys.{restarts}
 use Rattle.strm_types.specs.Kinds.{is_body_kind, is_control_kind}
 use Rattle.strm_types.specs.LdtermServes.{ldterm_serves}
-use Rattle.strm_types.specs.Ldterms.{Ldterm, Stage, Between, Begun, Answered, onward, queue_at, sends, waits_there}
+use Rattle.strm_types.specs.Ldterms.{Discipline, Stage, Between, Begun, Answered, queue_at, sends, waits_there}
 use Rattle.strm_types.specs.Lines.{ErasesByte, ErasesWord, Types, edited, has_room, without_end, without_last, without_word}
 use Rattle.strm_types.specs.Message.{Message, cells_of, data_message, rank_of}
 use Rattle.strm_types.specs.Output.{posts}
@@ -34,10 +34,10 @@ use Rattle.strm_types.specs.Termios.{icanon, imaxbel, noflsh, opost}
 use Rattle.strm_types.specs.Typing.{added, bare, begins, both_ways, dropped, echo_dir, echo_grows, echo_lost, echo_stands, echoed, gathered_up, grown, is_blank_cell, is_lnext, lost, sigint, signals, sigquit, sigtstp, strikes, stroke_at, struck, up_alone}
 use Rattle.strm_types.proofs.Outputs.{posts-low}
 use Rattle.strm_types.proofs.Ranked.{Ordered-put_back}
-use Rattle.strm_laws.specs.Restorable.{GoodLdterm, GoodMessage, GoodQueue, IsWork, StandsOn, goes_out, is_part_kind}
+use Rattle.strm_laws.specs.Restorable.{GoodMessage, GoodQueue, IsWork, StandsOn, goes_out, is_part_kind}
 use Rattle.strm_laws.proofs.GoodDeliveries.{AreGood, all-join}
 use Rattle.strm_laws.proofs.GoodHeads.{data-good, flush-good, signal-good, start-good, stop-good}
-use Rattle.strm_laws.proofs.GoodLdterms.{GoodAtLdterm, either-ldterm, quiet-good, stands_at, queue-good, with-queue-good}
+use Rattle.strm_laws.proofs.GoodLdterms.{GoodAtLdterm, GoodDiscipline, either-ldterm, quiet-good, stands_at, queue-good, with-queue-good}
 use Rattle.strm_laws.proofs.GoodQueues.{all-put_back, put-good}
 use Rattle.strm_laws.proofs.QueueOrder.{grown-order}
 
@@ -112,21 +112,21 @@ module _ {C : Type 0} where
 
 module _ {C : Type 0} (cells : Cells C) (here : Spot) where
   -- what typing changes of ldterm
-  typed : (l : Ldterm C) (stopped lnext : Bool) (line gathered : List C) (stage : Stage C) → length line ≤ LINE_MAX → GoodLdterm l
-      → GoodLdterm (record l { stopped = stopped; after_lnext = lnext; line = line; gathered = gathered; stage = stage })
+  typed : (l : Discipline C) (stopped lnext : Bool) (line gathered : List C) (stage : Stage C) → length line ≤ LINE_MAX → GoodDiscipline l
+      → GoodDiscipline (record l { stopped = stopped; after_lnext = lnext; line = line; gathered = gathered; stage = stage })
   typed l stopped lnext line gathered stage few good = record { termios = good.termios; column = good.column; line = few; read_queue = good.read_queue; write_queue = good.write_queue; work = good.work }
 
   gathered-good : (gathered : List C) → AreGood GoodMessage (gathered_up cells here gathered)
   gathered-good [] = tt
   gathered-good (c ∷ more) = (data-good (c ∷ more), tt)
 
-  signals-good : (asked : FlushAsked) (signal : ℕ) (c : C) (l : Ldterm C) → GoodLdterm l → GoodAtLdterm (signals cells here asked signal c l)
+  signals-good : (asked : FlushAsked) (signal : ℕ) (c : C) (l : Discipline C) → GoodDiscipline l → GoodAtLdterm (signals cells here asked signal c l)
   signals-good asked signal c l good = at (noflsh l.termios)
     where
       key : Parcel C
       key = onward Up here (bare kinds.Pcsig (signal ∷ []))
 
-      at : (kept : Bool) → GoodAtLdterm (cond {A = Acted C (Ldterm C)} kept
+      at : (kept : Bool) → GoodAtLdterm (cond {A = Acted C (Discipline C)} kept
           (record { state = record l { gathered = [] }; notes = []; sent = gathered_up cells here l.gathered ++ key ∷ []; gone = lost cells here SignalKey (c ∷ []) })
           (record { state = record l { gathered = []; line = [] }; notes = []; sent = gathered_up cells here l.gathered ++ onward Up here (flush_message (flush_bytes asked)) ∷ key ∷ []; gone = lost cells here Flushed l.line ++ lost cells here SignalKey (c ∷ []) }))
       at true = record {
@@ -138,7 +138,7 @@ module _ {C : Type 0} (cells : Cells C) (here : Spot) where
         sent = all-join (λ q. GoodMessage q.message) (gathered_up cells here l.gathered) (onward Up here (flush_message (flush_bytes asked)) ∷ key ∷ []) (gathered-good l.gathered) (flush-good (flush_bytes asked), (signal-good (signal ∷ []), tt));
       }
 
-  added-good : (c : C) (l : Ldterm C) → GoodLdterm l → GoodAtLdterm (added cells here c l)
+  added-good : (c : C) (l : Discipline C) → GoodDiscipline l → GoodAtLdterm (added cells here c l)
   added-good c l good = at (icanon l.termios) (has_room l.line) (imaxbel l.termios)
     where
       at : (canonical room bell : Bool) →
@@ -150,18 +150,18 @@ module _ {C : Type 0} (cells : Cells C) (here : Spot) where
       at true false true = record { state = good; sent = tt }
       at true false false = record { state = typed l l.stopped l.after_lnext [] l.gathered l.stage (omega arith) good; sent = tt }
 
-  stops-sent : (stopped : Bool) (l : Ldterm C) → AreGood {C = C} GoodMessage (cond stopped [] (onward Down here (bare kinds.Stop []) ∷ []))
+  stops-sent : (stopped : Bool) (l : Discipline C) → AreGood {C = C} GoodMessage (cond stopped [] (onward Down here (bare kinds.Stop []) ∷ []))
   stops-sent true l = tt
   stops-sent false l = (stop-good, tt)
 
   -- a line that an edit leaves, or that goes up
-  edited-good : (line : List C) (l : Ldterm C) → length line ≤ length l.line → GoodLdterm l → GoodLdterm (record l { line = line })
+  edited-good : (line : List C) (l : Discipline C) → length line ≤ length l.line → GoodDiscipline l → GoodDiscipline (record l { line = line })
   edited-good line l fewer good = typed l l.stopped l.after_lnext line l.gathered l.stage (omega (arith, fewer, good.line)) good
 
-  sent-good : (line : List C) (l : Ldterm C) → GoodLdterm l → GoodAtLdterm (sends (onward Up here (data_message line) ∷ []) (record l { line = [] }))
+  sent-good : (line : List C) (l : Discipline C) → GoodDiscipline l → GoodAtLdterm (sends (onward Up here (data_message line) ∷ []) (record l { line = [] }))
   sent-good line l good = record { state = typed l l.stopped l.after_lnext [] l.gathered l.stage (omega arith) good; sent = (data-good line, tt) }
 
-  strikes-good : (key : Key) (c : C) (l : Ldterm C) → GoodLdterm l → GoodAtLdterm (strikes cells here key c l)
+  strikes-good : (key : Key) (c : C) (l : Discipline C) → GoodDiscipline l → GoodAtLdterm (strikes cells here key c l)
   strikes-good keys.Stop c l good = record { state = typed l true l.after_lnext l.line l.gathered l.stage good.line good; sent = stops-sent l.stopped l }
   strikes-good keys.Start c l good = record { state = good; sent = tt }
   strikes-good keys.Intr c l good = signals-good both_ways sigint c l good
@@ -177,23 +177,23 @@ module _ {C : Type 0} (cells : Cells C) (here : Spot) where
   strikes-good keys.Delimiter c l good = sent-good (l.line ++ c ∷ []) l good
   strikes-good keys.Ordinary c l good = added-good c l good
 
-  begins-good : (c : C) (l : Ldterm C) → GoodLdterm l → GoodAtLdterm (begins cells here c l)
+  begins-good : (c : C) (l : Discipline C) → GoodDiscipline l → GoodAtLdterm (begins cells here c l)
   begins-good c l good = either-ldterm (l.stopped && restarts l.termios (stroke_at cells here c l)) _ _
       (record { state = typed l false l.after_lnext l.line l.gathered (Begun true c) good.line good; sent = (start-good, tt) })
       (record { state = typed l l.stopped l.after_lnext l.line l.gathered (Begun false c) good.line good; sent = tt })
 
-  left-good : (rest : List C) (l : Ldterm C) → GoodLdterm l → GoodLdterm (with_left rest l)
+  left-good : (rest : List C) (l : Discipline C) → GoodDiscipline l → GoodDiscipline (with_left rest l)
   left-good rest l good = record { termios = good.termios; column = good.column; line = good.line; read_queue = good.read_queue; write_queue = good.write_queue; work = at l.in_work good.work }
     where
       at : (o : Option (Message C)) → IsWork o → IsWork (option_map (left_of rest) o)
       at None is = tt
       at (Some m) is = stands-left is_data m rest is.kind is
 
-  struck-good : (started : Bool) (c : C) (l : Ldterm C) → GoodLdterm l → GoodAtLdterm (struck cells here started c l)
+  struck-good : (started : Bool) (c : C) (l : Discipline C) → GoodDiscipline l → GoodAtLdterm (struck cells here started c l)
   struck-good started c l good =
       let key = (stroke_at cells here c l).key in
       let byte = cells.mapped (stroke_at cells here c l).byte c in
-      let begun : Ldterm C = record l { after_lnext = is_lnext key } in
+      let begun : Discipline C = record l { after_lnext = is_lnext key } in
       let t = strikes-good key byte begun (typed l l.stopped (is_lnext key) l.line l.gathered l.stage good.line good) in
       record { state = record { termios = t.state.termios; column = t.state.column; line = t.state.line; read_queue = t.state.read_queue; write_queue = t.state.write_queue; work = t.state.work }; sent = t.sent }
 
@@ -208,7 +208,7 @@ module _ {C : Type 0} (cells : Cells C) (here : Spot) where
   unfolding data_message
   echo-stands new = record { good = data-good new; kind = refl }
 
-  echoed-good : (made : ℕ) (echo : List ℕ) (l : Ldterm C) → GoodLdterm l → GoodAtLdterm (echoed cells here made echo l)
+  echoed-good : (made : ℕ) (echo : List ℕ) (l : Discipline C) → GoodDiscipline l → GoodAtLdterm (echoed cells here made echo l)
   echoed-good made [] l good = quiet-good l good
   echoed-good made (b ∷ bytes) l good =
       let new = cells_made cells (echo_dir cells here) made (b ∷ bytes) in
@@ -223,7 +223,7 @@ module _ {C : Type 0} (cells : Cells C) (here : Spot) where
         sent = tt;
       }))
 
-  pub next-good : (made : ℕ) (l : Ldterm C) → GoodLdterm l → GoodAtLdterm (next_stage cells here made l)
+  pub next-good : (made : ℕ) (l : Discipline C) → GoodDiscipline l → GoodAtLdterm (next_stage cells here made l)
   next-good made l good = at l.stage
     where
       next : (xs : List C) → GoodAtLdterm (begins_next cells here xs l)
@@ -235,7 +235,7 @@ module _ {C : Type 0} (cells : Cells C) (here : Spot) where
       at (Begun started c) = struck-good started c l good
       at (Answered echo) = echoed-good made echo (record l { stage = Between }) (typed l l.stopped l.after_lnext l.line l.gathered Between good.line good)
 
-  finished-good : (l : Ldterm C) → GoodLdterm l → GoodAtLdterm (finished cells here l)
+  finished-good : (l : Discipline C) → GoodDiscipline l → GoodAtLdterm (finished cells here l)
   finished-good l good = record {
     state = record { termios = good.termios; column = good.column; line = good.line; read_queue = at l.in_work good.work; write_queue = good.write_queue; work = tt };
     sent = gathered-good l.gathered;
@@ -249,14 +249,14 @@ module _ {C : Type 0} (cells : Cells C) (here : Spot) where
       at None is = good.read_queue
       at (Some m) is = back-good waits_there m l.read_queue (record { good = is.good; kind = of-data m.kind is.kind }) good.read_queue
 
-  then-good : (made : ℕ) (t : Acted C (Ldterm C)) (next : ℕ → Ldterm C → Acted C (Ldterm C)) → GoodAtLdterm t → GoodAtLdterm (next (made + made_of t.gone) t.state) → GoodAtLdterm (then_on made t next)
+  then-good : (made : ℕ) (t : Acted C (Discipline C)) (next : ℕ → Discipline C → Acted C (Discipline C)) → GoodAtLdterm t → GoodAtLdterm (next (made + made_of t.gone) t.state) → GoodAtLdterm (then_on made t next)
   then-good made t next first second = at (is_none_left t.sent)
     where
-      at : (none : Bool) → (let u = next (made + made_of t.gone) t.state in GoodAtLdterm (cond {A = Acted C (Ldterm C)} none (record { state = u.state; notes = t.notes ++ u.notes; sent = u.sent; gone = t.gone ++ u.gone }) t))
+      at : (none : Bool) → (let u = next (made + made_of t.gone) t.state in GoodAtLdterm (cond {A = Acted C (Discipline C)} none (record { state = u.state; notes = t.notes ++ u.notes; sent = u.sent; gone = t.gone ++ u.gone }) t))
       at true = record { state = second.state; sent = second.sent }
       at false = first
 
-  stages-good : (n made : ℕ) (l : Ldterm C) → GoodLdterm l → GoodAtLdterm (stages cells here n made l)
+  stages-good : (n made : ℕ) (l : Discipline C) → GoodDiscipline l → GoodAtLdterm (stages cells here n made l)
   stages-good zero made l good = finished-good l good
   stages-good (suc more) made l good =
       let t = next_stage cells here made l in
@@ -264,19 +264,19 @@ module _ {C : Type 0} (cells : Cells C) (here : Spot) where
       then-good made t (stages cells here more) first (stages-good more (made + made_of t.gone) t.state first.state)
 
   -- a message that passes whole
-  passes-good : (way : Way) (m : Message C) (rest : List (Message C)) (l : Ldterm C) → GoodMessage m → AllByRecursion (λ m. StandsOn (stands_at way) m) rest → IsOrdered rest → GoodLdterm l → GoodAtLdterm (passes cells here way m rest l).acted
+  passes-good : (way : Way) (m : Message C) (rest : List (Message C)) (l : Discipline C) → GoodMessage m → AllByRecursion (λ m. StandsOn (stands_at way) m) rest → IsOrdered rest → GoodDiscipline l → GoodAtLdterm (passes cells here way m rest l).acted
   passes-good way m rest l fits all order good = record {
     state = with-queue-good way (left_with rest (queue_at way l)) l (record { messages = all; order = order; marks = (queue-good way l good).marks }) good;
     sent = (fits, tt);
   }
 
-  input-good : (stop : Option ℕ) (made : ℕ) (ms : List (Message C)) (l : Ldterm C) → AllByRecursion (λ m. StandsOn waits_there m) ms → IsOrdered ms → GoodLdterm l → GoodAtLdterm (input_begins cells here stop made ms l).acted
+  input-good : (stop : Option ℕ) (made : ℕ) (ms : List (Message C)) (l : Discipline C) → AllByRecursion (λ m. StandsOn waits_there m) ms → IsOrdered ms → GoodDiscipline l → GoodAtLdterm (input_begins cells here stop made ms l).acted
   input-good stop made [] l all order good = quiet-good l good
   input-good stop made (m ∷ rest) l all order good = at (is_data m.kind) refl
     where
       at : (treated : Bool) → is_data m.kind ≡ treated → GoodAtLdterm (cond treated (treats cells here (unwrap_or stop (length (cells_of m))) made (record l { read_queue = left_with rest l.read_queue; in_work = Some m })) (passes cells here Up m rest l)).acted
       at true is =
-          let begun : Ldterm C = record l { read_queue = left_with rest l.read_queue; in_work = Some m } in
+          let begun : Discipline C = record l { read_queue = left_with rest l.read_queue; in_work = Some m } in
           stages-good (3 * unwrap_or stop (length (cells_of m)) - stages_done begun.stage) made begun
           (record { termios = good.termios; column = good.column; line = good.line; read_queue = record { messages = all.1; order = order.1; marks = good.read_queue.marks }; write_queue = good.write_queue; work = record { good = all.0.good; kind = is } })
       at false is = passes-good Up m rest l all.0.good all.1 order.1 good
@@ -287,10 +287,10 @@ module _ {C : Type 0} (cells : Cells C) (here : Spot) where
     left : (q : Queue C) → GoodQueue goes_out q → GoodQueue goes_out (back_on t.left q)
     column : t.column ≤ COLUMN_MAX
 
-  unchanged-good : (m : Message C) (l : Ldterm C) → GoodMessage m → GoodLdterm l → GoodOutgoing (unchanged m l)
+  unchanged-good : (m : Message C) (l : Discipline C) → GoodMessage m → GoodDiscipline l → GoodOutgoing (unchanged m l)
   unchanged-good m l fits good = record { messages = (fits, tt); left = λ q is. is; column = good.column }
 
-  posted-good : (stop : Option ℕ) (made : ℕ) (xs : List C) (m : Message C) (l : Ldterm C) → is_data m.kind ≡ true → StandsOn goes_out m → GoodLdterm l → GoodOutgoing (posted cells here stop made xs m l)
+  posted-good : (stop : Option ℕ) (made : ℕ) (xs : List C) (m : Message C) (l : Discipline C) → is_data m.kind ≡ true → StandsOn goes_out m → GoodDiscipline l → GoodOutgoing (posted cells here stop made xs m l)
   posted-good stop made [] m l is fits good = unchanged-good m l fits.good good
   posted-good stop made (c ∷ rest) m l is fits good =
       let most = unwrap_or stop (length (c ∷ rest)) in
@@ -304,7 +304,7 @@ module _ {C : Type 0} (cells : Cells C) (here : Spot) where
       given [] = tt
       given (x ∷ xs) = (data-left m (x ∷ xs) is fits.good, tt)
 
-  outgoing-good : (stop : Option ℕ) (made : ℕ) (m : Message C) (l : Ldterm C) → StandsOn goes_out m → GoodLdterm l → GoodOutgoing (outgoing cells here stop made m l)
+  outgoing-good : (stop : Option ℕ) (made : ℕ) (m : Message C) (l : Discipline C) → StandsOn goes_out m → GoodDiscipline l → GoodOutgoing (outgoing cells here stop made m l)
   outgoing-good stop made m l fits good = at (is_data m.kind) refl (opost l.termios)
     where
       at : (taken : Bool) → is_data m.kind ≡ taken → (posts : Bool) → GoodOutgoing (cond (taken && posts) (posted cells here stop made (cells_of m) m l) (unchanged m l))
@@ -316,7 +316,7 @@ module _ {C : Type 0} (cells : Cells C) (here : Spot) where
   down-good [] all = tt
   down-good (m ∷ ms) all = (all.0, down-good ms all.1)
 
-  output-good : (stop : Option ℕ) (made : ℕ) (ms : List (Message C)) (l : Ldterm C) → AllByRecursion (λ m. StandsOn goes_out m) ms → IsOrdered ms → GoodLdterm l → GoodAtLdterm (output_serves cells here stop made ms l).acted
+  output-good : (stop : Option ℕ) (made : ℕ) (ms : List (Message C)) (l : Discipline C) → AllByRecursion (λ m. StandsOn goes_out m) ms → IsOrdered ms → GoodDiscipline l → GoodAtLdterm (output_serves cells here stop made ms l).acted
   output-good stop made [] l all order good = quiet-good l good
   output-good stop made (m ∷ rest) l all order good =
       let t = outgoing cells here stop made m l in
@@ -327,10 +327,10 @@ module _ {C : Type 0} (cells : Cells C) (here : Spot) where
       }
 
 module _ {C : Type 0} (cells : Cells C) where
-  serves-at : (way : Way) (here : Spot) (again : Bool) (made : ℕ) (stop : Option ℕ) (l : Ldterm C) → GoodLdterm l → GoodAtLdterm (ldterm_serves cells (record here { way = way }) made again stop l).acted
+  serves-at : (way : Way) (here : Spot) (again : Bool) (made : ℕ) (stop : Option ℕ) (l : Discipline C) → GoodDiscipline l → GoodAtLdterm (ldterm_serves cells (record here { way = way }) made again stop l).acted
   serves-at Down here again made stop l good = output-good cells (record here { way = Down }) stop made l.write_queue.messages l good.write_queue.messages good.write_queue.order good
   serves-at Up here false made stop l good = input-good cells (record here { way = Up }) stop made l.read_queue.messages l good.read_queue.messages good.read_queue.order good
   serves-at Up here true made stop l good = stages-good cells (record here { way = Up }) (3 * unwrap_or stop (to_treat l) - stages_done l.stage) made l good
 
-  pub serves-good : (here : Spot) (made : ℕ) (again : Bool) (stop : Option ℕ) (l : Ldterm C) → GoodLdterm l → GoodAtLdterm (ldterm_serves cells here made again stop l).acted
+  pub serves-good : (here : Spot) (made : ℕ) (again : Bool) (stop : Option ℕ) (l : Discipline C) → GoodDiscipline l → GoodAtLdterm (ldterm_serves cells here made again stop l).acted
   serves-good here made again stop l good = serves-at here.way here again made stop l good

@@ -1,11 +1,12 @@
 -- What is put at ldterm leaves it good, and what it sends of a good message is good (ldterm(7M)).
 use Rattle.std.proofs.Common.{ℕ, ◌≡◌, ◌≤◌, Bool, true, false, cond, List, [], ◌∷◌, length, refl, arith}
 use Rattle.std.proofs.lemmas.Bool.{false≢true}
-use Rattle.std.specs.Prelude.{◌==◌, ◌&&◌, ◌||◌, not, Option, None, Some}
+use Rattle.std.specs.Prelude.{◌==◌, ◌&&◌, ◌||◌, not, Option, None, Some, unwrap_or}
 use Rattle.strm_types.specs.declared.flushing.FlushAsked.{FlushAsked}
 use Rattle.strm_types.specs.declared.ioctls.Ioc.{Ioc}
 use Rattle.strm_types.specs.declared.ioctls.TheConstants.{TCSETSF}
 use Rattle.strm_types.specs.declared.keys.TheConstants.{LINE_MAX}
+use Rattle.strm_types.specs.declared.output.TheConstants.{COLUMN_MAX}
 use Rattle.strm_types.specs.declared.kinds.Band.{Band}
 use Rattle.strm_types.specs.declared.kinds.MsgKind.{MsgKind}
 use Rattle.strm_types.specs.declared.names.Way.{Way}
@@ -14,25 +15,28 @@ use Rattle.strm_types.specs.declared.spots.Spot.{Spot}
 use Rattle.strm_types.specs.declared.termios.Termios.{Termios}
 use Rattle.strm_types.specs.Acks.{payload}
 use Rattle.strm_types.specs.Commands.{is_acked, is_ioctl, sets_termios}
-use Rattle.strm_types.specs.Deliver.{Acted}
+use Rattle.strm_types.specs.Deliver.{Acted, onward}
 use Rattle.strm_types.specs.Emptied.{of_data}
 use Rattle.strm_types.specs.Flushing.{asked_by, flush_message, is_flush, read_flush}
 use Rattle.strm_types.specs.Ioctls.{read_ioc}
 use Rattle.strm_types.specs.LdtermPuts.{goes_on, ldterm_puts, passes_on_way, told_by_header, told_termios, waits_behind, waits_on}
-use Rattle.strm_types.specs.Ldterms.{Ldterm, both, flush_passes, line_flushed, onward, queue_at, queue_flushed, queued_at, read_flushed, sends, takes_band_0, waits_there, with_queue_at, without_line, write_flushed}
+use Rattle.strm_types.specs.LdtermStands.{disciplined}
+use Rattle.strm_types.specs.Ldterms.{Discipline, Ldterm, both, flush_passes, line_flushed, queue_at, queue_flushed, queued_at, read_flushed, sends, takes_band_0, waits_there, with_queue_at, without_line, write_flushed}
 use Rattle.strm_types.specs.Message.{Message, has_parts}
 use Rattle.strm_types.specs.Options.{mode_message}
 use Rattle.strm_types.specs.Queue.{Queue}
 use Rattle.strm_types.specs.Service.{line_gone}
+use Rattle.strm_types.specs.Standings.{QueuePair, new_pair}
 use Rattle.strm_types.specs.TakenUp.{ends_lines, input_flushed, line_up, read_mode_of, taken_up, termios_taken}
 use Rattle.strm_types.specs.Termios.{read_termios, tostop}
 use Rattle.strm_types.specs.Typing.{up_alone}
 use Rattle.strm_types.specs.declared.rules.Rule.TheVariants.{Flushed}
-use Rattle.strm_laws.specs.Restorable.{GoodLdterm, GoodMessage, GoodQueue, IsWhole, StandsOn, goes_out}
+use Rattle.strm_laws.specs.Restorable.{GoodLdterm, GoodMessage, GoodModule, GoodPair, GoodQueue, IsWhole, IsWork, StandsOn, goes_out}
+use Rattle.strm_laws.specs.Stacked.{ldterm_stands}
 use Rattle.strm_laws.proofs.GoodDeliveries.{AreGood, all-join}
 use Rattle.strm_laws.proofs.GoodHeads.{data-good, flush-good, mode-good}
 use Rattle.strm_laws.proofs.GoodPtems.{read-whole}
-use Rattle.strm_laws.proofs.GoodQueues.{behind-good, put-good}
+use Rattle.strm_laws.proofs.GoodQueues.{behind-good, new-good, put-good}
 
 -- the kinds that stand on its queue of a way
 abbrev pub stands_at : Way → MsgKind → Bool
@@ -40,35 +44,60 @@ stands_at Up kind = waits_there kind
 stands_at Down kind = goes_out kind
 
 module _ {C : Type 0} where
-  pub queue-good : (way : Way) (l : Ldterm C) → GoodLdterm l → GoodQueue (stands_at way) (queue_at way l)
+  -- an ldterm with its queues, whose parts are as an image may hold them
+  pub record GoodDiscipline (l : Discipline C) : Type 0 where
+    pub termios : IsWhole l.termios
+    pub column : l.column ≤ COLUMN_MAX
+    pub line : length l.line ≤ LINE_MAX
+    pub read_queue : GoodQueue waits_there l.read_queue
+    pub write_queue : GoodQueue goes_out l.write_queue
+    pub work : IsWork l.in_work
+
+  pair-with : (queues : Option (QueuePair C)) → GoodPair queues → GoodQueue waits_there (unwrap_or queues new_pair).read × GoodQueue goes_out (unwrap_or queues new_pair).write
+  pair-with None good = (new-good waits_there 512 128 (omega arith) (omega arith) (omega arith), new-good goes_out 512 128 (omega arith) (omega arith) (omega arith))
+  pair-with (Some pair) good = good
+
+  pub good-with : (l : Ldterm C) (queues : Option (QueuePair C)) → GoodLdterm l → GoodPair queues → GoodDiscipline (disciplined l queues)
+  good-with l queues own good =
+      let pair = pair-with queues good in
+      record { termios = own.termios; column = own.column; line = own.line; read_queue = pair.0; write_queue = pair.1; work = own.work }
+
+  pub good-stands : (l : Discipline C) → GoodDiscipline l → GoodModule (ldterm_stands l)
+  good-stands l good = record {
+    kind = record { termios = good.termios; column = good.column; line = good.line; work = good.work };
+    queues = (good.read_queue, good.write_queue);
+    has = refl;
+  }
+
+  pub queue-good : (way : Way) (l : Discipline C) → GoodDiscipline l → GoodQueue (stands_at way) (queue_at way l)
   queue-good Up l good = good.read_queue
   queue-good Down l good = good.write_queue
 
-  pub with-queue-good : (way : Way) (q : Queue C) (l : Ldterm C) → GoodQueue (stands_at way) q → GoodLdterm l → GoodLdterm (with_queue_at way q l)
+  pub with-queue-good : (way : Way) (q : Queue C) (l : Discipline C) → GoodQueue (stands_at way) q → GoodDiscipline l → GoodDiscipline (with_queue_at way q l)
   with-queue-good Up q l fits good = record { termios = good.termios; column = good.column; line = good.line; read_queue = fits; write_queue = good.write_queue; work = good.work }
   with-queue-good Down q l fits good = record { termios = good.termios; column = good.column; line = good.line; read_queue = good.read_queue; write_queue = fits; work = good.work }
 
   -- what ldterm does is good, and what it sends
-  pub record GoodAtLdterm (t : Acted C (Ldterm C)) : Type 0 where
-    pub state : GoodLdterm t.state
+  pub record GoodAtLdterm (t : Acted C (Discipline C)) : Type 0 where
+    pub state : GoodDiscipline t.state
     pub sent : AreGood GoodMessage t.sent
 
-  pub either-ldterm : (b : Bool) (one another : Acted C (Ldterm C)) → GoodAtLdterm one → GoodAtLdterm another → GoodAtLdterm (cond b one another)
+  pub either-ldterm : (b : Bool) (one another : Acted C (Discipline C)) → GoodAtLdterm one → GoodAtLdterm another → GoodAtLdterm (cond b one another)
   either-ldterm true one another first second = first
   either-ldterm false one another first second = second
 
-  both-good : (t : Acted C (Ldterm C)) (next : Ldterm C → Acted C (Ldterm C)) → GoodAtLdterm t → (GoodLdterm t.state → GoodAtLdterm (next t.state)) → GoodAtLdterm (both t next)
+  both-good : (t : Acted C (Discipline C)) (next : Discipline C → Acted C (Discipline C)) → GoodAtLdterm t → (GoodDiscipline t.state → GoodAtLdterm (next t.state)) → GoodAtLdterm (both t next)
   both-good t next first second =
       let behind = second first.state in
       record { state = behind.state; sent = all-join (λ q. GoodMessage q.message) t.sent (next t.state).sent first.sent behind.sent }
 
-  pub quiet-good : (l : Ldterm C) → GoodLdterm l → GoodAtLdterm (sends [] l)
+  pub quiet-good : (l : Discipline C) → GoodDiscipline l → GoodAtLdterm (sends [] l)
   quiet-good l good = record { state = good; sent = tt }
 
-  line-none : (l : Ldterm C) → GoodLdterm l → GoodLdterm (without_line l)
+  line-none : (l : Discipline C) → GoodDiscipline l → GoodDiscipline (without_line l)
   line-none l good = record { termios = good.termios; column = good.column; line = omega arith; read_queue = good.read_queue; write_queue = good.write_queue; work = good.work }
 
-  queued-good : (way : Way) (m : Message C) (l : Ldterm C) → StandsOn (stands_at way) m → GoodLdterm l → GoodAtLdterm (queued_at way m l)
+  queued-good : (way : Way) (m : Message C) (l : Discipline C) → StandsOn (stands_at way) m → GoodDiscipline l → GoodAtLdterm (queued_at way m l)
   queued-good Up m l fits good = record {
     state = record { termios = good.termios; column = good.column; line = good.line; read_queue = put-good waits_there m l.read_queue fits good.read_queue; write_queue = good.write_queue; work = good.work };
     sent = tt;
@@ -79,29 +108,29 @@ module _ {C : Type 0} where
   }
 
   -- flushes
-  flushed-good : (way : Way) (here : Spot) (band : Option Band) (l : Ldterm C) → GoodLdterm l → GoodAtLdterm (queue_flushed way here band l)
+  flushed-good : (way : Way) (here : Spot) (band : Option Band) (l : Discipline C) → GoodDiscipline l → GoodAtLdterm (queue_flushed way here band l)
   flushed-good way here band l good = record { state = with-queue-good way _ l (behind-good (stands_at way) (of_data band) (queue_at way l) (queue-good way l good)) good; sent = tt }
 
-  line-good : (here : Spot) (band : Option Band) (l : Ldterm C) → GoodLdterm l → GoodAtLdterm (line_flushed here band l)
+  line-good : (here : Spot) (band : Option Band) (l : Discipline C) → GoodDiscipline l → GoodAtLdterm (line_flushed here band l)
   line-good here band l good = either-ldterm (takes_band_0 band) (record (sends [] (without_line l)) { gone = line_gone here.side Flushed l.line }) (sends [] l) (record { state = line-none l good; sent = tt }) (quiet-good l good)
 
-  read-good : (here : Spot) (asked : FlushAsked) (l : Ldterm C) → GoodLdterm l → GoodAtLdterm (read_flushed here asked l)
+  read-good : (here : Spot) (asked : FlushAsked) (l : Discipline C) → GoodDiscipline l → GoodAtLdterm (read_flushed here asked l)
   read-good here asked l good =
       let t = queue_flushed Up here asked.band l in
       either-ldterm asked.for_read (both t (line_flushed here asked.band)) (sends [] l)
       (both-good t (line_flushed here asked.band) (flushed-good Up here asked.band l good) (λ is. line-good here asked.band t.state is)) (quiet-good l good)
 
-  write-good : (here : Spot) (asked : FlushAsked) (l : Ldterm C) → GoodLdterm l → GoodAtLdterm (write_flushed here asked l)
+  write-good : (here : Spot) (asked : FlushAsked) (l : Discipline C) → GoodDiscipline l → GoodAtLdterm (write_flushed here asked l)
   write-good here asked l good =
-      let quiet : Ldterm C = record l { echoing = l.echoing && not (takes_band_0 asked.band) } in
+      let quiet : Discipline C = record l { echoing = l.echoing && not (takes_band_0 asked.band) } in
       either-ldterm asked.for_write (queue_flushed Down here asked.band quiet) (sends [] l)
       (flushed-good Down here asked.band quiet (record { termios = good.termios; column = good.column; line = good.line; read_queue = good.read_queue; write_queue = good.write_queue; work = good.work })) (quiet-good l good)
 
   module _ (here : Spot) (m : Message C) (fits : GoodMessage m) where
-    passes-good : (l : Ldterm C) → GoodLdterm l → GoodAtLdterm (goes_on here m l)
+    passes-good : (l : Discipline C) → GoodDiscipline l → GoodAtLdterm (goes_on here m l)
     passes-good l good = record { state = good; sent = (fits, tt) }
 
-    flush-passes : (l : Ldterm C) → GoodLdterm l → GoodAtLdterm (flush_passes here m l)
+    flush-passes : (l : Discipline C) → GoodDiscipline l → GoodAtLdterm (flush_passes here m l)
     flush-passes l good =
         let asked = asked_by m.plain in
         let t = read_flushed here asked l in
@@ -109,10 +138,10 @@ module _ {C : Type 0} where
         (both-good t (write_flushed here asked) (read-good here asked l good) (λ is. write-good here asked t.state is)) (λ is. passes-good (write_flushed here asked t.state).state is)
 
     -- the answer that sets a termios
-    input-good : (command : ℕ) (l : Ldterm C) → GoodLdterm l → GoodAtLdterm (input_flushed here command l)
+    input-good : (command : ℕ) (l : Discipline C) → GoodDiscipline l → GoodAtLdterm (input_flushed here command l)
     input-good command l good =
         let t = read_flushed here up_alone l in
-        let told : Ldterm C → Acted C (Ldterm C) = sends (onward Up here (flush_message (read_flush None)) ∷ []) in
+        let told : Discipline C → Acted C (Discipline C) = sends (onward Up here (flush_message (read_flush None)) ∷ []) in
         either-ldterm (command == TCSETSF) (both t told) (sends [] l) (both-good t told (read-good here up_alone l good) (λ is. record { state = is; sent = (flush-good (read_flush None), tt) })) (quiet-good l good)
 
     ups-good : (ends : Bool) (line : List C) → AreGood GoodMessage (cond ends (line_up here line) [])
@@ -120,7 +149,7 @@ module _ {C : Type 0} where
     ups-good true (c ∷ more) = (data-good (c ∷ more), tt)
     ups-good false line = tt
 
-    set-good : (t : Termios) → IsWhole t → (l : Ldterm C) → GoodLdterm l → GoodAtLdterm (termios_taken here t m l)
+    set-good : (t : Termios) → IsWhole t → (l : Discipline C) → GoodDiscipline l → GoodAtLdterm (termios_taken here t m l)
     set-good t whole l good = record {
       state = record { termios = whole; column = good.column; line = short (ends_lines l.termios t); read_queue = good.read_queue; write_queue = good.write_queue; work = good.work };
       sent = all-join (λ q. GoodMessage q.message) (cond (ends_lines l.termios t) (line_up here l.line) []) (onward Up here (mode_message (read_mode_of t) (tostop t)) ∷ onward Up here m ∷ [])
@@ -131,10 +160,10 @@ module _ {C : Type 0} where
         short true = omega arith
         short false = good.line
 
-    taken-good : (command : ℕ) (t : Termios) → IsWhole t → (l : Ldterm C) → GoodLdterm l → GoodAtLdterm (taken_up here command t m l)
+    taken-good : (command : ℕ) (t : Termios) → IsWhole t → (l : Discipline C) → GoodDiscipline l → GoodAtLdterm (taken_up here command t m l)
     taken-good command t whole l good = both-good (input_flushed here command l) (termios_taken here t m) (input-good command l good) (λ is. set-good t whole (input_flushed here command l).state is)
 
-    module _ (l : Ldterm C) (good : GoodLdterm l) where
+    module _ (l : Discipline C) (good : GoodDiscipline l) where
       termios-good : (ioc : Ioc) (o : Option Termios) → read_termios (payload m.plain) ≡ o → GoodAtLdterm (told_termios here ioc o m l)
       termios-good ioc None is = passes-good l good
       termios-good ioc (Some t) is = taken-good ioc.command t (read-whole (payload m.plain) t is) l good

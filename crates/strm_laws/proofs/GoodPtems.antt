@@ -18,11 +18,10 @@ use Rattle.strm_types.specs.declared.winsize.Winsize.{Winsize}
 use Rattle.strm_types.specs.Acks.{ack_message, acked, payload}
 use Rattle.strm_types.specs.Cells.{Cells}
 use Rattle.strm_types.specs.Commands.{is_asked, is_ioctl, sets_termios}
-use Rattle.strm_types.specs.Deliver.{Acted}
+use Rattle.strm_types.specs.Deliver.{Acted, onward}
 use Rattle.strm_types.specs.Flushing.{asked_by}
 use Rattle.strm_types.specs.Ioctls.{asking, ioc_bytes, read_ioc, word_at}
 use Rattle.strm_types.specs.Kinds.{is_body_kind, is_control_kind}
-use Rattle.strm_types.specs.Ldterms.{onward}
 use Rattle.strm_types.specs.Message.{Message, band_of, has_parts, is_high_priority}
 use Rattle.strm_types.specs.Pckts.{flush_passed, is_flush_passed, is_packed, packet, pckt_on_way, pckt_packs, pckt_passes, pckt_puts, writers_flush}
 use Rattle.strm_types.specs.Ptems.{Ptem, acks, asked_above, asked_below, asked_by_header, asked_on_way, naks, ptem_passes, ptem_puts, set_above, signal_told, signals_up, sigwinch, termios_set, window_set, window_signal, window_told}

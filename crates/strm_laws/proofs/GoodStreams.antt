@@ -2,7 +2,7 @@
 use Rattle.std.proofs.Common.{ℕ, zero, suc, ◌≡◌, ◌≤◌, ◌-◌, Bool, true, false, cond, List, [], ◌∷◌, length, map, refl, sym, ap, subst, ◌∙◌, arith}
 use Rattle.std.proofs.lemmas.Bool.{false≢true}
 use Rattle.std.proofs.lemmas.List.{length-map}
-use Rattle.std.specs.Prelude.{Some}
+use Rattle.std.specs.Prelude.{Some, is_some}
 use Rattle.std.specs.List.{AllByRecursion}
 use Rattle.strm_types.specs.declared.limits.TheConstants.{IOCTL_END}
 use Rattle.strm_types.specs.declared.names.Dir.{Dir}
@@ -19,21 +19,24 @@ use Rattle.strm_types.specs.Cells.{Cells}
 use Rattle.strm_types.specs.Deliver.{Acted, Goes, Took}
 use Rattle.strm_types.specs.Drivers.{driver_put}
 use Rattle.strm_types.specs.Heads.{Head, head_put}
+use Rattle.strm_types.specs.LdtermPuts.{ldterm_puts}
+use Rattle.strm_types.specs.LdtermStands.{disciplined}
 use Rattle.strm_types.specs.Message.{Message, cells_of}
 use Rattle.strm_types.specs.Modules.{act_among, change_among, put_among}
-use Rattle.strm_types.specs.Names.{direction_at, is_open}
+use Rattle.strm_types.specs.Names.{direction_at, is_open, place_of}
 use Rattle.strm_types.specs.Queue.{Queue}
+use Rattle.strm_types.specs.Standings.{stood}
 use Rattle.strm_laws.specs.Earlier.{driver_place}
 use Rattle.strm_laws.specs.Puts.{across_of, earlier_at, made_above, module_acted, noted, put_at_driver, put_at_head, put_at_module}
-use Rattle.strm_laws.specs.Restorable.{GoodHead, GoodMessage, GoodModule, GoodModules, GoodQueue, GoodStream, stands_below}
+use Rattle.strm_laws.specs.Restorable.{GoodHead, GoodKind, GoodMessage, GoodModule, GoodModules, GoodQueue, GoodStream, stands_below}
 use Rattle.strm_laws.specs.StackCosts.{EachOnce}
-use Rattle.strm_laws.specs.Stacked.{Module, OfLdterm, OfPtem, OfPckt, module_name, module_puts}
+use Rattle.strm_laws.specs.Stacked.{Module, OfLdterm, OfPtem, OfPckt, Standing, kind_name, module_name, module_puts}
 use Rattle.strm_laws.specs.State.{State, Stream, book, stream, with_book, with_driver_queue, with_stream}
 use Rattle.strm_types.proofs.BySide.{set-all}
 use Rattle.strm_laws.proofs.GoodDeliveries.{AreGood, GoodParts, GoodTook}
 use Rattle.strm_laws.proofs.GoodDrivers.{driver-good}
 use Rattle.strm_laws.proofs.GoodHeads.{head-good}
-use Rattle.strm_laws.proofs.GoodLdterms.{ldterm-good}
+use Rattle.strm_laws.proofs.GoodLdterms.{good-stands, good-with, ldterm-good}
 use Rattle.strm_laws.proofs.GoodPtems.{pckt-good, ptem-good}
 use Rattle.strm_laws.proofs.PutParts.{acted-holds}
 use Rattle.strm_laws.proofs.StackStays.{keep-names}
@@ -47,18 +50,18 @@ module _ {C : Type 0} where
   streams-with side t s good all = (set-all GoodStream side t s.ends good all.0, all.1, all.2)
 
   -- other modules of the same names
-  none-named : (ps : List (Module C)) → map module_name ps ≡ [] → ps ≡ []
+  none-named : (ps : List (Standing C)) → map module_name ps ≡ [] → ps ≡ []
   none-named [] none = refl
   none-named (p ∷ ps) none = absurd (cc none)
 
-  pub same-modules : (ps qs : List (Module C)) → map module_name qs ≡ map module_name ps → AllByRecursion GoodModule qs → GoodModules ps → GoodModules qs
+  pub same-modules : (ps qs : List (Standing C)) → map module_name qs ≡ map module_name ps → AllByRecursion GoodModule qs → GoodModules ps → GoodModules qs
   same-modules ps qs same each good = record {
     each = each;
     few = let n = ap (λ (ns : List ModuleName). length ns) same in omega (arith, n, length-map ps module_name, length-map qs module_name, good.few);
     once = subst (λ ns. EachOnce ns) (sym same) good.once;
   }
 
-  pub modules-good : (side : Side) (ps : List (Module C)) (t : Stream C) → map module_name ps ≡ map module_name t.modules → AllByRecursion GoodModule ps → GoodStream side t → GoodStream side (record t { modules = ps })
+  pub modules-good : (side : Side) (ps : List (Standing C)) (t : Stream C) → map module_name ps ≡ map module_name t.modules → AllByRecursion GoodModule ps → GoodStream side t → GoodStream side (record t { modules = ps })
   modules-good side ps t same each good = record {
     head = good.head;
     modules = same-modules t.modules ps same each good.modules;
@@ -79,20 +82,20 @@ module _ {C : Type 0} where
   open-head side h t is fits good = record { head = fits; modules = good.modules; driver = good.driver; shut = λ closed. absurd (false≢true (sym closed ∙ is)) }
 
   -- one of several modules acts, or changes
-  pub record GoodActs (t : Acted C (List (Module C))) : Type 0 where
+  pub record GoodActs (t : Acted C (List (Standing C))) : Type 0 where
     pub state : AllByRecursion GoodModule t.state
     pub sent : AreGood GoodMessage t.sent
 
-  pub record GoodActed (t : Acted C (Module C)) : Type 0 where
+  pub record GoodActed (t : Acted C (Standing C)) : Type 0 where
     pub state : GoodModule t.state
     pub sent : AreGood GoodMessage t.sent
 
-  pub acts-good : (acts : Module C → Acted C (Module C)) → ((p : Module C) → GoodModule p → GoodActed (acts p)) → (i : ℕ) (ps : List (Module C)) → AllByRecursion GoodModule ps → GoodActs (act_among acts i ps)
+  pub acts-good : (acts : Standing C → Acted C (Standing C)) → ((p : Standing C) → GoodModule p → GoodActed (acts p)) → (i : ℕ) (ps : List (Standing C)) → AllByRecursion GoodModule ps → GoodActs (act_among acts i ps)
   acts-good acts each i [] all = record { state = tt; sent = tt }
   acts-good acts each zero (p ∷ ps) all = let t = each p all.0 in record { state = (t.state, all.1); sent = t.sent }
   acts-good acts each (suc i) (p ∷ ps) all = let t = acts-good acts each i ps all.1 in record { state = (all.0, t.state); sent = t.sent }
 
-  pub changes-good : (change : Module C → Module C) → ((p : Module C) → GoodModule p → GoodModule (change p)) → (i : ℕ) (ps : List (Module C)) → AllByRecursion GoodModule ps → AllByRecursion GoodModule (change_among change i ps)
+  pub changes-good : (change : Standing C → Standing C) → ((p : Standing C) → GoodModule p → GoodModule (change p)) → (i : ℕ) (ps : List (Standing C)) → AllByRecursion GoodModule ps → AllByRecursion GoodModule (change_among change i ps)
   changes-good change each i [] all = tt
   changes-good change each zero (p ∷ ps) all = (each p all.0, all.1)
   changes-good change each (suc i) (p ∷ ps) all = (all.0, changes-good change each i ps all.1)
@@ -122,10 +125,15 @@ module _ {C : Type 0} where
       record { state = streams-with side (with_driver_queue t.state below) s (driver-queue-good side t.state below put.state (all.0 side)) all; sent = put.sent }
 
   module _ (cells : Cells C) where
-    puts-at : (made : ℕ) (here : Spot) (m : Message C) → GoodMessage m → (p : Module C) → GoodModule p → GoodActed (module_puts cells made here m p)
-    puts-at made here m fits (OfLdterm l) good = let t = ldterm-good here m fits l good in record { state = t.state; sent = t.sent }
-    puts-at made here m fits (OfPtem p) good = let t = ptem-good here m p fits good in record { state = t.state; sent = t.sent }
-    puts-at made here m fits (OfPckt p) good = record { state = tt; sent = pckt-good cells made here m fits }
+    puts-at : (made : ℕ) (here : Spot) (m : Message C) → GoodMessage m → (p : Standing C) → GoodModule p → GoodActed (module_puts cells made here m p)
+    puts-at made here m fits p good = by p.part good.kind good.has
+      where
+        by : (part : Module C) → GoodKind part → is_some p.queues ≡ is_some (place_of (kind_name part)) → GoodActed (module_puts cells made here m (stood part p.queues))
+        by (OfLdterm l) own has =
+            let t = ldterm-good here m fits (disciplined l p.queues) (good-with l p.queues own good.queues) in
+            record { state = good-stands (ldterm_puts here m (disciplined l p.queues)).state t.state; sent = t.sent }
+        by (OfPtem q) own has = let t = ptem-good here m q fits own in record { state = record { kind = t.state; queues = good.queues; has = has }; sent = t.sent }
+        by (OfPckt q) own has = record { state = record { kind = tt; queues = good.queues; has = has }; sent = pckt-good cells made here m fits }
 
     names-hold : (names : List QueueName) (s : State C) → AreStreams s → AreStreams (record s { enabled = names })
     names-hold names s all = all
@@ -134,7 +142,7 @@ module _ {C : Type 0} where
     books-hold dir n s all = all
 
     -- a module that has acted
-    pub acted-good : (here : Spot) (t : Acted C (List (Module C))) (s : State C) → map module_name t.state ≡ map module_name (stream here.side s).modules → GoodActs t → AreStreams s
+    pub acted-good : (here : Spot) (t : Acted C (List (Standing C))) (s : State C) → map module_name t.state ≡ map module_name (stream here.side s).modules → GoodActs t → AreStreams s
         → GoodTook GoodMessage AreStreams (module_acted here t s)
     acted-good here t s same acts all = record {
       state = acted-holds AreStreams names-hold books-hold here t s (streams-with here.side (record (stream here.side s) { modules = t.state }) s (modules-good here.side t.state (stream here.side s) same acts.state (all.0 here.side)) all);

@@ -1,6 +1,6 @@
 -- A turn of a pair of good streams leaves them good.
-use Rattle.std.proofs.Common.{ℕ, zero, suc, ◌+◌, ◌-◌, ◌*◌, Bool, true, false, cond, List, [], ◌∷◌}
-use Rattle.std.specs.Prelude.{◌==◌, not, Option, None, Some}
+use Rattle.std.proofs.Common.{ℕ, zero, suc, ◌≡◌, ◌+◌, ◌-◌, ◌*◌, Bool, true, false, cond, List, [], ◌∷◌}
+use Rattle.std.specs.Prelude.{◌==◌, not, is_some, Option, None, Some}
 use Rattle.std.specs.List.{AllByRecursion}
 use Rattle.strm_types.specs.declared.answers.Turn.{Turn}
 use Rattle.strm_types.specs.declared.kinds.MsgKind.{MsgKind}
@@ -17,22 +17,26 @@ use Rattle.strm_types.specs.declared.spots.Spot.{Spot}
 use Rattle.strm_types.specs.Cells.{Cells}
 use Rattle.strm_types.specs.Deliver.{carried, in_turn}
 use Rattle.strm_types.specs.Message.{Message, band_of, size_of}
-use Rattle.strm_types.specs.ModuleQueues.{at_place, place_past, queue_changed, with_waiting}
+use Rattle.strm_types.specs.ModuleQueues.{at_place, place_past, with_waiting}
+use Rattle.strm_types.specs.LdtermServes.{ldterm_serves}
+use Rattle.strm_types.specs.LdtermStands.{disciplined}
+use Rattle.strm_types.specs.Ldterms.{waits_there}
+use Rattle.strm_types.specs.Standings.{QueuePair, pair_changed, queue_changed, stood}
 use Rattle.strm_types.specs.Modules.{change_among}
-use Rattle.strm_types.specs.Names.{is_open, other, without}
+use Rattle.strm_types.specs.Names.{is_open, other, place_of, without}
 use Rattle.strm_types.specs.Queue.{IsOrdered, Queue, left_with, relieved}
 use Rattle.strm_types.specs.Service.{turn_ended}
 use Rattle.strm_laws.specs.Earlier.{driver_place}
-use Rattle.strm_laws.specs.ModuleTurns.{Calls, again_at, asked_turn, bytes_at, call_at, calls, made_below, module_called, moved_on, moved_within, place_named, queue_ended, turned_named, turned_there, waits_there}
+use Rattle.strm_laws.specs.ModuleTurns.{Calls, again_at, asked_turn, bytes_at, call_at, calls, made_below, module_called, moved_on, moved_within, place_named, queue_ended, turned_named, turned_there, waits_there as writers_wait}
 use Rattle.strm_laws.specs.Past.{has_room_past, waits_on, writer_waits}
 use Rattle.strm_laws.specs.Puts.{delivered, put_in}
-use Rattle.strm_laws.specs.Restorable.{GoodMessage, GoodModule, GoodQueue, GoodStream, StandsOn, stands_below}
-use Rattle.strm_laws.specs.Stacked.{Module, OfLdterm, OfPtem, OfPckt, module_asks, module_queue, module_rests, module_serves, with_module_queue}
+use Rattle.strm_laws.specs.Restorable.{GoodKind, GoodMessage, GoodModule, GoodPair, GoodQueue, GoodStream, StandsOn, goes_out, stands_below}
+use Rattle.strm_laws.specs.Stacked.{Module, OfLdterm, OfPtem, OfPckt, Standing, kind_name, module_asks, module_name, module_rests, module_serves}
 use Rattle.strm_laws.specs.State.{State, Stream, stream, with_driver_queue, with_head_queue, with_stream}
 use Rattle.strm_laws.specs.TurnOutcomes.{TurnOutcome}
 use Rattle.strm_laws.specs.Turns.{driver_serves, held_back, is_stopped_across, moved_across, turned, turned_at, turned_queue, up_across, with_driver, turn_ended as driver_turn_ended}
 use Rattle.strm_laws.proofs.GoodDeliveries.{delivered-good, sent-good}
-use Rattle.strm_laws.proofs.GoodLdterms.{queue-good, stands_at, with-queue-good}
+use Rattle.strm_laws.proofs.GoodLdterms.{good-stands, good-with}
 use Rattle.strm_laws.proofs.GoodLdtermTurns.{serves-good}
 use Rattle.strm_laws.proofs.GoodQueues.{ended-good, relieved-good, waiting-good}
 use Rattle.strm_laws.proofs.GoodStreams.{AreStreams, GoodActed, acted-good, acts-good, changes-good, driver-queue-good, modules-good, stream-parts, streams-with}
@@ -52,15 +56,21 @@ module _ {C : Type 0} (P : State C → Type 0) where
 module _ {C : Type 0} where
   -- a queue of a module changes, and is as good whatever may stand there
   change-at : (way : Way) (change : Queue C → Queue C) → ((stands : MsgKind → Bool) (q : Queue C) → GoodQueue stands q → GoodQueue stands (change q))
-      → (p : Module C) → GoodModule p → GoodModule (queue_changed module_queue with_module_queue way change p)
-  change-at way change keeps (OfLdterm l) good = with-queue-good way _ l (keeps (stands_at way) _ (queue-good way l good)) good
-  change-at way change keeps (OfPtem p) good = good
-  change-at way change keeps (OfPckt p) good = good
+      → (p : Standing C) → GoodModule p → GoodModule (queue_changed way change p)
+  change-at way change keeps p good = by p.queues good.queues good.has
+    where
+      pair-changes : (way : Way) (pair : QueuePair C) → GoodPair (Some pair) → GoodPair (Some (pair_changed way change pair))
+      pair-changes Up pair are = (keeps waits_there pair.read are.0, are.1)
+      pair-changes Down pair are = (are.0, keeps goes_out pair.write are.1)
+
+      by : (queues : Option (QueuePair C)) → GoodPair queues → is_some queues ≡ is_some (place_of (module_name p)) → GoodModule (queue_changed way change (stood p.part queues))
+      by None are has = record { kind = good.kind; queues = tt; has = has }
+      by (Some pair) are has = record { kind = good.kind; queues = pair-changes way pair are; has = has }
 
   change-stack : (side : Side) (way : Way) (change : Queue C → Queue C) → ((stands : MsgKind → Bool) (q : Queue C) → GoodQueue stands q → GoodQueue stands (change q))
-      → (i : ℕ) (t : Stream C) → GoodStream side t → GoodStream side (record t { modules = change_among (queue_changed module_queue with_module_queue way change) i t.modules })
+      → (i : ℕ) (t : Stream C) → GoodStream side t → GoodStream side (record t { modules = change_among (queue_changed way change) i t.modules })
   change-stack side way change keeps i t good =
-      modules-good side _ t (queue-names way change i t.modules) (changes-good (queue_changed module_queue with_module_queue way change) (change-at way change keeps) i t.modules good.modules.each) good
+      modules-good side _ t (queue-names way change i t.modules) (changes-good (queue_changed way change) (change-at way change keeps) i t.modules good.modules.each) good
 
   -- a writer waits
   head-waits : (side : Side) (band : ℕ) (t : Stream C) → GoodStream side t → GoodStream side (with_head_queue (with_waiting band t.head.queue) t)
@@ -79,7 +89,7 @@ module _ {C : Type 0} where
   waits-good : (side : Side) (way : Way) (at band : ℕ) (s : State C) → AreStreams s → AreStreams (writer_waits side way at band s)
   waits-good side way at band s all =
       let t = stream side s in
-      let o = place_past module_queue way at t.modules in
+      let o = place_past way at t.modules in
       streams-with side (waits_on way band o t) s (waits-stream side way band o t (all.0 side)) all
 
   ended-streams : (here : Spot) (took : Bool) (s : State C) → AreStreams s → AreStreams (with_stream here.side (queue_ended here took (stream here.side s)) s)
@@ -95,10 +105,16 @@ module _ {C : Type 0} (cells : Cells C) where
   delivered-streams to m s fits all = delivered-good GoodMessage AreStreams cells (stream-parts cells) to m s fits all
 
   module _ (here : Spot) where
-    serves-acted : (again : Bool) (made : ℕ) (stop : Option ℕ) (p : Module C) → GoodModule p → GoodActed (module_serves cells here made again stop p).acted
-    serves-acted again made stop (OfLdterm l) good = let t = serves-good cells here made again stop l good in record { state = t.state; sent = t.sent }
-    serves-acted again made stop (OfPtem p) good = record { state = good; sent = tt }
-    serves-acted again made stop (OfPckt p) good = record { state = tt; sent = tt }
+    serves-acted : (again : Bool) (made : ℕ) (stop : Option ℕ) (p : Standing C) → GoodModule p → GoodActed (module_serves cells here made again stop p).acted
+    serves-acted again made stop p good = by p.part good.kind good.has
+      where
+        by : (part : Module C) → GoodKind part → is_some p.queues ≡ is_some (place_of (kind_name part)) → GoodActed (module_serves cells here made again stop (stood part p.queues)).acted
+        by (OfLdterm l) own has =
+            let d = disciplined l p.queues in
+            let t = serves-good cells here made again stop d (good-with l p.queues own good.queues) in
+            record { state = good-stands (ldterm_serves cells here made again stop d).acted.state t.state; sent = t.sent }
+        by (OfPtem q) own has = record { state = record { kind = own; queues = good.queues; has = has }; sent = tt }
+        by (OfPckt q) own has = record { state = record { kind = tt; queues = good.queues; has = has }; sent = tt }
 
     -- a call, and the delivery of what it sent
     pub call-good : (again : Bool) (left : ℕ) (s : State C) → AreStreams s → let t = module_called cells here again left s in AreStreams (in_turn (carried (put_in cells) HOPS) t.sent t.state).state
@@ -132,7 +148,7 @@ module _ {C : Type 0} (cells : Cells C) where
     asked-good asked.Free name turn s all = moved-good name _ s all
     asked-good (asked.Room band) name turn s all =
         let waiting = writer_waits here.side here.way here.at band.0 s in
-        outcome-holds AreStreams (has_room_past here.side here.way here.at band.0 s) (moved_within cells here name turn s) (waits_there band.0 here s) (moved-good name _ s all)
+        outcome-holds AreStreams (has_room_past here.side here.way here.at band.0 s) (moved_within cells here name turn s) (writers_wait band.0 here s) (moved-good name _ s all)
         (ended-streams here false waiting (waits-good here.side here.way here.at band.0 s all))
 
     there-good : (name : QueueName) (turn : Turn) (s : State C) → AreStreams s → AreStreams (turned_there cells here name turn s).state

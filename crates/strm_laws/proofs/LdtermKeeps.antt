@@ -18,12 +18,12 @@ use Rattle.strm_types.specs.declared.rules.Rule.TheVariants.{Igncr, EraseKey, Er
 use Rattle.strm_types.specs.declared.spots.Spot.{Spot}
 use Rattle.strm_types.specs.declared.termios.Termios.{Termios}
 use Rattle.strm_types.specs.Cells.{Cells}
-use Rattle.strm_types.specs.Deliver.{Acted, Parcel, toward}
+use Rattle.strm_types.specs.Deliver.{Acted, Parcel, toward, onward}
 use Rattle.strm_types.specs.Emptied.{of_data}
 use Rattle.strm_types.specs.Flushing.{asked_by, flush_bytes, flush_message, read_flush}
 use Rattle.strm_types.specs.LdtermPuts.{ldterm_puts}
 use Rattle.strm_laws.specs.LdtermWeights.{weight_beside, ldterm_weight, ActedKeeps, EchoStands}
-use Rattle.strm_types.specs.Ldterms.{Ldterm, both, flush_passes, line_flushed, onward, queue_flushed, queued_at, read_flushed, sends, takes_band_0, without_line, write_flushed}
+use Rattle.strm_types.specs.Ldterms.{Discipline, both, flush_passes, line_flushed, queue_flushed, queued_at, read_flushed, sends, takes_band_0, without_line, write_flushed}
 use Rattle.strm_types.specs.Lines.{Types, ErasesByte, ErasesWord, edited, has_room}
 use Rattle.strm_types.specs.Message.{Message, cells_of, data_message, weight_of}
 use Rattle.strm_types.specs.Options.{mode_message}
@@ -70,44 +70,44 @@ module _ {C : Type 0} (p : Dir → C → Bool) where
   lost-made side rule (c ∷ cells) = refl
 
   -- what is put, and flushed
-  abbrev Holds : Side → Acted C (Ldterm C) → ℕ → Type 0
+  abbrev Holds : Side → Acted C (Discipline C) → ℕ → Type 0
   Holds side t n = ldterm_weight p side t.state + (weight_sent p t.sent + weight_gone p t.gone) ≡ n
 
-  both-hold : (side : Side) (t : Acted C (Ldterm C)) (next : Ldterm C → Acted C (Ldterm C)) (n more : ℕ) → Holds side t n → Holds side (next t.state) (ldterm_weight p side t.state + more) → Holds side (both t next) (n + more)
+  both-hold : (side : Side) (t : Acted C (Discipline C)) (next : Discipline C → Acted C (Discipline C)) (n more : ℕ) → Holds side t n → Holds side (next t.state) (ldterm_weight p side t.state + more) → Holds side (both t next) (n + more)
   both-hold side t next n more first second =
       let u = next t.state in
       let sent = weight-both p t.sent u.sent in
       let gone = gone-append p t.gone u.gone in
       omega arith
 
-  queued-holds : (here : Spot) (way : Way) (m : Message C) (l : Ldterm C) → Holds here.side (queued_at way m l) (ldterm_weight p here.side l + weight_of (p (direction_at way here.side)) m)
+  queued-holds : (here : Spot) (way : Way) (m : Message C) (l : Discipline C) → Holds here.side (queued_at way m l) (ldterm_weight p here.side l + weight_of (p (direction_at way here.side)) m)
   queued-holds here Up m l = omega (arith, weight-put (p (direction_at Up here.side)) m l.read_queue.messages)
   queued-holds here Down m l = omega (arith, weight-put (p (direction_at Down here.side)) m l.write_queue.messages)
 
-  flushed-holds : (way : Way) (here : Spot) (band : Option Band) (l : Ldterm C) → Holds here.side (queue_flushed way here band l) (ldterm_weight p here.side l)
+  flushed-holds : (way : Way) (here : Spot) (band : Option Band) (l : Discipline C) → Holds here.side (queue_flushed way here band l) (ldterm_weight p here.side l)
   flushed-holds Up here band l = omega (arith, behind-keeps (p (direction_at Up here.side)) (of_data band) l.read_queue)
   flushed-holds Down here band l = omega (arith, behind-keeps (p (direction_at Down here.side)) (of_data band) l.write_queue)
 
-  line-holds : (here : Spot) (band : Option Band) (l : Ldterm C) → Holds here.side (line_flushed here band l) (ldterm_weight p here.side l + 0)
+  line-holds : (here : Spot) (band : Option Band) (l : Discipline C) → Holds here.side (line_flushed here band l) (ldterm_weight p here.side l + 0)
   line-holds here band l = either (λ t. Holds here.side t (ldterm_weight p here.side l + 0)) (takes_band_0 band) (record (sends [] (without_line l)) { gone = line_gone here.side Flushed l.line }) (sends [] l)
       (omega (arith, lost-gone here.side Flushed l.line)) (omega arith)
 
-  read-holds : (here : Spot) (asked : FlushAsked) (l : Ldterm C) → Holds here.side (read_flushed here asked l) (ldterm_weight p here.side l)
+  read-holds : (here : Spot) (asked : FlushAsked) (l : Discipline C) → Holds here.side (read_flushed here asked l) (ldterm_weight p here.side l)
   read-holds here asked l = either (λ t. Holds here.side t (ldterm_weight p here.side l)) asked.for_read (both (queue_flushed Up here asked.band l) (line_flushed here asked.band)) (sends [] l)
       (let all = both-hold here.side (queue_flushed Up here asked.band l) (line_flushed here asked.band) (ldterm_weight p here.side l) 0 (flushed-holds Up here asked.band l) (line-holds here asked.band (queue_flushed Up here asked.band l).state) in omega arith)
       (omega arith)
 
-  write-holds : (here : Spot) (asked : FlushAsked) (l : Ldterm C) → Holds here.side (write_flushed here asked l) (ldterm_weight p here.side l + 0)
+  write-holds : (here : Spot) (asked : FlushAsked) (l : Discipline C) → Holds here.side (write_flushed here asked l) (ldterm_weight p here.side l + 0)
   write-holds here asked l =
-      let quiet : Ldterm C = record l { echoing = l.echoing && not (takes_band_0 asked.band) } in
+      let quiet : Discipline C = record l { echoing = l.echoing && not (takes_band_0 asked.band) } in
       either (λ t. Holds here.side t (ldterm_weight p here.side l + 0)) asked.for_write (queue_flushed Down here asked.band quiet) (sends [] l)
       (omega (arith, behind-keeps (p (direction_at Down here.side)) (of_data asked.band) l.write_queue))
       (omega arith)
 
-  passes-holds : (here : Spot) (m : Message C) (l : Ldterm C) → Holds here.side (sends (onward here.way here m ∷ []) l) (ldterm_weight p here.side l + weight_of (p (direction_at here.way here.side)) m)
+  passes-holds : (here : Spot) (m : Message C) (l : Discipline C) → Holds here.side (sends (onward here.way here m ∷ []) l) (ldterm_weight p here.side l + weight_of (p (direction_at here.way here.side)) m)
   passes-holds here m l = omega (arith, onward-weighs p here.way here m)
 
-  flush-holds : (here : Spot) (m : Message C) (l : Ldterm C) → Holds here.side (flush_passes here m l) (ldterm_weight p here.side l + weight_of (p (direction_at here.way here.side)) m)
+  flush-holds : (here : Spot) (m : Message C) (l : Discipline C) → Holds here.side (flush_passes here m l) (ldterm_weight p here.side l + weight_of (p (direction_at here.way here.side)) m)
   flush-holds here m l =
       let asked = asked_by m.plain in
       let first = read_flushed here asked l in
@@ -117,10 +117,10 @@ module _ {C : Type 0} (p : Dir → C → Bool) where
       omega arith
 
   -- the answer to a command that set a termios: with TCSETSF input is flushed, and a line that is made no longer goes up
-  input-holds : (here : Spot) (command : ℕ) (l : Ldterm C) → Holds here.side (input_flushed here command l) (ldterm_weight p here.side l)
+  input-holds : (here : Spot) (command : ℕ) (l : Discipline C) → Holds here.side (input_flushed here command l) (ldterm_weight p here.side l)
   input-holds here command l =
       let read = read_flushed here up_alone l in
-      let told : Ldterm C → Acted C (Ldterm C) = sends (onward Up here (flush_message (read_flush None)) ∷ []) in
+      let told : Discipline C → Acted C (Discipline C) = sends (onward Up here (flush_message (read_flush None)) ∷ []) in
       either (λ t. Holds here.side t (ldterm_weight p here.side l)) (command == TCSETSF) (both read told) (sends [] l)
       (let all = both-hold here.side read told (ldterm_weight p here.side l) 0 (read-holds here up_alone l) (omega (arith, weight-flush (p (direction_to (toward Up here))) (read_flush None))) in omega arith)
       (omega arith)
@@ -129,7 +129,7 @@ module _ {C : Type 0} (p : Dir → C → Bool) where
   line-holds-up here [] = refl
   line-holds-up here (c ∷ more) = omega (arith, onward-weighs p Up here (data_message (c ∷ more)), weight-data (p (direction_at Up here.side)) (c ∷ more))
 
-  termios-holds : (here : Spot) (t : Termios) (m : Message C) (l : Ldterm C) → Holds here.side (termios_taken here t m l) (ldterm_weight p here.side l + weight_of (p (direction_at Up here.side)) m)
+  termios-holds : (here : Spot) (t : Termios) (m : Message C) (l : Discipline C) → Holds here.side (termios_taken here t m l) (ldterm_weight p here.side l + weight_of (p (direction_at Up here.side)) m)
   termios-holds here t m l = at (ends_lines l.termios t)
     where
       rest : List (Parcel C)
@@ -139,12 +139,12 @@ module _ {C : Type 0} (p : Dir → C → Bool) where
       at true = omega (arith, weight-both p (line_up here l.line) rest, line-holds-up here l.line, weight-mode (p (direction_to (toward Up here))) (read_mode_of t) (tostop t), onward-weighs p Up here m)
       at false = omega (arith, weight-mode (p (direction_to (toward Up here))) (read_mode_of t) (tostop t), onward-weighs p Up here m)
 
-  taken-holds : (here : Spot) (command : ℕ) (t : Termios) (m : Message C) (l : Ldterm C) → Holds here.side (taken_up here command t m l) (ldterm_weight p here.side l + weight_of (p (direction_at Up here.side)) m)
+  taken-holds : (here : Spot) (command : ℕ) (t : Termios) (m : Message C) (l : Discipline C) → Holds here.side (taken_up here command t m l) (ldterm_weight p here.side l + weight_of (p (direction_at Up here.side)) m)
   taken-holds here command t m l =
       let first = input_flushed here command l in
       both-hold here.side first (termios_taken here t m) (ldterm_weight p here.side l) (weight_of (p (direction_at Up here.side)) m) (input-holds here command l) (termios-holds here t m first.state)
 
-  pub puts-hold : (here : Spot) (m : Message C) (l : Ldterm C) → Holds here.side (ldterm_puts here m l) (ldterm_weight p here.side l + weight_of (p (direction_at here.way here.side)) m)
+  pub puts-hold : (here : Spot) (m : Message C) (l : Discipline C) → Holds here.side (ldterm_puts here m l) (ldterm_weight p here.side l + weight_of (p (direction_at here.way here.side)) m)
   puts-hold here m l = puts-each here m l (λ t. Holds here.side t (ldterm_weight p here.side l + weight_of (p (direction_at here.way here.side)) m)) (record {
     waits = λ is. queued-holds here here.way m l;
     flushes = λ is. flush-holds here m l;
@@ -161,20 +161,20 @@ module _ {C : Type 0} (p : Dir → C → Bool) (cells : Cells C) (here : Spot) w
   down = p (direction_at Down here.side)
 
   -- what a key does, beside the byte that has begun
-  abbrev pub Strikes : Acted C (Ldterm C) → ℕ → Type 0
+  abbrev pub Strikes : Acted C (Discipline C) → ℕ → Type 0
   Strikes t n = weight_beside p here.side t.state + (weight_sent p t.sent + weight_gone p t.gone) ≡ n + weight_made p t.gone
 
-  dropped-keeps : (rule : Rule) (c : C) (l : Ldterm C) → Strikes (dropped cells here rule c l) (weight_beside p here.side l + count_by up (c ∷ []))
+  dropped-keeps : (rule : Rule) (c : C) (l : Discipline C) → Strikes (dropped cells here rule c l) (weight_beside p here.side l + count_by up (c ∷ []))
   dropped-keeps rule c l = omega arith
 
-  stops-keep : (c : C) (l : Ldterm C) → Strikes (stops cells here c l) (weight_beside p here.side l + count_by up (c ∷ []))
+  stops-keep : (c : C) (l : Discipline C) → Strikes (stops cells here c l) (weight_beside p here.side l + count_by up (c ∷ []))
   stops-keep c l = at l.stopped
     where
       at : (stopped : Bool) → Strikes (record (dropped cells here FlowKey c (record l { stopped = true })) { sent = cond stopped [] (onward Down here (bare kinds.Stop []) ∷ []) }) (weight_beside p here.side l + count_by up (c ∷ []))
       at true = omega arith
       at false = omega (arith, weight-bare (p (direction_to (toward Down here))) kinds.Stop [])
 
-  edits-keep : (left : List C) (rule : Rule) (c : C) (l : Ldterm C) → Begins left l.line →
+  edits-keep : (left : List C) (rule : Rule) (c : C) (l : Discipline C) → Begins left l.line →
       Strikes (record { state = record l { line = left }; notes = []; sent = []; gone = lost cells here rule (drop (length left) l.line) ++ lost cells here EraseKey (c ∷ []) }) (weight_beside p here.side l + count_by up (c ∷ []))
   edits-keep left rule c l begins =
       let gone = gone-append p (lost cells here rule (drop (length left) l.line)) (lost cells here EraseKey (c ∷ [])) in
@@ -191,7 +191,7 @@ module _ {C : Type 0} (p : Dir → C → Bool) (cells : Cells C) (here : Spot) w
   gathered-keeps [] = refl
   gathered-keeps (c ∷ more) = line-keeps (c ∷ more)
 
-  signals-keep : (asked : FlushAsked) (signal : ℕ) (c : C) (l : Ldterm C) → Strikes (signals cells here asked signal c l) (weight_beside p here.side l + count_by up (c ∷ []))
+  signals-keep : (asked : FlushAsked) (signal : ℕ) (c : C) (l : Discipline C) → Strikes (signals cells here asked signal c l) (weight_beside p here.side l + count_by up (c ∷ []))
   signals-keep asked signal c l = at (noflsh l.termios)
     where
       at : (kept : Bool) → Strikes (cond kept
@@ -214,7 +214,7 @@ module _ {C : Type 0} (p : Dir → C → Bool) (cells : Cells C) (here : Spot) w
           let none = lost-made p here.side Flushed l.line in
           omega arith
 
-  added-keeps : (c : C) (l : Ldterm C) → Strikes (added cells here c l) (weight_beside p here.side l + count_by up (c ∷ []))
+  added-keeps : (c : C) (l : Discipline C) → Strikes (added cells here c l) (weight_beside p here.side l + count_by up (c ∷ []))
   added-keeps c l = at (icanon l.termios) (has_room l.line) (imaxbel l.termios) (edited (is_blank_cell cells here) (Types c) l.line) (λ room. ap (λ b. cond b (l.line ++ c ∷ []) l.line) room)
     where
       at : (canonical room bell : Bool) (longer : List C) → (room ≡ true → longer ≡ l.line ++ c ∷ []) →
@@ -227,7 +227,7 @@ module _ {C : Type 0} (p : Dir → C → Bool) (cells : Cells C) (here : Spot) w
       at true false true longer is = omega arith
       at true false false longer is = omega (arith, lost-gone p here.side LineOver (l.line ++ c ∷ []), lost-made p here.side LineOver (l.line ++ c ∷ []), count-join up l.line (c ∷ []))
 
-  pub strikes-keep : (key : Key) (c : C) (l : Ldterm C) → Strikes (strikes cells here key c l) (weight_beside p here.side l + count_by up (c ∷ []))
+  pub strikes-keep : (key : Key) (c : C) (l : Discipline C) → Strikes (strikes cells here key c l) (weight_beside p here.side l + count_by up (c ∷ []))
   strikes-keep Stop c l = stops-keep c l
   strikes-keep Start c l = dropped-keeps FlowKey c l
   strikes-keep Intr c l = signals-keep both_ways sigint c l
@@ -249,7 +249,7 @@ module _ {C : Type 0} (p : Dir → C → Bool) (cells : Cells C) (here : Spot) w
   grown-keeps new (m ∷ []) stands = omega (arith, weight-take down (data_message (cells_of m ++ new)) [], weight-data down (cells_of m ++ new), count-join down (cells_of m) new, weight-whole down m, weight-take down m [])
   grown-keeps new (m ∷ n ∷ ms) stands = omega (arith, grown-keeps new (n ∷ ms) refl, weight-take down m (grown cells here new (n ∷ ms)), weight-take down m (n ∷ ms))
 
-  pub echo-keeps : (new : List C) (l : Ldterm C) → EchoStands l →
+  pub echo-keeps : (new : List C) (l : Discipline C) → EchoStands l →
       ActedKeeps p here.side (cond (is_full 0 l.write_queue) (echo_lost cells here new l) (cond l.echoing (echo_grows cells here new l) (echo_stands cells here new l))) (ldterm_weight p here.side l)
   echo-keeps new l stands = at (is_full 0 l.write_queue) l.echoing stands
     where

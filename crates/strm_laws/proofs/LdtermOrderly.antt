@@ -14,7 +14,7 @@ use Rattle.strm_types.specs.declared.rules.Rule.TheVariants.{Flushed}
 use Rattle.strm_types.specs.declared.spots.Spot.{Spot}
 use Rattle.strm_types.specs.declared.termios.Termios.{Termios}
 use Rattle.strm_types.specs.Cells.{Cells, cells_made}
-use Rattle.strm_types.specs.Deliver.{Acted}
+use Rattle.strm_types.specs.Deliver.{Acted, onward}
 use Rattle.strm_types.specs.Emptied.{emptied, none_goes, of_data, queue_behind, stayed}
 use Rattle.strm_types.specs.Flush.{counted_band, is_data_kind}
 use Rattle.strm_types.specs.Flushing.{asked_by, flush_message, read_flush}
@@ -24,7 +24,8 @@ use Rattle.strm_types.specs.LdtermPuts.{ldterm_puts}
 use Rattle.strm_types.specs.LdtermServes.{ldterm_serves}
 use Rattle.strm_laws.specs.LdtermTurns.{IsItsTurn, IsOrderly, is_echo}
 use Rattle.strm_laws.specs.LdtermWeights.{EchoStands}
-use Rattle.strm_types.specs.Ldterms.{Ldterm, Stage, Between, Begun, Answered, both, line_flushed, new_ldterm, onward, queue_flushed, queued_at, read_flushed, sends, takes_band_0, write_flushed}
+use Rattle.strm_types.specs.Standings.{new_pair}
+use Rattle.strm_types.specs.Ldterms.{Discipline, discipline, Stage, Between, Begun, Answered, both, line_flushed, new_ldterm, queue_flushed, queued_at, read_flushed, sends, takes_band_0, write_flushed}
 use Rattle.strm_types.specs.Message.{Message, cells_of, data_message, is_high_priority, rank_of}
 use Rattle.strm_types.specs.Queue.{Queue, is_full, is_none_left, left_with, put, relieved}
 use Rattle.strm_types.specs.Service.{line_gone}
@@ -109,31 +110,31 @@ module _ {C : Type 0} where
       at false = echo-stays band other q.messages is
 
   -- puts
-  either-orderly : (b : Bool) (one another : Acted C (Ldterm C)) → IsOrderly one.state → IsOrderly another.state → IsOrderly (cond b one another).state
+  either-orderly : (b : Bool) (one another : Acted C (Discipline C)) → IsOrderly one.state → IsOrderly another.state → IsOrderly (cond b one another).state
   either-orderly true one another first second = first
   either-orderly false one another first second = second
 
-  queued-orderly : (way : Way) (m : Message C) (l : Ldterm C) → IsOrderly l → IsOrderly (queued_at way m l).state
+  queued-orderly : (way : Way) (m : Message C) (l : Discipline C) → IsOrderly l → IsOrderly (queued_at way m l).state
   queued-orderly Up m l is = record { echo = is.echo; idle = is.idle }
   queued-orderly Down m l is = record {
     echo = λ e. echo-put-stays m l.write_queue.messages (is.echo (and_parts l.echoing (nat_lt 0 m.band) e).0);
     idle = λ none. let at = is.idle none in (at.0, at.1, and_left l.echoing (nat_lt 0 m.band) at.2);
   }
 
-  line-orderly : (here : Spot) (band : Option Band) (l : Ldterm C) → IsOrderly l → IsOrderly (line_flushed here band l).state
+  line-orderly : (here : Spot) (band : Option Band) (l : Discipline C) → IsOrderly l → IsOrderly (line_flushed here band l).state
   line-orderly here band l is = at (takes_band_0 band)
     where
       at : (takes : Bool) → IsOrderly (cond takes (record (sends [] (record l { line = [] })) { gone = line_gone here.side Flushed l.line }) (sends [] l)).state
       at true = record { echo = is.echo; idle = is.idle }
       at false = is
 
-  read-orderly : (here : Spot) (asked : FlushAsked) (l : Ldterm C) → IsOrderly l → IsOrderly (read_flushed here asked l).state
+  read-orderly : (here : Spot) (asked : FlushAsked) (l : Discipline C) → IsOrderly l → IsOrderly (read_flushed here asked l).state
   read-orderly here asked l is = either-orderly asked.for_read (both (queue_flushed Up here asked.band l) (line_flushed here asked.band)) (sends [] l)
       (line-orderly here asked.band (queue_flushed Up here asked.band l).state (record { echo = is.echo; idle = is.idle })) is
 
-  write-orderly : (here : Spot) (asked : FlushAsked) (l : Ldterm C) → IsOrderly l → IsOrderly (write_flushed here asked l).state
+  write-orderly : (here : Spot) (asked : FlushAsked) (l : Discipline C) → IsOrderly l → IsOrderly (write_flushed here asked l).state
   write-orderly here asked l is =
-      let quiet : Ldterm C = record l { echoing = l.echoing && not (takes_band_0 asked.band) } in
+      let quiet : Discipline C = record l { echoing = l.echoing && not (takes_band_0 asked.band) } in
       either-orderly asked.for_write (queue_flushed Down here asked.band quiet) (sends [] l)
       (record {
         echo = λ e. let parts = and_parts l.echoing (not (takes_band_0 asked.band)) e in echo-behind asked.band l.write_queue (not-true (takes_band_0 asked.band) parts.1) (is.echo parts.0);
@@ -141,13 +142,13 @@ module _ {C : Type 0} where
       })
       is
 
-  taken-orderly : (here : Spot) (command : ℕ) (t : Termios) (m : Message C) (l : Ldterm C) → IsOrderly l → IsOrderly (taken_up here command t m l).state
+  taken-orderly : (here : Spot) (command : ℕ) (t : Termios) (m : Message C) (l : Discipline C) → IsOrderly l → IsOrderly (taken_up here command t m l).state
   taken-orderly here command t m l is =
-      let told : Ldterm C → Acted C (Ldterm C) = sends (onward Up here (flush_message (read_flush None)) ∷ []) in
+      let told : Discipline C → Acted C (Discipline C) = sends (onward Up here (flush_message (read_flush None)) ∷ []) in
       let first = either-orderly (command == TCSETSF) (both (read_flushed here up_alone l) told) (sends [] l) (read-orderly here up_alone l is) is in
       record { echo = first.echo; idle = first.idle }
 
-  pub puts-orderly : (here : Spot) (m : Message C) (l : Ldterm C) → IsOrderly l → IsOrderly (ldterm_puts here m l).state
+  pub puts-orderly : (here : Spot) (m : Message C) (l : Discipline C) → IsOrderly l → IsOrderly (ldterm_puts here m l).state
   puts-orderly here m l is =
       let asked = asked_by m.plain in
       puts-each here m l (λ t. IsOrderly t.state) (record {
@@ -163,14 +164,14 @@ module _ {C : Type 0} (cells : Cells C) (here : Spot) where
   grown-echo new (m ∷ []) stands = ap (λ b. b || false) (data-echo (cells_of m ++ new))
   grown-echo new (m ∷ n ∷ ms) stands = ap (λ b. is_echo m || b) (grown-echo new (n ∷ ms) refl) ∙ or-true (is_echo m)
 
-  begins-orderly : (c : C) (m : Message C) (l : Ldterm C) → IsOrderly l → l.in_work ≡ Some m → IsOrderly (begins cells here c l).state
+  begins-orderly : (c : C) (m : Message C) (l : Discipline C) → IsOrderly l → l.in_work ≡ Some m → IsOrderly (begins cells here c l).state
   begins-orderly c m l is work = at (l.stopped && restarts l.termios (stroke_at cells here c l))
     where
       at : (starts : Bool) → IsOrderly (cond starts (sends (onward Down here (bare kinds.Start []) ∷ []) (record l { stopped = false; stage = Begun true c })) (sends [] (record l { stage = Begun false c }))).state
       at true = record { echo = is.echo; idle = λ none. absurd (cc (none, work)) }
       at false = record { echo = is.echo; idle = λ none. absurd (cc (none, work)) }
 
-  between-orderly : (l : Ldterm C) → IsOrderly l → IsOrderly (begins_next cells here (cells_left l) l).state
+  between-orderly : (l : Discipline C) → IsOrderly l → IsOrderly (begins_next cells here (cells_left l) l).state
   between-orderly l is = work l.in_work is
     where
       left : (m : Message C) (xs : List C) → IsOrderly (record l { in_work = Some m }) → IsOrderly (begins_next cells here xs (record l { in_work = Some m })).state
@@ -181,31 +182,31 @@ module _ {C : Type 0} (cells : Cells C) (here : Spot) where
       work None is = is
       work (Some m) is = left m (cells_of m) is
 
-  struck-orderly : (started : Bool) (c : C) (l : Ldterm C) → IsOrderly l → l.stage ≡ Begun started c → IsOrderly (struck cells here started c l).state
+  struck-orderly : (started : Bool) (c : C) (l : Discipline C) → IsOrderly l → l.stage ≡ Begun started c → IsOrderly (struck cells here started c l).state
   struck-orderly started c l is stage =
       let key = (stroke_at cells here c l).key in
       let byte = cells.mapped (stroke_at cells here c l).byte c in
-      let begun : Ldterm C = record l { after_lnext = is_lnext key } in
+      let begun : Discipline C = record l { after_lnext = is_lnext key } in
       record {
         echo = strikes-stay cells here (λ p. p.echoing ≡ true → EchoIn p.write_queue.messages) (λ p stopped line gathered holds. holds) key byte begun is.echo;
         idle = λ none. let same = strikes-stay cells here (λ p. p.in_work ≡ l.in_work) (λ p stopped line gathered holds. holds) key byte begun refl in
             absurd (let at = is.idle (sym same ∙ none) in cc (stage, at.0));
       }
 
-  echoed-orderly : (made : ℕ) (echo : List ℕ) (l : Ldterm C) → IsOrderly l → l.stage ≡ Answered echo → IsOrderly (echoed cells here made echo (record l { stage = Between })).state
+  echoed-orderly : (made : ℕ) (echo : List ℕ) (l : Discipline C) → IsOrderly l → l.stage ≡ Answered echo → IsOrderly (echoed cells here made echo (record l { stage = Between })).state
   echoed-orderly made [] l is stage = record { echo = is.echo; idle = λ none. let at = is.idle none in (refl, at.1, at.2) }
   echoed-orderly made (b ∷ bytes) l is stage = at (is_full 0 l.write_queue) l.echoing is.echo
       (λ none. let at = is.idle none in (refl, at.1, at.2))
       (λ none. let at = is.idle none in cc (stage, at.0))
     where
       at : (full echoing : Bool) → (echoing ≡ true → EchoIn l.write_queue.messages) → (l.in_work ≡ None → (let between : Stage C = Between in (between ≡ Between) × (l.gathered ≡ []) × (echoing ≡ false))) → (l.in_work ≡ None → ⊥) →
-          (let new = cells_made cells (echo_dir cells here) made (b ∷ bytes) in let p : Ldterm C = record l { stage = Between; echoing = echoing } in
+          (let new = cells_made cells (echo_dir cells here) made (b ∷ bytes) in let p : Discipline C = record l { stage = Between; echoing = echoing } in
           IsOrderly (cond full (echo_lost cells here new p) (cond echoing (echo_grows cells here new p) (echo_stands cells here new p))).state)
       at true echoing stands idle work = record { echo = stands; idle = idle }
       at false true stands idle work = record { echo = λ e. grown-echo (cells_made cells (echo_dir cells here) made (b ∷ bytes)) l.write_queue.messages (echo-left l.write_queue.messages (stands refl)); idle = λ none. absurd (work none) }
       at false false stands idle work = record { echo = λ e. echo-put-data (cells_made cells (echo_dir cells here) made (b ∷ bytes)) l.write_queue.messages; idle = λ none. absurd (work none) }
 
-  pub next-orderly : (made : ℕ) (l : Ldterm C) → IsOrderly l → IsOrderly (next_stage cells here made l).state
+  pub next-orderly : (made : ℕ) (l : Discipline C) → IsOrderly l → IsOrderly (next_stage cells here made l).state
   next-orderly made l is = at l.stage is
     where
       at : (stage : Stage C) → IsOrderly (record l { stage = stage }) → IsOrderly (next_stage cells here made (record l { stage = stage })).state
@@ -213,42 +214,42 @@ module _ {C : Type 0} (cells : Cells C) (here : Spot) where
       at (Begun started c) is = struck-orderly started c (record l { stage = Begun started c }) is refl
       at (Answered echo) is = echoed-orderly made echo (record l { stage = Answered echo }) is refl
 
-  then-orderly : (made : ℕ) (t : Acted C (Ldterm C)) (next : ℕ → Ldterm C → Acted C (Ldterm C)) → IsOrderly t.state → IsOrderly (next (made + made_of t.gone) t.state).state → IsOrderly (then_on made t next).state
+  then-orderly : (made : ℕ) (t : Acted C (Discipline C)) (next : ℕ → Discipline C → Acted C (Discipline C)) → IsOrderly t.state → IsOrderly (next (made + made_of t.gone) t.state).state → IsOrderly (then_on made t next).state
   then-orderly made t next first second = at (is_none_left t.sent)
     where
-      at : (none : Bool) → (let u = next (made + made_of t.gone) t.state in IsOrderly (cond {A = Acted C (Ldterm C)} none (record { state = u.state; notes = t.notes ++ u.notes; sent = u.sent; gone = t.gone ++ u.gone }) t).state)
+      at : (none : Bool) → (let u = next (made + made_of t.gone) t.state in IsOrderly (cond {A = Acted C (Discipline C)} none (record { state = u.state; notes = t.notes ++ u.notes; sent = u.sent; gone = t.gone ++ u.gone }) t).state)
       at true = second
       at false = first
 
-  pub stages-orderly : (n made : ℕ) (l : Ldterm C) → IsOrderly l → IsOrderly (stages cells here n made l).state
+  pub stages-orderly : (n made : ℕ) (l : Discipline C) → IsOrderly l → IsOrderly (stages cells here n made l).state
   stages-orderly zero made l is = record { echo = λ e. absurd (false≢true e); idle = λ none. (refl, refl, refl) }
   stages-orderly (suc more) made l is =
       let t = next_stage cells here made l in
       then-orderly made t (stages cells here more) (next-orderly made l is) (stages-orderly more (made + made_of t.gone) t.state (next-orderly made l is))
 
-  input-orderly : (made : ℕ) (stop : Option ℕ) (ms : List (Message C)) (l : Ldterm C) → IsOrderly l → l.in_work ≡ None → IsOrderly (input_begins cells here stop made ms l).acted.state
+  input-orderly : (made : ℕ) (stop : Option ℕ) (ms : List (Message C)) (l : Discipline C) → IsOrderly l → l.in_work ≡ None → IsOrderly (input_begins cells here stop made ms l).acted.state
   input-orderly made stop [] l is none = is
   input-orderly made stop (m ∷ rest) l is none = at (is_data m.kind)
     where
       at : (treated : Bool) → IsOrderly (cond treated (treats cells here (unwrap_or stop (length (cells_of m))) made (record l { read_queue = left_with rest l.read_queue; in_work = Some m })) (passes cells here Up m rest l)).acted.state
       at true =
-          let begun : Ldterm C = record l { read_queue = left_with rest l.read_queue; in_work = Some m } in
+          let begun : Discipline C = record l { read_queue = left_with rest l.read_queue; in_work = Some m } in
           stages-orderly (3 * unwrap_or stop (length (cells_of m)) - stages_done l.stage) made begun (record { echo = is.echo; idle = λ some. absurd (cc some) })
       at false = record { echo = is.echo; idle = is.idle }
 
 module _ {C : Type 0} (cells : Cells C) where
-  serves-at : (way : Way) (here : Spot) (again : Bool) (made : ℕ) (stop : Option ℕ) (l : Ldterm C) → IsOrderly l → IsItsTurn way again l → IsOrderly (ldterm_serves cells (record here { way = way }) made again stop l).acted.state
+  serves-at : (way : Way) (here : Spot) (again : Bool) (made : ℕ) (stop : Option ℕ) (l : Discipline C) → IsOrderly l → IsItsTurn way again l → IsOrderly (ldterm_serves cells (record here { way = way }) made again stop l).acted.state
   serves-at Down here true made stop l is turn = output-orderly cells (record here { way = Down }) stop made l.write_queue.messages l is turn
   serves-at Down here false made stop l is turn = output-orderly cells (record here { way = Down }) stop made l.write_queue.messages l is turn
   serves-at Up here false made stop l is turn = input-orderly cells (record here { way = Up }) made stop l.read_queue.messages l is turn
   serves-at Up here true made stop l is turn = stages-orderly cells (record here { way = Up }) (3 * unwrap_or stop (to_treat l) - stages_done l.stage) made l is
 
-  pub serves-orderly : (here : Spot) (made : ℕ) (again : Bool) (stop : Option ℕ) (l : Ldterm C) → IsOrderly l → IsItsTurn here.way again l → IsOrderly (ldterm_serves cells here made again stop l).acted.state
+  pub serves-orderly : (here : Spot) (made : ℕ) (again : Bool) (stop : Option ℕ) (l : Discipline C) → IsOrderly l → IsItsTurn here.way again l → IsOrderly (ldterm_serves cells here made again stop l).acted.state
   serves-orderly here made again stop l is turn = serves-at here.way here again made stop l is turn
 
 module _ {C : Type 0} where
-  pub new-orderly : IsOrderly (new_ldterm {C = C})
+  pub new-orderly : IsOrderly (discipline (new_ldterm {C = C}) new_pair)
   new-orderly = record { echo = λ e. absurd (false≢true e); idle = λ none. (refl, refl, refl) }
 
-  pub orderly-echo : (l : Ldterm C) → IsOrderly l → EchoStands l
+  pub orderly-echo : (l : Discipline C) → IsOrderly l → EchoStands l
   orderly-echo l is = λ e. echo-left l.write_queue.messages (is.echo e)

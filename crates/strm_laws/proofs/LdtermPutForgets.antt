@@ -16,13 +16,13 @@ use Rattle.strm_types.specs.declared.spots.Spot.{Spot}
 use Rattle.strm_types.specs.declared.termios.Termios.{Termios}
 use Rattle.strm_types.specs.Acks.{payload}
 use Rattle.strm_types.specs.Commands.{is_acked, is_ioctl, is_iocack, sets_termios}
-use Rattle.strm_types.specs.Deliver.{Acted, Parcel}
+use Rattle.strm_types.specs.Deliver.{Acted, Parcel, onward}
 use Rattle.strm_types.specs.Emptied.{of_data}
 use Rattle.strm_types.specs.Flushing.{is_flush, asked_by, flush_message, read_flush}
 use Rattle.strm_types.specs.Ioctls.{read_ioc}
 use Rattle.strm_laws.specs.LdtermOrigins.{map_ldterm}
 use Rattle.strm_types.specs.LdtermPuts.{goes_behind, goes_on, ldterm_puts, passes_on_way, told_by_header, told_termios, waits_behind, waits_on}
-use Rattle.strm_types.specs.Ldterms.{Ldterm, both, flush_passes, line_flushed, onward, queue_flushed, queued_at, read_flushed, sends, takes_band_0, waits_there, with_queue_at, without_line, write_flushed}
+use Rattle.strm_types.specs.Ldterms.{Discipline, both, flush_passes, line_flushed, queue_flushed, queued_at, read_flushed, sends, takes_band_0, waits_there, with_queue_at, without_line, write_flushed}
 use Rattle.strm_types.specs.Message.{Message, map_message}
 use Rattle.strm_types.specs.Options.{mode_message}
 use Rattle.strm_types.specs.Origins.{map_acted, map_fate, map_parcel}
@@ -36,14 +36,14 @@ use Rattle.strm_laws.proofs.Forgetting.{data-forgets, kind-forgets, put_enables-
 use Rattle.strm_laws.proofs.PutForgets.{flush-forgets as message-forgets, mode-forgets, parts-forget}
 
 -- ldterm with a message put on its queue of a way, and with that queue flushed
-abbrev queued_made : {E : Type 0} → Way → Bool → Queue E → Ldterm E → Acted E (Ldterm E)
+abbrev queued_made : {E : Type 0} → Way → Bool → Queue E → Discipline E → Acted E (Discipline E)
 queued_made way enables behind l = record { state = with_queue_at way behind l; notes = cond enables (Enable way ∷ []) []; sent = []; gone = [] }
 
 module _ {C D : Type 0} (f : C → D) where
-  abbrev pub image : Acted C (Ldterm C) → Acted D (Ldterm D)
+  abbrev pub image : Acted C (Discipline C) → Acted D (Discipline D)
   image t = map_acted f (map_ldterm f) t
 
-  pub either-agrees : (b : Bool) (one another : Acted C (Ldterm C)) (one' another' : Acted D (Ldterm D)) → one' ≡ image one → another' ≡ image another → cond b one' another' ≡ image (cond b one another)
+  pub either-agrees : (b : Bool) (one another : Acted C (Discipline C)) (one' another' : Acted D (Discipline D)) → one' ≡ image one → another' ≡ image another → cond b one' another' ≡ image (cond b one another)
   either-agrees true one another one' another' first second = first
   either-agrees false one another one' another' first second = second
 
@@ -59,7 +59,7 @@ module _ {C D : Type 0} (f : C → D) where
   line_gone-forgets side rule [] = refl
   line_gone-forgets side rule (c ∷ cells) = refl
 
-  queued-forgets : (way : Way) (m : Message C) (l : Ldterm C) → queued_at way (map_message f m) (map_ldterm f l) ≡ image (queued_at way m l)
+  queued-forgets : (way : Way) (m : Message C) (l : Discipline C) → queued_at way (map_message f m) (map_ldterm f l) ≡ image (queued_at way m l)
   queued-forgets Up m l =
       rw (put_enables-forgets f m l.read_queue, put_on-forgets f m l.read_queue) refl
   queued-forgets Down m l =
@@ -68,7 +68,7 @@ module _ {C D : Type 0} (f : C → D) where
       ∙ (ap (λ b. queued_made Down b (put_on (map_message f m) (map_queue f l.write_queue)) (record (map_ldterm f l) { echoing = l.echoing && nat_lt 0 m.band })) (put_enables-forgets f m l.write_queue)
       ∙ ap (λ q. queued_made Down (put_enables m l.write_queue) q (record (map_ldterm f l) { echoing = l.echoing && nat_lt 0 m.band })) (put_on-forgets f m l.write_queue))
 
-  flushed-forgets : (way : Way) (here : Spot) (band : Option Band) (l : Ldterm C) → queue_flushed way here band (map_ldterm f l) ≡ image (queue_flushed way here band l)
+  flushed-forgets : (way : Way) (here : Spot) (band : Option Band) (l : Discipline C) → queue_flushed way here band (map_ldterm f l) ≡ image (queue_flushed way here band l)
   flushed-forgets Up here band l =
       let q = l.read_queue in
       let chosen = of_data band in
@@ -79,53 +79,53 @@ module _ {C D : Type 0} (f : C → D) where
       rw (writer_goes-forgets f chosen q, gone-forgets f chosen q.messages, queue_behind-forgets f chosen q) refl
 
   -- one after the other
-  joined-forget : (t u : Acted C (Ldterm C)) → record { state = (image u).state; notes = t.notes ++ u.notes; sent = (image t).sent ++ (image u).sent; gone = (image t).gone ++ (image u).gone }
+  joined-forget : (t u : Acted C (Discipline C)) → record { state = (image u).state; notes = t.notes ++ u.notes; sent = (image t).sent ++ (image u).sent; gone = (image t).gone ++ (image u).gone }
       ≡ image (record { state = u.state; notes = t.notes ++ u.notes; sent = t.sent ++ u.sent; gone = t.gone ++ u.gone })
   joined-forget t u =
       rw (← map-append (map_parcel f) t.sent u.sent, ← map-append (map_fate f) t.gone u.gone) refl
 
-  both-forget : (t : Acted C (Ldterm C)) (t' : Acted D (Ldterm D)) (next : Ldterm C → Acted C (Ldterm C)) (next' : Ldterm D → Acted D (Ldterm D)) → t' ≡ image t →
+  both-forget : (t : Acted C (Discipline C)) (t' : Acted D (Discipline D)) (next : Discipline C → Acted C (Discipline C)) (next' : Discipline D → Acted D (Discipline D)) → t' ≡ image t →
       next' (map_ldterm f t.state) ≡ image (next t.state) → both t' next' ≡ image (both t next)
   both-forget t t' next next' first second =
       rw (first, second) (joined-forget t (next t.state))
 
-  line-forgets : (here : Spot) (band : Option Band) (l : Ldterm C) → line_flushed here band (map_ldterm f l) ≡ image (line_flushed here band l)
+  line-forgets : (here : Spot) (band : Option Band) (l : Discipline C) → line_flushed here band (map_ldterm f l) ≡ image (line_flushed here band l)
   line-forgets here band l = either-agrees (takes_band_0 band) (record (sends [] (without_line l)) { gone = line_gone here.side Flushed l.line }) (sends [] l)
       (record (sends [] (without_line (map_ldterm f l))) { gone = line_gone here.side Flushed (map f l.line) }) (sends [] (map_ldterm f l))
       (ap (λ gone. record (sends [] (without_line (map_ldterm f l))) { gone = gone }) (line_gone-forgets here.side Flushed l.line)) refl
 
-  read-forgets : (here : Spot) (asked : FlushAsked) (l : Ldterm C) → read_flushed here asked (map_ldterm f l) ≡ image (read_flushed here asked l)
+  read-forgets : (here : Spot) (asked : FlushAsked) (l : Discipline C) → read_flushed here asked (map_ldterm f l) ≡ image (read_flushed here asked l)
   read-forgets here asked l = either-agrees asked.for_read (both (queue_flushed Up here asked.band l) (line_flushed here asked.band)) (sends [] l)
       (both (queue_flushed Up here asked.band (map_ldterm f l)) (line_flushed here asked.band)) (sends [] (map_ldterm f l))
       (both-forget (queue_flushed Up here asked.band l) (queue_flushed Up here asked.band (map_ldterm f l)) (line_flushed here asked.band) (line_flushed here asked.band)
       (flushed-forgets Up here asked.band l) (line-forgets here asked.band (queue_flushed Up here asked.band l).state))
       refl
 
-  write-forgets : (here : Spot) (asked : FlushAsked) (l : Ldterm C) → write_flushed here asked (map_ldterm f l) ≡ image (write_flushed here asked l)
+  write-forgets : (here : Spot) (asked : FlushAsked) (l : Discipline C) → write_flushed here asked (map_ldterm f l) ≡ image (write_flushed here asked l)
   write-forgets here asked l =
-      let quiet : Ldterm C = record l { echoing = l.echoing && not (takes_band_0 asked.band) } in
+      let quiet : Discipline C = record l { echoing = l.echoing && not (takes_band_0 asked.band) } in
       either-agrees asked.for_write (queue_flushed Down here asked.band quiet) (sends [] l)
       (queue_flushed Down here asked.band (map_ldterm f quiet)) (sends [] (map_ldterm f l))
       (flushed-forgets Down here asked.band quiet) refl
 
-  flush-forgets : (here : Spot) (m : Message C) (l : Ldterm C) → flush_passes here (map_message f m) (map_ldterm f l) ≡ image (flush_passes here m l)
+  flush-forgets : (here : Spot) (m : Message C) (l : Discipline C) → flush_passes here (map_message f m) (map_ldterm f l) ≡ image (flush_passes here m l)
   flush-forgets here m l =
       let asked = asked_by m.plain in
       let first = read_flushed here asked l in
       let behind = both first (write_flushed here asked) in
-      let passed : Ldterm C → Acted C (Ldterm C) = sends (onward here.way here m ∷ []) in
-      let passed' : Ldterm D → Acted D (Ldterm D) = sends (onward here.way here (map_message f m) ∷ []) in
+      let passed : Discipline C → Acted C (Discipline C) = sends (onward here.way here m ∷ []) in
+      let passed' : Discipline D → Acted D (Discipline D) = sends (onward here.way here (map_message f m) ∷ []) in
       ap (λ bytes. both (both (read_flushed here (asked_by bytes) (map_ldterm f l)) (write_flushed here (asked_by bytes))) passed') (plain-forgets m)
       ∙ both-forget behind (both (read_flushed here asked (map_ldterm f l)) (write_flushed here asked)) passed passed'
       (both-forget first (read_flushed here asked (map_ldterm f l)) (write_flushed here asked) (write_flushed here asked) (read-forgets here asked l) (write-forgets here asked first.state))
       refl
 
   -- an answer to a command that set a termios
-  input-forgets : (here : Spot) (command : ℕ) (l : Ldterm C) → input_flushed here command (map_ldterm f l) ≡ image (input_flushed here command l)
+  input-forgets : (here : Spot) (command : ℕ) (l : Discipline C) → input_flushed here command (map_ldterm f l) ≡ image (input_flushed here command l)
   input-forgets here command l =
       let read = read_flushed here up_alone l in
-      let told : Ldterm C → Acted C (Ldterm C) = sends (onward Up here (flush_message (read_flush None)) ∷ []) in
-      let told' : Ldterm D → Acted D (Ldterm D) = sends (onward Up here (flush_message (read_flush None)) ∷ []) in
+      let told : Discipline C → Acted C (Discipline C) = sends (onward Up here (flush_message (read_flush None)) ∷ []) in
+      let told' : Discipline D → Acted D (Discipline D) = sends (onward Up here (flush_message (read_flush None)) ∷ []) in
       either-agrees (command == TCSETSF) (both read told) (sends [] l) (both (read_flushed here up_alone (map_ldterm f l)) told') (sends [] (map_ldterm f l))
       (both-forget read (read_flushed here up_alone (map_ldterm f l)) told told' (read-forgets here up_alone l)
       (ap (λ m. sends (onward Up here m ∷ []) (map_ldterm f read.state)) (sym (message-forgets f (read_flush None)))))
@@ -135,7 +135,7 @@ module _ {C D : Type 0} (f : C → D) where
   line-up-forgets here [] = refl
   line-up-forgets here (c ∷ more) = ap (λ m. onward Up here m ∷ []) (sym (data-forgets f (c ∷ more)))
 
-  termios-forgets : (here : Spot) (t : Termios) (m : Message C) (l : Ldterm C) → termios_taken here t (map_message f m) (map_ldterm f l) ≡ image (termios_taken here t m l)
+  termios-forgets : (here : Spot) (t : Termios) (m : Message C) (l : Discipline C) → termios_taken here t (map_message f m) (map_ldterm f l) ≡ image (termios_taken here t m l)
   termios-forgets here t m l = at (ends_lines l.termios t)
     where
       rest : List (Parcel C)
@@ -153,7 +153,7 @@ module _ {C D : Type 0} (f : C → D) where
           (ap (λ up. up ++ rest') (line-up-forgets here l.line) ∙ ap (λ more. map (map_parcel f) (line_up here l.line) ++ more) rest-forgets ∙ sym (map-append (map_parcel f) (line_up here l.line) rest))
       at false = ap (λ sent. sends sent (record (map_ldterm f l) { termios = t })) rest-forgets
 
-  module _ (here : Spot) (m : Message C) (l : Ldterm C) where
+  module _ (here : Spot) (m : Message C) (l : Discipline C) where
     taken-forgets : (command : ℕ) (t : Termios) → taken_up here command t (map_message f m) (map_ldterm f l) ≡ image (taken_up here command t m l)
     taken-forgets command t =
         let first = input_flushed here command l in

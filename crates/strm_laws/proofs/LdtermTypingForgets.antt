@@ -14,12 +14,12 @@ use Rattle.strm_types.specs.declared.rules.Rule.TheVariants.{EraseKey, Erased, K
 use Rattle.strm_types.specs.declared.spots.Note.TheVariants.{Enable}
 use Rattle.strm_types.specs.declared.spots.Spot.{Spot}
 use Rattle.strm_types.specs.Cells.{Cells, AreCells, bytes_of, cells_made, plain}
-use Rattle.strm_types.specs.Deliver.{Acted, Fate, Comes, Parcel}
+use Rattle.strm_types.specs.Deliver.{Acted, Fate, Comes, Parcel, onward}
 use Rattle.strm_types.specs.Echo.{echo_of}
 use Rattle.strm_types.specs.Flushing.{flush_bytes, flush_message}
 use Rattle.strm_types.specs.Keys.{restarts}
 use Rattle.strm_laws.specs.LdtermOrigins.{map_ldterm}
-use Rattle.strm_types.specs.Ldterms.{Ldterm, Begun, Answered, onward, sends}
+use Rattle.strm_types.specs.Ldterms.{Discipline, Begun, Answered, sends}
 use Rattle.strm_types.specs.Lines.{has_room, without_end, without_last, without_word}
 use Rattle.strm_types.specs.Message.{Message, cells_of, data_message, map_message}
 use Rattle.strm_types.specs.Origins.{map_fate, map_parcel}
@@ -64,15 +64,15 @@ module _ {C D : Type 0} (f : C → D) where
       ∙ end-forgets (λ d. not (blank d)) (without_end (λ c. blank (f c)) line)
 
 -- a line of which an edit leaves less
-abbrev edits_made : {E : Type 0} → Spot → Rule → List E → List E → E → Ldterm E → Acted E (Ldterm E)
+abbrev edits_made : {E : Type 0} → Spot → Rule → List E → List E → E → Discipline E → Acted E (Discipline E)
 edits_made here rule left gone c l = record { state = record l { line = left }; notes = []; sent = []; gone = line_gone here.side rule gone ++ line_gone here.side EraseKey (c ∷ []) }
 
 -- ldterm with its signal on the way
-abbrev signalled : {E : Type 0} → List (Parcel E) → List (Fate E) → Ldterm E → Acted E (Ldterm E)
+abbrev signalled : {E : Type 0} → List (Parcel E) → List (Fate E) → Discipline E → Acted E (Discipline E)
 signalled sent gone l = record { state = l; notes = []; sent = sent; gone = gone }
 
 -- with a byte that it gathers, or adds to its line
-abbrev added_made : {E : Type 0} → Spot → Bool → Bool → Bool → List E → List E → E → Ldterm E → Acted E (Ldterm E)
+abbrev added_made : {E : Type 0} → Spot → Bool → Bool → Bool → List E → List E → E → Discipline E → Acted E (Discipline E)
 added_made here canonical room bell gathered line c l =
     cond (not canonical) (sends [] (record l { gathered = gathered }))
     (cond room (sends [] (record l { line = cond room line l.line }))
@@ -80,14 +80,14 @@ added_made here canonical room bell gathered line c l =
     (record (sends [] (record l { line = [] })) { gone = line_gone here.side LineOver line })))
 
 -- with the echo of a byte still to come
-abbrev struck_made : {E : Type 0} → Bool → Bool → List ℕ → Acted E (Ldterm E) → Acted E (Ldterm E)
+abbrev struck_made : {E : Type 0} → Bool → Bool → List ℕ → Acted E (Discipline E) → Acted E (Discipline E)
 struck_made started none echo t = record t { state = record t.state { stage = Answered echo }; notes = cond (started && not none) (Enable Down ∷ []) [] }
 
 module _ {C : Type 0} (cells : Cells C) (are : AreCells cells) (here : Spot) where
   abbrev f : C → ℕ
   f = cells.byte
 
-  edits-forget : (left : List C) (left' : List ℕ) (rule : Rule) (c : C) (l : Ldterm C) → left' ≡ map f left →
+  edits-forget : (left : List C) (left' : List ℕ) (rule : Rule) (c : C) (l : Discipline C) → left' ≡ map f left →
       edits_made here rule left' (drop (length left') (map f l.line)) (f c) (map_ldterm f l) ≡ image f (edits_made here rule left (drop (length left) l.line) c l)
   edits-forget left left' rule c l is =
       let gone = drop (length left) l.line in
@@ -101,10 +101,10 @@ module _ {C : Type 0} (cells : Cells C) (are : AreCells cells) (here : Spot) whe
   gathered-forget [] = refl
   gathered-forget (c ∷ more) = ap (λ parcel. parcel ∷ []) (up-forgets (c ∷ more))
 
-  line-forgets : (line : List C) (l : Ldterm C) → line_sent plain here (map f line) (map_ldterm f l) ≡ image f (line_sent cells here line l)
+  line-forgets : (line : List C) (l : Discipline C) → line_sent plain here (map f line) (map_ldterm f l) ≡ image f (line_sent cells here line l)
   line-forgets line l = ap (λ parcel. sends (parcel ∷ []) (record (map_ldterm f l) { line = [] })) (up-forgets line)
 
-  stops-forget : (c : C) (l : Ldterm C) → stops plain here (f c) (map_ldterm f l) ≡ image f (stops cells here c l)
+  stops-forget : (c : C) (l : Discipline C) → stops plain here (f c) (map_ldterm f l) ≡ image f (stops cells here c l)
   stops-forget c l = at l.stopped
     where
       at : (stopped : Bool) → record (dropped plain here FlowKey (f c) (record (map_ldterm f l) { stopped = true })) { sent = cond stopped [] (onward Down here (bare kinds.Stop []) ∷ []) }
@@ -117,7 +117,7 @@ module _ {C : Type 0} (cells : Cells C) (are : AreCells cells) (here : Spot) whe
   sent-forgets gathered more more' is =
       rw (gathered-forget gathered, is) (sym (map-append (map_parcel f) (gathered_up cells here gathered) more))
 
-  signals-forget : (asked : FlushAsked) (signal : ℕ) (c : C) (l : Ldterm C) → signals plain here asked signal (f c) (map_ldterm f l) ≡ image f (signals cells here asked signal c l)
+  signals-forget : (asked : FlushAsked) (signal : ℕ) (c : C) (l : Discipline C) → signals plain here asked signal (f c) (map_ldterm f l) ≡ image f (signals cells here asked signal c l)
   signals-forget asked signal c l = at (noflsh l.termios)
     where
       key : onward Up here (bare kinds.Pcsig (signal ∷ [])) ∷ [] ≡ map (map_parcel f) (onward Up here (bare kinds.Pcsig (signal ∷ [])) ∷ [])
@@ -145,7 +145,7 @@ module _ {C : Type 0} (cells : Cells C) (are : AreCells cells) (here : Spot) whe
   longer-forgets : (line : List C) (c : C) → map f line ++ f c ∷ [] ≡ map f (line ++ c ∷ [])
   longer-forgets line c = sym (map-append f line (c ∷ []))
 
-  added-forgets : (c : C) (l : Ldterm C) → added plain here (f c) (map_ldterm f l) ≡ image f (added cells here c l)
+  added-forgets : (c : C) (l : Discipline C) → added plain here (f c) (map_ldterm f l) ≡ image f (added cells here c l)
   added-forgets c l =
       rw (room-forgets l.line, longer-forgets l.gathered c, longer-forgets l.line c) (at (icanon l.termios) (has_room l.line) (imaxbel l.termios) (l.gathered ++ c ∷ []) (l.line ++ c ∷ []))
     where
@@ -155,14 +155,14 @@ module _ {C : Type 0} (cells : Cells C) (are : AreCells cells) (here : Spot) whe
       at true false true gathered line = refl
       at true false false gathered line = ap (λ gone. record (sends [] (record (map_ldterm f l) { line = [] })) { gone = gone }) (line_gone-forgets f here.side LineOver line)
 
-  strikes-forget : (key : Key) (c : C) (l : Ldterm C) → strikes plain here key (f c) (map_ldterm f l) ≡ image f (strikes cells here key c l)
+  strikes-forget : (key : Key) (c : C) (l : Discipline C) → strikes plain here key (f c) (map_ldterm f l) ≡ image f (strikes cells here key c l)
   strikes-forget Stop c l = stops-forget c l
   strikes-forget Start c l = refl
   strikes-forget Intr c l = signals-forget both_ways sigint c l
   strikes-forget Quit c l = signals-forget both_ways sigquit c l
   strikes-forget Susp c l = signals-forget up_alone sigtstp c l
   strikes-forget Ignored c l = refl
-  strikes-forget Eof c l = ap (λ (t : Acted ℕ (Ldterm ℕ)). record t { gone = lost plain here EofKey (f c ∷ []) }) (line-forgets l.line l)
+  strikes-forget Eof c l = ap (λ (t : Acted ℕ (Discipline ℕ)). record t { gone = lost plain here EofKey (f c ∷ []) }) (line-forgets l.line l)
   strikes-forget Erase c l = edits-forget (without_last l.line) (without_last (map f l.line)) Erased c l (last-forgets f l.line)
   strikes-forget Werase c l = edits-forget (without_word (is_blank_cell cells here) l.line) (without_word (is_blank_cell plain here) (map f l.line)) Erased c l (word-forgets f (is_blank_cell plain here) l.line)
   strikes-forget Kill c l = edits-forget [] [] Killed c l refl
@@ -171,7 +171,7 @@ module _ {C : Type 0} (cells : Cells C) (are : AreCells cells) (here : Spot) whe
   strikes-forget Delimiter c l = ap (λ line. line_sent plain here line (map_ldterm f l)) (longer-forgets l.line c) ∙ line-forgets (l.line ++ c ∷ []) l
   strikes-forget Ordinary c l = added-forgets c l
 
-  pub begins-forget : (c : C) (l : Ldterm C) → begins plain here (f c) (map_ldterm f l) ≡ image f (begins cells here c l)
+  pub begins-forget : (c : C) (l : Discipline C) → begins plain here (f c) (map_ldterm f l) ≡ image f (begins cells here c l)
   begins-forget c l = at (l.stopped && restarts l.termios (stroke_at cells here c l))
     where
       at : (starts : Bool) → cond starts (sends (onward Down here (bare kinds.Start []) ∷ []) (record (map_ldterm f l) { stopped = false; stage = Begun true (f c) })) (sends [] (record (map_ldterm f l) { stage = Begun false (f c) }))
@@ -179,11 +179,11 @@ module _ {C : Type 0} (cells : Cells C) (are : AreCells cells) (here : Spot) whe
       at true = ap (λ m. sends (onward Down here m ∷ []) (record (map_ldterm f l) { stopped = false; stage = Begun true (f c) })) (sym (bare-forgets f kinds.Start []))
       at false = refl
 
-  pub struck-forgets : (started : Bool) (c : C) (l : Ldterm C) → struck plain here started (f c) (map_ldterm f l) ≡ image f (struck cells here started c l)
+  pub struck-forgets : (started : Bool) (c : C) (l : Discipline C) → struck plain here started (f c) (map_ldterm f l) ≡ image f (struck cells here started c l)
   struck-forgets started c l =
       let stroke = stroke_at cells here c l in
       let mapped = cells.mapped stroke.byte c in
-      let begun : Ldterm C = record l { after_lnext = is_lnext stroke.key } in
+      let begun : Discipline C = record l { after_lnext = is_lnext stroke.key } in
       let t = strikes cells here stroke.key mapped begun in
       ap (λ b. struck_made started (is_none_left (map_messages f l.write_queue.messages)) (echo_of l.termios (bytes_of plain (map f l.line)) (bytes_of plain (strikes plain here stroke.key b (map_ldterm f begun)).state.line) stroke) (strikes plain here stroke.key b (map_ldterm f begun))) (sym (are.byte_mapped stroke.byte c))
       ∙ ap (λ u. struck_made started (is_none_left (map_messages f l.write_queue.messages)) (echo_of l.termios (bytes_of plain (map f l.line)) (bytes_of plain u.state.line) stroke) u) (strikes-forget stroke.key mapped begun)
@@ -197,15 +197,15 @@ module _ {C : Type 0} (cells : Cells C) (are : AreCells cells) (here : Spot) whe
       rw (cells-forget f m, ← map-append f (cells_of m) new, ← data-forgets f (cells_of m ++ new)) refl
   grown-forgets new (m ∷ n ∷ ms) = ap (λ rest. map_message f m ∷ rest) (grown-forgets new (n ∷ ms))
 
-  grows-forget : (new : List C) (l : Ldterm C) → echo_grows plain here (map f new) (map_ldterm f l) ≡ image f (echo_grows cells here new l)
+  grows-forget : (new : List C) (l : Discipline C) → echo_grows plain here (map f new) (map_ldterm f l) ≡ image f (echo_grows cells here new l)
   grows-forget new l = ap (λ ms. record (sends [] (record (map_ldterm f l) { write_queue = record (map_queue f l.write_queue) { messages = ms } })) { gone = Comes (echo_dir plain here) (map f new) ∷ [] }) (grown-forgets new l.write_queue.messages)
 
-  stands-forget : (new : List C) (l : Ldterm C) → echo_stands plain here (map f new) (map_ldterm f l) ≡ image f (echo_stands cells here new l)
+  stands-forget : (new : List C) (l : Discipline C) → echo_stands plain here (map f new) (map_ldterm f l) ≡ image f (echo_stands cells here new l)
   stands-forget new l =
       let m = data_message new in
       rw (← data-forgets f new, put_enables-forgets f m l.write_queue, put_on-forgets f m l.write_queue) refl
 
-  pub echoed-forgets : (made : ℕ) (echo : List ℕ) (l : Ldterm C) → echoed plain here made echo (map_ldterm f l) ≡ image f (echoed cells here made echo l)
+  pub echoed-forgets : (made : ℕ) (echo : List ℕ) (l : Discipline C) → echoed plain here made echo (map_ldterm f l) ≡ image f (echoed cells here made echo l)
   echoed-forgets made [] l = refl
   echoed-forgets made (b ∷ bytes) l =
       let new = cells_made cells (echo_dir cells here) made (b ∷ bytes) in

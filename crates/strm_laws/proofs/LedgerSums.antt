@@ -1,6 +1,6 @@
 -- The numbers of a ledger: what stands in a direction is on its queues and in its lines, and the counts by rule are of all that has gone.
 use Rattle.std.proofs.Common.{ℕ, ◌≡◌, ◌<◌, ◌+◌, ◌%◌, ◌^◌, Bool, true, false, List, [], ◌∷◌, ◌++◌, length, refl, sym, ap, ◌∙◌, arith}
-use Rattle.std.specs.Prelude.{count_by, sum_by, slice_index_or}
+use Rattle.std.specs.Prelude.{Option, None, Some, count_by, sum_by, slice_index_or}
 use Rattle.std.specs.List.{AllByRecursion}
 use Rattle.std.proofs.lemmas.List.Sums.{get_or-le-sum_by, sum_by-cons, sum_by-set}
 use Rattle.std.proofs.lemmas.List.{length-set}
@@ -16,17 +16,17 @@ use Rattle.strm_types.specs.declared.rules.TheConstants.{RULES}
 use Rattle.strm_types.specs.Cells.{Cells, plain}
 use Rattle.strm_types.specs.Deliver.{Fate, Goes, Comes, counted_with, tallied}
 use Rattle.strm_types.specs.Journal.{PlainEntry}
-use Rattle.strm_laws.specs.Based.{held_by}
+use Rattle.strm_laws.specs.Based.{cells_in, held_by}
 use Rattle.strm_laws.specs.Kept.{AreIdle, NothingUnread, gone, state_weight, told_by}
 use Rattle.strm_laws.specs.Ledgers.{Balanced, all_gone, inline, queued}
-use Rattle.strm_laws.specs.LdtermWeights.{ldterm_weight, weight_begun, weight_in_work}
-use Rattle.strm_types.specs.Ldterms.{Ldterm, IsIdle}
+use Rattle.strm_laws.specs.LdtermWeights.{weight_begun, weight_in_work}
 use Rattle.strm_types.specs.Message.{Message, cells_of, weight_of}
 use Rattle.strm_types.specs.Names.{direction_at}
 use Rattle.strm_laws.specs.Places.{weight_gone}
 use Rattle.strm_types.specs.Queue.{weight}
+use Rattle.strm_types.specs.Standings.{QueuePair, messages_on}
 use Rattle.strm_types.specs.Rules.{counted_more, fates_of, made_more, number_of, told_more}
-use Rattle.strm_laws.specs.Stacked.{Module, OfLdterm, OfPtem, OfPckt, IsAtRest, module_weight, modules_weight}
+use Rattle.strm_laws.specs.Stacked.{Module, OfLdterm, OfPtem, OfPckt, Standing, IsAtRest, KindRests, kind_line, kind_weight, module_line, module_weight, modules_weight, queues_weight}
 use Rattle.strm_laws.specs.State.{State, book}
 use Rattle.strm_laws.specs.Step.{IsLegal, after, replay}
 use Rattle.strm_laws.proofs.Based.{all-counted, held-there, none-counted}
@@ -50,44 +50,52 @@ module _ {C : Type 0} where
   none-weighs [] = refl
   none-weighs (m ∷ ms) = omega (arith, weight-take none m ms, none-of m, none-weighs ms)
 
-  -- a module of which nothing of a turn is under way, by what is tested of what comes up and of what goes down
-  idle-weighs : (p : Dir → C → Bool) (side : Side) (l : Ldterm C) → IsIdle l →
-      ldterm_weight p side l ≡ weight (p (direction_at Up side)) l.read_queue.messages + (count_by (p (direction_at Up side)) l.line + weight (p (direction_at Down side)) l.write_queue.messages)
-  idle-weighs p side l idle =
+  -- a module of which nothing of a turn is under way has nothing itself but its line, which comes up
+  kind-weighs : (p : Dir → C → Bool) (side : Side) (q : Module C) → KindRests q → kind_weight p side q ≡ count_by (p (direction_at Up side)) (kind_line q)
+  kind-weighs p side (OfPtem q) idle = refl
+  kind-weighs p side (OfPckt q) idle = refl
+  kind-weighs p side (OfLdterm l) idle =
       omega (arith, ap (λ x. weight_begun p side x) idle.3, ap (λ x. weight_in_work (p (direction_at Up side)) x) idle.0, ap (λ xs. count_by (p (direction_at Up side)) xs) idle.1)
 
-  modules-down : (p : Dir → C → Bool) (side : Side) → p (direction_at Up side) ≡ none → p (direction_at Down side) ≡ all → (ps : List (Module C)) → AllByRecursion (λ q. IsAtRest q) ps
+  -- and its queues, by what is tested of what comes up and of what goes down
+  queues-down : (p : Dir → C → Bool) (side : Side) → p (direction_at Up side) ≡ none → p (direction_at Down side) ≡ all → (queues : Option (QueuePair C))
+      → queues_weight p side queues ≡ cells_in (messages_on Down queues)
+  queues-down p side up down None = refl
+  queues-down p side up down (Some pair) =
+      omega (arith, ap (λ t. weight t pair.read.messages) up ∙ none-weighs pair.read.messages, ap (λ t. weight t pair.write.messages) down)
+
+  queues-up : (p : Dir → C → Bool) (side : Side) → p (direction_at Up side) ≡ all → p (direction_at Down side) ≡ none → (queues : Option (QueuePair C))
+      → queues_weight p side queues ≡ cells_in (messages_on Up queues)
+  queues-up p side up down None = refl
+  queues-up p side up down (Some pair) =
+      omega (arith, ap (λ t. weight t pair.read.messages) up, ap (λ t. weight t pair.write.messages) down ∙ none-weighs pair.write.messages)
+
+  modules-down : (p : Dir → C → Bool) (side : Side) → p (direction_at Up side) ≡ none → p (direction_at Down side) ≡ all → (ps : List (Standing C)) → AllByRecursion (λ q. IsAtRest q) ps
       → modules_weight p side ps ≡ sum_by (held_by Down) ps
   modules-down p side up down [] idle = refl
-  modules-down p side up down (OfPtem q ∷ ps) idle = omega (arith, sum_by-cons (module_weight p side) (OfPtem q) ps, sum_by-cons (held_by Down) (OfPtem q) ps, modules-down p side up down ps idle.1)
-  modules-down p side up down (OfPckt q ∷ ps) idle = omega (arith, sum_by-cons (module_weight p side) (OfPckt q) ps, sum_by-cons (held_by Down) (OfPckt q) ps, modules-down p side up down ps idle.1)
-  modules-down p side up down (OfLdterm l ∷ ps) idle =
+  modules-down p side up down (q ∷ ps) idle =
       omega (
         arith,
-        sum_by-cons (module_weight p side) (OfLdterm l) ps,
-        sum_by-cons (held_by Down) (OfLdterm l) ps,
+        sum_by-cons (module_weight p side) q ps,
+        sum_by-cons (held_by Down) q ps,
         modules-down p side up down ps idle.1,
-        idle-weighs p side l idle.0,
-        ap (λ t. weight t l.read_queue.messages) up ∙ none-weighs l.read_queue.messages,
-        ap (λ t. count_by t l.line) up ∙ none-counted l.line,
-        ap (λ t. weight t l.write_queue.messages) down,
+        kind-weighs p side q.part idle.0,
+        ap (λ t. count_by t (module_line q)) up ∙ none-counted (module_line q),
+        queues-down p side up down q.queues,
       )
 
-  modules-up : (p : Dir → C → Bool) (side : Side) → p (direction_at Up side) ≡ all → p (direction_at Down side) ≡ none → (ps : List (Module C)) → AllByRecursion (λ q. IsAtRest q) ps
+  modules-up : (p : Dir → C → Bool) (side : Side) → p (direction_at Up side) ≡ all → p (direction_at Down side) ≡ none → (ps : List (Standing C)) → AllByRecursion (λ q. IsAtRest q) ps
       → modules_weight p side ps ≡ sum_by (held_by Up) ps
   modules-up p side up down [] idle = refl
-  modules-up p side up down (OfPtem q ∷ ps) idle = omega (arith, sum_by-cons (module_weight p side) (OfPtem q) ps, sum_by-cons (held_by Up) (OfPtem q) ps, modules-up p side up down ps idle.1)
-  modules-up p side up down (OfPckt q ∷ ps) idle = omega (arith, sum_by-cons (module_weight p side) (OfPckt q) ps, sum_by-cons (held_by Up) (OfPckt q) ps, modules-up p side up down ps idle.1)
-  modules-up p side up down (OfLdterm l ∷ ps) idle =
+  modules-up p side up down (q ∷ ps) idle =
       omega (
         arith,
-        sum_by-cons (module_weight p side) (OfLdterm l) ps,
-        sum_by-cons (held_by Up) (OfLdterm l) ps,
+        sum_by-cons (module_weight p side) q ps,
+        sum_by-cons (held_by Up) q ps,
         modules-up p side up down ps idle.1,
-        idle-weighs p side l idle.0,
-        ap (λ t. weight t l.read_queue.messages) up,
-        ap (λ t. count_by t l.line) up ∙ all-counted l.line,
-        ap (λ t. weight t l.write_queue.messages) down ∙ none-weighs l.write_queue.messages,
+        kind-weighs p side q.part idle.0,
+        ap (λ t. count_by t (module_line q)) up ∙ all-counted (module_line q),
+        queues-up p side up down q.queues,
       )
 
   pub stands-there : (dir : Dir) (s : State C) → AreIdle s → state_weight (of_dir dir) s ≡ queued dir s + inline dir s

@@ -10,6 +10,7 @@ pub mod GoodPtems
 pub mod GoodLdterms
 pub mod GoodLdtermTurns
 pub mod GoodStreams
+pub mod StandingLdterms
 pub mod GoodTurns
 pub mod GoodReads
 pub mod GoodCalls

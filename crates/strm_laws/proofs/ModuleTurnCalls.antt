@@ -16,23 +16,26 @@ use Rattle.strm_types.specs.Cells.{plain}
 use Rattle.strm_types.specs.Deliver.{Acted, Fate, Goes, Comes, Parcel, carried, in_turn}
 use Rattle.strm_types.specs.Input.{stages_done, to_treat}
 use Rattle.strm_types.specs.LdtermPuts.{ldterm_puts}
-use Rattle.strm_types.specs.Ldterms.{Stage, new_ldterm}
+use Rattle.strm_types.specs.LdtermStands.{disciplined}
+use Rattle.strm_types.specs.Ldterms.{Stage}
 use Rattle.strm_types.specs.Message.{Message}
-use Rattle.strm_types.specs.ModuleQueues.{at_place, messages_at}
+use Rattle.strm_types.specs.ModuleQueues.{at_place}
+use Rattle.strm_types.specs.Standings.{messages_at, stood}
 use Rattle.strm_laws.specs.ModuleTurns.{Calls, again_at, bytes_at, call_at, calls, made_below, module_turn_ended, moved_on, moved_within}
 use Rattle.strm_types.specs.Modules.{act_among, put_among}
 use Rattle.strm_laws.specs.Puts.{booked, module_acted, put_in}
-use Rattle.strm_types.specs.Service.{Serving}
-use Rattle.strm_laws.specs.Stacked.{Module, OfLdterm, OfPtem, OfPckt, module_puts, module_queue, module_serves, served_by}
+use Rattle.strm_types.specs.Service.{Serving, served_by}
+use Rattle.strm_laws.specs.Stacked.{Module, OfLdterm, OfPtem, OfPckt, Standing, ldterm_stands, module_puts, module_serves}
 use Rattle.strm_laws.specs.State.{State, book, stream, with_book, with_stream, Stream}
 use Rattle.strm_types.specs.LdtermCalls.{Begins, Ends, bytes_left}
-use Rattle.strm_laws.specs.TurnCalls.{Stopped, asks_on, called, ldterm_of, led, module_at, treated}
+use Rattle.strm_laws.specs.TurnCalls.{Stopped, asks_on, called, discipline_of, ldterm_of, led, module_at, none_there, treated}
 use Rattle.strm_laws.specs.TurnOutcomes.{TurnOutcome, stayed_put}
 use Rattle.strm_types.specs.Queue.{first_size}
 use Rattle.strm_types.proofs.DeliveryHolds.{carried-holds, in_turn-holds}
 use Rattle.strm_types.proofs.LdtermPutStays.{puts-stay}
 use Rattle.strm_laws.proofs.LdtermStops.{GoesOn, serves-alike, serves-ends, serves-goes, serves-made}
 use Rattle.strm_laws.proofs.ModulesHold.{OnBoth, puts-good}
+use Rattle.strm_laws.proofs.StandingLdterms.{stands-at}
 use Rattle.strm_types.proofs.BySide.{get-set-same}
 
 -- one of several, and what is said of it
@@ -62,54 +65,72 @@ pub record UnderWay : Type 0 where
   pub stage : Stage ℕ
   pub in_work : Option (Message ℕ)
 
-abbrev pub under_way : Module ℕ → UnderWay
-under_way p = let l = ldterm_of p in record { stage = l.stage; in_work = l.in_work }
-
--- what stands at a place of no module
-abbrev pub none_there : Module ℕ
-none_there = OfLdterm new_ldterm
+abbrev pub under_way : Standing ℕ → UnderWay
+under_way p = let l = discipline_of p in record { stage = l.stage; in_work = l.in_work }
 
 -- what is known of calls of ldterm's service procedure is so of any module's
 module _ (here : Spot) (again : Bool) where
-  module-goes : (p : Module ℕ) → Begins here.way again (ldterm_of p) → let t = module_serves plain here 0 again None p in t.again ≡ true → GoesOn here.way again (ldterm_of p) t.bytes (ldterm_of t.acted.state)
-  module-goes (OfLdterm l) begins works = serves-goes here again l begins works
-  module-goes (OfPtem p) begins works = absurd (false≢true works)
-  module-goes (OfPckt p) begins works = absurd (false≢true works)
+  pub module-goes : (p : Standing ℕ) → Begins here.way again (discipline_of p) → let t = module_serves plain here 0 again None p in t.again ≡ true → GoesOn here.way again (discipline_of p) t.bytes (discipline_of t.acted.state)
+  module-goes p begins works = by p.part begins works
+    where
+      by : (part : Module ℕ) → let q = stood part p.queues in Begins here.way again (discipline_of q) → let t = module_serves plain here 0 again None q in t.again ≡ true
+          → GoesOn here.way again (discipline_of q) t.bytes (discipline_of t.acted.state)
+      by (OfLdterm l) begins works = serves-goes here again (disciplined l p.queues) begins works
+      by (OfPtem q) begins works = absurd (false≢true works)
+      by (OfPckt q) begins works = absurd (false≢true works)
 
-  module-alike : (p : Module ℕ) → let t = module_serves plain here 0 again None p in t.again ≡ true → (left made : ℕ) → stages_done (ldterm_of t.acted.state).stage + 3 * t.bytes ≤ 3 * left → module_serves plain here made again (Some left) p ≡ t
-  module-alike (OfLdterm l) works left made fits = ap (served_by OfLdterm) (serves-alike here again l works left made fits)
-  module-alike (OfPtem p) works left made fits = refl
-  module-alike (OfPckt p) works left made fits = refl
+  module-alike : (p : Standing ℕ) → let t = module_serves plain here 0 again None p in t.again ≡ true → (left made : ℕ) → stages_done (discipline_of t.acted.state).stage + 3 * t.bytes ≤ 3 * left → module_serves plain here made again (Some left) p ≡ t
+  module-alike p works left made fits = by p.part works fits
+    where
+      by : (part : Module ℕ) → let t = module_serves plain here 0 again None (stood part p.queues) in t.again ≡ true → stages_done (discipline_of t.acted.state).stage + 3 * t.bytes ≤ 3 * left
+          → module_serves plain here made again (Some left) (stood part p.queues) ≡ t
+      by (OfLdterm l) works fits = ap (served_by ldterm_stands) (serves-alike here again (disciplined l p.queues) works left made fits)
+      by (OfPtem q) works fits = refl
+      by (OfPckt q) works fits = refl
 
-  pub module-ends : (p : Module ℕ) → Begins here.way again (ldterm_of p) → let t = module_serves plain here 0 again None p in t.again ≡ false
-      → Ends here.way again (ldterm_of p) t.bytes × ((made : ℕ) → module_serves plain here made again (Some t.bytes) p ≡ t)
-  module-ends (OfLdterm l) begins over = let e = serves-ends here again l begins over in (e.0, λ made. ap (served_by OfLdterm) (e.1 made))
-  module-ends (OfPtem p) begins over = (record { treat = omega arith; done = omega arith }, λ made. refl)
-  module-ends (OfPckt p) begins over = (record { treat = omega arith; done = omega arith }, λ made. refl)
+  pub module-ends : (p : Standing ℕ) → Begins here.way again (discipline_of p) → let t = module_serves plain here 0 again None p in t.again ≡ false
+      → Ends here.way again (discipline_of p) t.bytes × ((made : ℕ) → module_serves plain here made again (Some t.bytes) p ≡ t)
+  module-ends p begins over = by p.part begins over
+    where
+      by : (part : Module ℕ) → let q = stood part p.queues in Begins here.way again (discipline_of q) → let t = module_serves plain here 0 again None q in t.again ≡ false
+          → Ends here.way again (discipline_of q) t.bytes × ((made : ℕ) → module_serves plain here made again (Some t.bytes) q ≡ t)
+      by (OfLdterm l) begins over = let e = serves-ends here again (disciplined l p.queues) begins over in (e.0, λ made. ap (served_by ldterm_stands) (e.1 made))
+      by (OfPtem q) begins over = (record { treat = omega arith; done = omega arith }, λ made. refl)
+      by (OfPckt q) begins over = (record { treat = omega arith; done = omega arith }, λ made. refl)
 
-  module-made : (stop : Option ℕ) (p : Module ℕ) (made : ℕ) → module_serves plain here made again stop p ≡ module_serves plain here 0 again stop p
-  module-made stop (OfLdterm l) made = ap (served_by OfLdterm) (serves-made here again stop l made)
-  module-made stop (OfPtem p) made = refl
-  module-made stop (OfPckt p) made = refl
+  module-made : (stop : Option ℕ) (p : Standing ℕ) (made : ℕ) → module_serves plain here made again stop p ≡ module_serves plain here 0 again stop p
+  module-made stop p made = by p.part
+    where
+      by : (part : Module ℕ) → let q = stood part p.queues in module_serves plain here made again stop q ≡ module_serves plain here 0 again stop q
+      by (OfLdterm l) = ap (served_by ldterm_stands) (serves-made here again stop (disciplined l p.queues) made)
+      by (OfPtem q) = refl
+      by (OfPckt q) = refl
 
 ways : (a b : Stage ℕ) (c d : Option (Message ℕ)) → a ≡ b → c ≡ d → (let x : UnderWay = record { stage = a; in_work = c } in let y : UnderWay = record { stage = b; in_work = d } in x ≡ y)
 ways a b c d same work = ap (λ (x : Stage ℕ). let v : UnderWay = record { stage = x; in_work = c } in v) same ∙ ap (λ (x : Option (Message ℕ)). let v : UnderWay = record { stage = b; in_work = x } in v) work
 
-put-stays : (made j : ℕ) (to : Spot) (m : Message ℕ) (ps : List (Module ℕ)) → map under_way (put_among (module_puts plain made) j to m ps).state ≡ map under_way ps
+put-stays-at : (made : ℕ) (to : Spot) (m : Message ℕ) (p : Standing ℕ) → under_way (module_puts plain made to m p).state ≡ under_way p
+put-stays-at made to m p = by p.part
+  where
+    by : (part : Module ℕ) → under_way (module_puts plain made to m (stood part p.queues)).state ≡ under_way (stood part p.queues)
+    by (OfPtem q) = refl
+    by (OfPckt q) = refl
+    by (OfLdterm l) =
+        let d = disciplined l p.queues in
+        let q = (ldterm_puts to m d).state in
+        let same = puts-stay to m d in
+        ways q.stage d.stage q.in_work d.in_work same.stage same.work
+
+put-stays : (made j : ℕ) (to : Spot) (m : Message ℕ) (ps : List (Standing ℕ)) → map under_way (put_among (module_puts plain made) j to m ps).state ≡ map under_way ps
 put-stays made j to m [] = refl
-put-stays made zero to m (OfPtem p ∷ ls) = refl
-put-stays made zero to m (OfPckt p ∷ ls) = refl
-put-stays made zero to m (OfLdterm l ∷ ls) =
-    let q = (ldterm_puts to m l).state in
-    let same = puts-stay to m l in
-    ap (λ x. x ∷ map under_way ls) (ways q.stage l.stage q.in_work l.in_work same.stage same.work)
+put-stays made zero to m (l ∷ ls) = ap (λ x. x ∷ map under_way ls) (put-stays-at made to m l)
 put-stays made (suc j) to m (l ∷ ls) = ap (λ xs. under_way l ∷ xs) (put-stays made j to m ls)
 
 -- so it does in deliveries
 pub sent-stays : (sent : List (Parcel ℕ)) (s : State ℕ) (side : Side) → map under_way (stream side (in_turn (carried (put_in plain) HOPS) sent s).state).modules ≡ map under_way (stream side s).modules
 sent-stays sent s = in_turn-holds (OnBoth Good) (carried (put_in plain) HOPS) (carried-holds (OnBoth Good) (put_in plain) (puts-good Good plain (λ side made i to m ps same. put-stays made i to m ps ∙ same)) HOPS) sent s (λ side. refl)
   where
-    Good : Side → List (Module ℕ) → Type 0
+    Good : Side → List (Standing ℕ) → Type 0
     Good side ps = map under_way ps ≡ map under_way (stream side s).modules
 
 -- the modules stay where cells are booked as made
@@ -118,11 +139,11 @@ booked-stays side [] s = refl
 booked-stays side (Goes dir rule cells ∷ told) s = booked-stays side told s
 booked-stays side (Comes dir cells ∷ told) s = booked-stays side told (with_book dir (with_made (length cells) (book dir s)) s)
 
-with-modules : (side : Side) (ps : List (Module ℕ)) (s : State ℕ) → (stream side (with_stream side (record (stream side s) { modules = ps }) s)).modules ≡ ps
+with-modules : (side : Side) (ps : List (Standing ℕ)) (s : State ℕ) → (stream side (with_stream side (record (stream side s) { modules = ps }) s)).modules ≡ ps
 with-modules side ps s = ap (λ (t : Stream ℕ). t.modules) (get-set-same side (record (stream side s) { modules = ps }) s.ends)
 
 module _ (here : Spot) where
-  acted-modules : (t : Acted ℕ (List (Module ℕ))) (s : State ℕ) → (stream here.side (module_acted here t s).state).modules ≡ t.state
+  acted-modules : (t : Acted ℕ (List (Standing ℕ))) (s : State ℕ) → (stream here.side (module_acted here t s).state).modules ≡ t.state
   acted-modules t s = booked-stays here.side t.gone (module_acted here (record t { gone = [] }) s).state ∙ with-modules here.side t.state s
 
   module _ (again : Bool) (stop : Option ℕ) where
@@ -145,7 +166,7 @@ module _ (here : Spot) where
         let ps = (stream here.side s).modules in
         let qs = (stream here.side (led here again stop s).state).modules in
         let i = here.at - 1 in
-        let acts : Module ℕ → Acted ℕ (Module ℕ) = λ p. (module_serves plain here 0 again stop p).acted in
+        let acts : Standing ℕ → Acted ℕ (Standing ℕ) = λ p. (module_serves plain here 0 again stop p).acted in
         let none = under_way none_there in
         let same = led-length s in
         let long = act-length acts i ps in
@@ -159,14 +180,14 @@ module _ (here : Spot) where
   behind gone bytes v = record { state = v.state; gone = gone ++ v.gone; bytes = bytes + v.bytes; ended = v.ended }
 
   -- a call and those that follow it
-  abbrev next_of : ℕ → ℕ → Acted ℕ (List (Module ℕ)) → ℕ → Bool → State ℕ → Calls ℕ
+  abbrev next_of : ℕ → ℕ → Acted ℕ (List (Standing ℕ)) → ℕ → Bool → State ℕ → Calls ℕ
   next_of more left t bytes again s =
       let w = module_acted here t s in
       let u = in_turn (carried (put_in plain) HOPS) w.sent w.state in
       let v = calls plain here more true (left - bytes) u.state in
       cond {A = Calls ℕ} again (record { state = v.state; gone = w.gone ++ u.gone ++ v.gone; bytes = bytes + v.bytes; ended = v.ended }) (record { state = u.state; gone = w.gone ++ u.gone; bytes = bytes; ended = true })
 
-  next-same : (more left : ℕ) (s : State ℕ) (t t' : Acted ℕ (List (Module ℕ))) (b b' : ℕ) (g g' : Bool) → t ≡ t' → b ≡ b' → g ≡ g' → next_of more left t b g s ≡ next_of more left t' b' g' s
+  next-same : (more left : ℕ) (s : State ℕ) (t t' : Acted ℕ (List (Standing ℕ))) (b b' : ℕ) (g g' : Bool) → t ≡ t' → b ≡ b' → g ≡ g' → next_of more left t b g s ≡ next_of more left t' b' g' s
   next-same more left s t t' b b' g g' acts bytes asks = ap (λ x. next_of more left x b g s) acts ∙ ap (λ x. next_of more left t' x g s) bytes ∙ ap (λ x. next_of more left t' b' x s) asks
 
   -- a call within a limit is as one without it, where the module does alike
@@ -177,12 +198,12 @@ module _ (here : Spot) where
       let ps = (stream here.side s).modules in
       let i = here.at - 1 in
       let made = made_below here.side s in
-      let f : Module ℕ → Serving ℕ (Module ℕ) = λ p. module_serves plain here made again (Some left) p in
-      let g : Module ℕ → Serving ℕ (Module ℕ) = λ p. module_serves plain here 0 again stop p in
+      let f : Standing ℕ → Serving ℕ (Standing ℕ) = λ p. module_serves plain here made again (Some left) p in
+      let g : Standing ℕ → Serving ℕ (Standing ℕ) = λ p. module_serves plain here 0 again stop p in
       next-same more left s (call_at plain here made again left ps) (called here again stop ps) (bytes_at plain here made again left ps) (treated here again stop ps) (again_at plain here made again left ps) (asks_on here again stop ps)
-      (act-alike none_there (λ p. (f p).acted) (λ p. (g p).acted) i ps (ap (λ (t : Serving ℕ (Module ℕ)). t.acted) (alike made)))
-      (index-map none_there (λ p. (f p).bytes) 0 i ps low ∙ ap (λ (t : Serving ℕ (Module ℕ)). t.bytes) (alike made) ∙ sym (index-map none_there (λ p. (g p).bytes) 0 i ps low))
-      (index-map none_there (λ p. (f p).again) false i ps low ∙ ap (λ (t : Serving ℕ (Module ℕ)). t.again) (alike made) ∙ sym (index-map none_there (λ p. (g p).again) false i ps low))
+      (act-alike none_there (λ p. (f p).acted) (λ p. (g p).acted) i ps (ap (λ (t : Serving ℕ (Standing ℕ)). t.acted) (alike made)))
+      (index-map none_there (λ p. (f p).bytes) 0 i ps low ∙ ap (λ (t : Serving ℕ (Standing ℕ)). t.bytes) (alike made) ∙ sym (index-map none_there (λ p. (g p).bytes) 0 i ps low))
+      (index-map none_there (λ p. (f p).again) false i ps low ∙ ap (λ (t : Serving ℕ (Standing ℕ)). t.again) (alike made) ∙ sym (index-map none_there (λ p. (g p).again) false i ps low))
 
   module _ (s0 : State ℕ) where
     -- What the calls of a turn have led to so far, of which the next one is the first (false) or not: whatever the bytes are that the rest
@@ -190,15 +211,15 @@ module _ (here : Spot) where
     pub record Reached (again : Bool) (bytes : ℕ) (gone : List (Fate ℕ)) (s : State ℕ) : Type 0 where
       pub made : ℕ
       pub inside : here.at - 1 < length (stream here.side s).modules
-      pub begins : Begins here.way again (ldterm_of (module_at here s))
-      pub few : made ≤ 3 * bytes + stages_done (ldterm_of (module_at here s)).stage
-      pub within : bytes + bytes_left here.way again (ldterm_of (module_at here s)) ≤ bytes_left here.way false (ldterm_of (module_at here s0))
-      pub goes : (left more : ℕ) → stages_done (ldterm_of (module_at here s)).stage ≤ 3 * left → calls plain here (made + more) false (bytes + left) s0 ≡ behind gone bytes (calls plain here more again left s)
+      pub begins : Begins here.way again (discipline_of (module_at here s))
+      pub few : made ≤ 3 * bytes + stages_done (discipline_of (module_at here s)).stage
+      pub within : bytes + bytes_left here.way again (discipline_of (module_at here s)) ≤ bytes_left here.way false (discipline_of (module_at here s0))
+      pub goes : (left more : ℕ) → stages_done (discipline_of (module_at here s)).stage ≤ 3 * left → calls plain here (made + more) false (bytes + left) s0 ≡ behind gone bytes (calls plain here more again left s)
 
     none-behind : (v : Calls ℕ) → behind [] 0 v ≡ v
     none-behind v = ap (λ (n : ℕ). record { state = v.state; gone = v.gone; bytes = n; ended = v.ended }) (let e : 0 + v.bytes ≡ v.bytes = omega arith in e)
 
-    pub reached-first : here.at - 1 < length (stream here.side s0).modules → Begins here.way false (ldterm_of (module_at here s0)) → Reached false 0 [] s0
+    pub reached-first : here.at - 1 < length (stream here.side s0).modules → Begins here.way false (discipline_of (module_at here s0)) → Reached false 0 [] s0
     reached-first low begins = record {
       made = 0;
       inside = low;
@@ -225,22 +246,22 @@ module _ (here : Spot) where
         record {
           made = suc r.made;
           inside = omega (arith, r.inside, led-length again None s);
-          begins = subst (λ w. Begins w true (ldterm_of q)) (sym g.up) (ap (λ (x : UnderWay). is_some x.in_work) at ∙ g.work);
+          begins = subst (λ w. Begins w true (discipline_of q)) (sym g.up) (ap (λ (x : UnderWay). is_some x.in_work) at ∙ g.work);
           few = omega (arith, r.few, g.done, bytes_is, done);
           within = omega (arith, r.within, g.treat, bytes_is, left_is);
           goes = goes;
         }
       where
-        ps : List (Module ℕ)
+        ps : List (Standing ℕ)
         ps = (stream here.side s).modules
 
-        l : Module ℕ
+        l : Standing ℕ
         l = module_at here s
 
-        t : Serving ℕ (Module ℕ)
+        t : Serving ℕ (Standing ℕ)
         t = module_serves plain here 0 again None l
 
-        q : Module ℕ
+        q : Standing ℕ
         q = module_at here (led here again None s).state
 
         b : ℕ
@@ -252,19 +273,19 @@ module _ (here : Spot) where
         bytes_is : b ≡ t.bytes
         bytes_is = index-map none_there (λ p. (module_serves plain here 0 again None p).bytes) 0 (here.at - 1) ps r.inside
 
-        g : GoesOn here.way again (ldterm_of l) t.bytes (ldterm_of t.acted.state)
+        g : GoesOn here.way again (discipline_of l) t.bytes (discipline_of t.acted.state)
         g = module-goes here again l r.begins works
 
         at : under_way q ≡ under_way t.acted.state
         at = led-at again None s r.inside
 
-        done : stages_done (ldterm_of q).stage ≡ stages_done (ldterm_of t.acted.state).stage
+        done : stages_done (discipline_of q).stage ≡ stages_done (discipline_of t.acted.state).stage
         done = ap (λ (x : UnderWay). stages_done x.stage) at
 
-        left_is : bytes_left here.way true (ldterm_of q) ≡ to_treat (ldterm_of t.acted.state)
-        left_is = ap (λ w. bytes_left w true (ldterm_of q)) g.up ∙ ap (λ (x : UnderWay). to_treat (record (ldterm_of q) { stage = x.stage; in_work = x.in_work })) at
+        left_is : bytes_left here.way true (discipline_of q) ≡ to_treat (discipline_of t.acted.state)
+        left_is = ap (λ w. bytes_left w true (discipline_of q)) g.up ∙ ap (λ (x : UnderWay). to_treat (record (discipline_of q) { stage = x.stage; in_work = x.in_work })) at
 
-        goes : (left more : ℕ) → stages_done (ldterm_of q).stage ≤ 3 * left → calls plain here (suc r.made + more) false (bytes + b + left) s0 ≡ behind (gone ++ (led here again None s).gone) (bytes + b) (calls plain here more true left (led here again None s).state)
+        goes : (left more : ℕ) → stages_done (discipline_of q).stage ≤ 3 * left → calls plain here (suc r.made + more) false (bytes + b + left) s0 ≡ behind (gone ++ (led here again None s).gone) (bytes + b) (calls plain here more true left (led here again None s).state)
         goes left more fits =
             let w = module_acted here (called here again None ps) s in
             let u = in_turn (carried (put_in plain) HOPS) w.sent w.state in
@@ -290,7 +311,7 @@ module _ (here : Spot) where
       abbrev IsLast : Option ℕ → Type 0
       IsLast stop =
           let b = treated here again stop (stream here.side s).modules in
-          Ends here.way again (ldterm_of (module_at here s)) b × ((made : ℕ) → module_serves plain here made again (Some b) (module_at here s) ≡ module_serves plain here 0 again stop (module_at here s))
+          Ends here.way again (discipline_of (module_at here s)) b × ((made : ℕ) → module_serves plain here made again (Some b) (module_at here s) ≡ module_serves plain here 0 again stop (module_at here s))
 
       last-is : (stop : Option ℕ) → asks_on here again stop (stream here.side s).modules ≡ false → Stopped here again s stop → IsLast stop
       last-is None over _ =
@@ -303,7 +324,7 @@ module _ (here : Spot) where
           (record { treat = let a = e.0.treat in omega (arith, bytes_is); done = let a = e.0.done in omega (arith, bytes_is) }, λ made. ap (λ n. module_serves plain here made again (Some n) l) bytes_is ∙ e.1 made)
       last-is (Some n) over is =
           let l = module_at here s in
-          (subst (λ b. Ends here.way again (ldterm_of l) b) is.0 is.1, λ made. ap (λ b. module_serves plain here made again (Some b) l) (sym is.0) ∙ module-made here again (Some n) l made)
+          (subst (λ b. Ends here.way again (discipline_of l) b) is.0 is.1, λ made. ap (λ b. module_serves plain here made again (Some b) l) (sym is.0) ∙ module-made here again (Some n) l made)
 
       last-moves : (stop : Option ℕ) → asks_on here again stop (stream here.side s).modules ≡ false → IsLast stop → moved_on plain here name (all stop) s0 ≡ ended stop
       last-moves stop over is =
@@ -320,24 +341,20 @@ module _ (here : Spot) where
 
       -- The turn went so far, and led to that.
       pub reached-last : (stop : Option ℕ) → asks_on here again stop (stream here.side s).modules ≡ false → Stopped here again s stop
-          → (all stop ≤ bytes_left here.way false (ldterm_of (module_at here s0))) × (moved_on plain here name (all stop) s0 ≡ ended stop)
+          → (all stop ≤ bytes_left here.way false (discipline_of (module_at here s0))) × (moved_on plain here name (all stop) s0 ≡ ended stop)
       reached-last stop over stopped =
           let is = last-is stop over stopped in
           (let treat = is.0.treat in omega (arith, r.within, treat), last-moves stop over is)
 
-  whole : (way : Way) (p : Module ℕ) → bytes_left way false (ldterm_of p) ≡ first_size (messages_at module_queue way p)
-  whole Up (OfLdterm l) = refl
-  whole Down (OfLdterm l) = refl
-  whole Up (OfPtem p) = refl
-  whole Up (OfPckt p) = refl
-  whole Down (OfPtem p) = refl
-  whole Down (OfPckt p) = refl
+  pub whole : (way : Way) (p : Standing ℕ) → bytes_left way false (discipline_of p) ≡ first_size (messages_at way p)
+  whole Up p = ap (λ ms. first_size ms) (stands-at Up (ldterm_of p.part) p.queues)
+  whole Down p = ap (λ ms. first_size ms) (stands-at Down (ldterm_of p.part) p.queues)
 
   -- how many bytes the first message has
   pub first-left : (s : State ℕ) → here.at - 1 < length (stream here.side s).modules
-      → at_place (λ p. first_size (messages_at module_queue here.way p)) 0 here.at (stream here.side s).modules ≡ bytes_left here.way false (ldterm_of (module_at here s))
+      → at_place (λ p. first_size (messages_at here.way p)) 0 here.at (stream here.side s).modules ≡ bytes_left here.way false (discipline_of (module_at here s))
   first-left s low =
-      index-map none_there (λ p. first_size (messages_at module_queue here.way p)) 0 (here.at - 1) (stream here.side s).modules low ∙ sym (whole here.way (module_at here s))
+      index-map none_there (λ p. first_size (messages_at here.way p)) 0 (here.at - 1) (stream here.side s).modules low ∙ sym (whole here.way (module_at here s))
 
   -- so many bytes of a message, and one at least where it has one
   one-at-least : (bytes size : ℕ) → bytes ≤ size → (bytes ≡ 0 → size ≡ 0) → min (max 1 bytes) size ≡ bytes
@@ -345,9 +362,9 @@ module _ (here : Spot) where
   one-at-least (suc bytes) size within some = omega (arith, within)
 
   -- and no further than to the end of the first message, of which a byte was treated where it has one
-  pub moves-within : (name : QueueName) (bytes : ℕ) (s : State ℕ) → here.at - 1 < length (stream here.side s).modules → bytes ≤ bytes_left here.way false (ldterm_of (module_at here s))
-      → (bytes ≡ 0 → bytes_left here.way false (ldterm_of (module_at here s)) ≡ 0) → moved_within plain here name (Moved bytes) s ≡ moved_on plain here name bytes s
+  pub moves-within : (name : QueueName) (bytes : ℕ) (s : State ℕ) → here.at - 1 < length (stream here.side s).modules → bytes ≤ bytes_left here.way false (discipline_of (module_at here s))
+      → (bytes ≡ 0 → bytes_left here.way false (discipline_of (module_at here s)) ≡ 0) → moved_within plain here name (Moved bytes) s ≡ moved_on plain here name bytes s
   moves-within name bytes s low within some =
       let ps = (stream here.side s).modules in
       let first = first-left s low in
-      ap (λ n. moved_on plain here name n s) (one-at-least bytes (at_place (λ p. first_size (messages_at module_queue here.way p)) 0 here.at ps) (omega (arith, first, within)) (λ none. (let e = some none in omega (arith, first, e))))
+      ap (λ n. moved_on plain here name n s) (one-at-least bytes (at_place (λ p. first_size (messages_at here.way p)) 0 here.at ps) (omega (arith, first, within)) (λ none. (let e = some none in omega (arith, first, e))))

@@ -15,7 +15,7 @@ use Rattle.strm_types.specs.ModuleQueues.{at_place, place_past}
 use Rattle.strm_laws.specs.ModuleTurns.{Calls, again_at, asked_turn, bytes_at, call_at, calls, made_below, module_called, module_turned, moved_on, moved_within, place_named, queue_ended, turned_named, turned_there, waits_there}
 use Rattle.strm_laws.specs.Past.{has_room_past, waits_on, writer_waits}
 use Rattle.strm_laws.specs.Puts.{put_in}
-use Rattle.strm_laws.specs.Stacked.{module_asks, module_queue, module_rests}
+use Rattle.strm_laws.specs.Stacked.{module_asks, module_rests}
 use Rattle.strm_laws.specs.State.{State, stream, with_stream}
 use Rattle.strm_laws.specs.TurnOutcomes.{TurnOutcome}
 use Rattle.strm_laws.proofs.PutParts.{Stays, acted-holds, sent-holds}
@@ -62,7 +62,7 @@ module _ {C : Type 0} (P : State C → Type 0) (stays : Stays P) where
         let on = stream here.side s in
         let waiting = writer_waits here.side here.way here.at band.0 s in
         outcome-holds (has_room_past here.side here.way here.at band.0 s) (moved_within cells here name turn s) (waits_there band.0 here s) (moved-holds name _ s holds)
-        (ended-holds here false waiting (past-holds here.side here.way band.0 (place_past module_queue here.way here.at on.modules) s holds))
+        (ended-holds here false waiting (past-holds here.side here.way band.0 (place_past here.way here.at on.modules) s holds))
 
     there-holds : (name : QueueName) (turn : Turn) (s : State C) → P s → P (turned_there cells here name turn s).state
     there-holds name turn s holds =

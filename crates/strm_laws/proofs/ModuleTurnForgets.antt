@@ -12,14 +12,17 @@ use Rattle.strm_types.specs.declared.names.Way.TheVariants.{Up, Down}
 use Rattle.strm_types.specs.declared.spots.Asks.{Asks}
 use Rattle.strm_types.specs.declared.spots.Asks.TheVariants as asked
 use Rattle.strm_types.specs.declared.spots.Spot.{Spot}
-use Rattle.strm_types.specs.Asking.{asked_by, asked_first}
+use Rattle.strm_types.specs.Asking.{asked_by, asked_first, ldterm_asks}
 use Rattle.strm_types.specs.Cells.{Cells, AreCells, plain}
 use Rattle.strm_types.specs.Deliver.{Acted, Carried, Took, carried, in_turn}
 use Rattle.strm_laws.specs.Earlier.{places_of}
 use Rattle.strm_laws.specs.LdtermOrigins.{map_ldterm, map_serving, map_stage}
-use Rattle.strm_types.specs.Ldterms.{is_between, Between, Begun, Answered, Stage}
+use Rattle.strm_types.specs.LdtermServes.{ldterm_serves}
+use Rattle.strm_types.specs.LdtermStands.{disciplined}
+use Rattle.strm_types.specs.Ldterms.{Discipline, is_between, Between, Begun, Answered, Stage}
 use Rattle.strm_types.specs.Message.{Message, map_message}
-use Rattle.strm_types.specs.ModuleQueues.{at_place, messages_at, queue_changed}
+use Rattle.strm_types.specs.ModuleQueues.{at_place}
+use Rattle.strm_types.specs.Standings.{QueuePair, map_pair, messages_at, messages_on, pair_changed, queue_changed, stood}
 use Rattle.strm_laws.specs.ModuleTurns.{Calls, again_at, asked_turn, bytes_at, call_at, calls, made_below, module_called, module_turn_ended, module_turned, moved_by, moved_on, moved_within, named_from, place_named, queue_ended, stayed_at, turned_named, turned_there, waits_there}
 use Rattle.strm_types.specs.Modules.{act_among, change_among}
 use Rattle.strm_types.specs.Names.{enable_if, enable_some}
@@ -27,8 +30,8 @@ use Rattle.strm_types.specs.Origins.{map_acted, map_carried, map_fate, map_parce
 use Rattle.strm_laws.specs.Past.{has_room_past, writer_waits}
 use Rattle.strm_laws.specs.Puts.{earlier_at, module_acted, put_in}
 use Rattle.strm_types.specs.Queue.{Queue, is_none_left, map_messages, map_queue, relieved, first_size}
-use Rattle.strm_types.specs.Service.{Serving, end_relieves, has_more, turn_ended, turn_relieves}
-use Rattle.strm_laws.specs.Stacked.{Module, OfLdterm, OfPtem, OfPckt, map_module, module_asks, module_queue, module_rests, module_serves, served_by, with_module_queue}
+use Rattle.strm_types.specs.Service.{Serving, end_relieves, has_more, turn_ended, turn_relieves, served_by}
+use Rattle.strm_laws.specs.Stacked.{Module, OfLdterm, OfPtem, OfPckt, Standing, kind_rests, ldterm_stands, map_kind, map_module, module_asks, module_rests, module_serves}
 use Rattle.strm_laws.specs.State.{State, Stream, stream, with_stream, map_state, map_stream}
 use Rattle.strm_laws.specs.TurnOutcomes.{TurnOutcome, map_turn_outcome, stayed_put}
 use Rattle.strm_laws.proofs.DeliveryForgets.{carried-agrees, in_turn-agrees, map-join}
@@ -38,22 +41,23 @@ use Rattle.strm_laws.proofs.Forgetting.{kind-forgets, named_band-forgets, none-f
 use Rattle.strm_laws.proofs.LdtermServes.{serves-forget}
 use Rattle.strm_laws.proofs.Past.{room-forgets, with_stream-same, writer_waits-forgets}
 use Rattle.strm_laws.proofs.PutsForget.{acted-same, puts-forget}
+use Rattle.strm_laws.proofs.StandingLdterms.{at-forgets}
 
 module _ {C D : Type 0} (f : C → D) where
-  abbrev images : List (Module C) → List (Module D)
+  abbrev images : List (Standing C) → List (Standing D)
   images ps = map (map_module f) ps
 
   -- what is said of a place, where it is the same of each module
-  said-same : {A : Type 0} (say : Module C → A) (say' : Module D → A) → ((p : Module C) → say' (map_module f p) ≡ say p) → (ps : List (Module C)) → map say' (images ps) ≡ map say ps
+  said-same : {A : Type 0} (say : Standing C → A) (say' : Standing D → A) → ((p : Standing C) → say' (map_module f p) ≡ say p) → (ps : List (Standing C)) → map say' (images ps) ≡ map say ps
   said-same say say' same [] = refl
   said-same say say' same (p ∷ ps) = ap (λ x. x ∷ map say' (images ps)) (same p) ∙ ap (λ xs. say p ∷ xs) (said-same say say' same ps)
 
-  at_place-same : {A : Type 0} (say : Module C → A) (say' : Module D → A) → ((p : Module C) → say' (map_module f p) ≡ say p) → (otherwise : A) (place : ℕ) (ps : List (Module C))
+  at_place-same : {A : Type 0} (say : Standing C → A) (say' : Standing D → A) → ((p : Standing C) → say' (map_module f p) ≡ say p) → (otherwise : A) (place : ℕ) (ps : List (Standing C))
       → at_place say' otherwise place (images ps) ≡ at_place say otherwise place ps
   at_place-same say say' same otherwise place ps = ap (λ xs. slice_index_or xs (place - 1) otherwise) (said-same say say' same ps)
 
   -- a change of one of several
-  change-same : (change : Module C → Module C) (change' : Module D → Module D) → ((p : Module C) → change' (map_module f p) ≡ map_module f (change p)) → (i : ℕ) (ps : List (Module C))
+  change-same : (change : Standing C → Standing C) (change' : Standing D → Standing D) → ((p : Standing C) → change' (map_module f p) ≡ map_module f (change p)) → (i : ℕ) (ps : List (Standing C))
       → change_among change' i (images ps) ≡ images (change_among change i ps)
   change-same change change' same i [] = refl
   change-same change change' same zero (p ∷ ps) = ap (λ q. q ∷ images ps) (same p)
@@ -64,11 +68,22 @@ module _ {C D : Type 0} (f : C → D) where
   asked-same way stopped [] = refl
   asked-same way stopped (m ∷ ms) = ap (λ kind. asked_by way stopped kind (map_message f m).band) (kind-forgets f m) ∙ ap (λ band. asked_by way stopped m.kind band) (named_band-forgets f m)
 
-  asks-same : (way : Way) (p : Module C) → module_asks way (map_module f p) ≡ module_asks way p
-  asks-same Up (OfLdterm l) = asked-same Up l.stopped l.read_queue.messages
-  asks-same Down (OfLdterm l) = asked-same Down l.stopped l.write_queue.messages
-  asks-same way (OfPtem p) = refl
-  asks-same way (OfPckt p) = refl
+  on-same : (way : Way) (queues : Option (QueuePair C)) → messages_on way (option_map (map_pair f) queues) ≡ map_messages f (messages_on way queues)
+  on-same way None = refl
+  on-same Up (Some pair) = refl
+  on-same Down (Some pair) = refl
+
+  ldterm-asks : (way : Way) (d : Discipline C) → ldterm_asks way (map_ldterm f d) ≡ ldterm_asks way d
+  ldterm-asks Up d = asked-same Up d.stopped d.read_queue.messages
+  ldterm-asks Down d = asked-same Down d.stopped d.write_queue.messages
+
+  asks-same : (way : Way) (p : Standing C) → module_asks way (map_module f p) ≡ module_asks way p
+  asks-same way p = by p.part
+    where
+      by : (part : Module C) → module_asks way (map_module f (stood part p.queues)) ≡ module_asks way (stood part p.queues)
+      by (OfLdterm l) = ap (λ d. ldterm_asks way d) (at-forgets f l p.queues) ∙ ldterm-asks way (disciplined l p.queues)
+      by (OfPtem q) = refl
+      by (OfPckt q) = refl
 
   between-same : (x : Stage C) → is_between (map_stage f x) ≡ is_between x
   between-same Between = refl
@@ -83,21 +98,21 @@ module _ {C D : Type 0} (f : C → D) where
   gathered-same [] = refl
   gathered-same (x ∷ xs) = refl
 
-  rests-same : (p : Module C) → module_rests (map_module f p) ≡ module_rests p
-  rests-same (OfPtem p) = refl
-  rests-same (OfPckt p) = refl
-  rests-same (OfLdterm p) =
-      rw (work-same p.in_work, gathered-same p.gathered, between-same p.stage) refl
+  rests-same : (p : Standing C) → module_rests (map_module f p) ≡ module_rests p
+  rests-same p = by p.part
+    where
+      by : (part : Module C) → kind_rests (map_kind f part) ≡ kind_rests part
+      by (OfPtem q) = refl
+      by (OfPckt q) = refl
+      by (OfLdterm l) =
+          rw (work-same l.in_work, gathered-same l.gathered, between-same l.stage) refl
 
   first-same : (ms : List (Message C)) → first_size (map_messages f ms) ≡ first_size ms
   first-same [] = refl
   first-same (m ∷ ms) = size-forgets f m
 
-  size-same : (way : Way) (p : Module C) → first_size (messages_at module_queue way (map_module f p)) ≡ first_size (messages_at module_queue way p)
-  size-same Up (OfLdterm l) = first-same l.read_queue.messages
-  size-same Down (OfLdterm l) = first-same l.write_queue.messages
-  size-same way (OfPtem p) = refl
-  size-same way (OfPckt p) = refl
+  size-same : (way : Way) (p : Standing C) → first_size (messages_at way (map_module f p)) ≡ first_size (messages_at way p)
+  size-same way p = ap (λ ms. first_size ms) (on-same way p.queues) ∙ first-same (messages_at way p)
 
   -- the end of a turn
   ended-same : (took : Bool) (q : Queue C) → turn_ended took (map_queue f q) ≡ map_queue f (turn_ended took q)
@@ -109,16 +124,18 @@ module _ {C D : Type 0} (f : C → D) where
       at true = sym (relieved-forgets f (record q { want_read = is_none_left q.messages }))
       at false = refl
 
-  changed-same : (way : Way) (took : Bool) (p : Module C) → queue_changed module_queue with_module_queue way (turn_ended took) (map_module f p) ≡ map_module f (queue_changed module_queue with_module_queue way (turn_ended took) p)
-  changed-same Up took (OfLdterm l) = ap (λ q. OfLdterm (record (map_ldterm f l) { read_queue = q })) (ended-same took l.read_queue)
-  changed-same Down took (OfLdterm l) = ap (λ q. OfLdterm (record (map_ldterm f l) { write_queue = q })) (ended-same took l.write_queue)
-  changed-same way took (OfPtem p) = refl
-  changed-same way took (OfPckt p) = refl
+  changed-same : (way : Way) (took : Bool) (p : Standing C) → queue_changed way (turn_ended took) (map_module f p) ≡ map_module f (queue_changed way (turn_ended took) p)
+  changed-same way took p = ap (λ queues. stood (map_kind f p.part) queues) (by way p.queues)
+    where
+      by : (way : Way) (queues : Option (QueuePair C)) → option_map (pair_changed way (turn_ended took)) (option_map (map_pair f) queues) ≡ option_map (map_pair f) (option_map (pair_changed way (turn_ended took)) queues)
+      by way None = refl
+      by Up (Some pair) = ap (λ q. Some (record (map_pair f pair) { read = q })) (ended-same took pair.read)
+      by Down (Some pair) = ap (λ q. Some (record (map_pair f pair) { write = q })) (ended-same took pair.write)
 
   queue_ended-same : (here : Spot) (took : Bool) (t : Stream C) → queue_ended here took (map_stream f t) ≡ map_stream f (queue_ended here took t)
   queue_ended-same here took t =
-      ap (λ (ps : List (Module D)). record (map_stream f t) { modules = ps })
-      (change-same (queue_changed module_queue with_module_queue here.way (turn_ended took)) (queue_changed module_queue with_module_queue here.way (turn_ended took)) (changed-same here.way took) (here.at - 1) t.modules)
+      ap (λ (ps : List (Standing D)). record (map_stream f t) { modules = ps })
+      (change-same (queue_changed here.way (turn_ended took)) (queue_changed here.way (turn_ended took)) (changed-same here.way took) (here.at - 1) t.modules)
 
   ended_at-same : (here : Spot) (took : Bool) (s : State C) → with_stream here.side (queue_ended here took (stream here.side (map_state f s))) (map_state f s) ≡ map_state f (with_stream here.side (queue_ended here took (stream here.side s)) s)
   ended_at-same here took s =
@@ -127,17 +144,16 @@ module _ {C D : Type 0} (f : C → D) where
   relieves-same : (took : Bool) (q : Queue C) → turn_relieves took (map_queue f q) ≡ turn_relieves took q
   relieves-same took q = ap (λ b. took && b) (relieves_from-forgets f 0 q.messages q.flows)
 
-  end_relieves-same : (took : Bool) (way : Way) (p : Module C) → end_relieves module_queue took way (map_module f p) ≡ end_relieves module_queue took way p
-  end_relieves-same took Up (OfLdterm l) = relieves-same took l.read_queue
-  end_relieves-same took Down (OfLdterm l) = relieves-same took l.write_queue
-  end_relieves-same took way (OfPtem p) = refl
-  end_relieves-same took way (OfPckt p) = refl
+  end_relieves-same : (took : Bool) (way : Way) (p : Standing C) → end_relieves took way (map_module f p) ≡ end_relieves took way p
+  end_relieves-same took way p = by way p.queues
+    where
+      by : (way : Way) (queues : Option (QueuePair C)) → end_relieves took way (map_module f (stood p.part queues)) ≡ end_relieves took way (stood p.part queues)
+      by way None = refl
+      by Up (Some pair) = relieves-same took pair.read
+      by Down (Some pair) = relieves-same took pair.write
 
-  more-same : (way : Way) (p : Module C) → has_more module_queue way (map_module f p) ≡ has_more module_queue way p
-  more-same Up (OfLdterm l) = ap (λ none. not none) (none-forgets f (map_message f) l.read_queue.messages)
-  more-same Down (OfLdterm l) = ap (λ none. not none) (none-forgets f (map_message f) l.write_queue.messages)
-  more-same way (OfPtem p) = refl
-  more-same way (OfPckt p) = refl
+  more-same : (way : Way) (p : Standing C) → has_more way (map_module f p) ≡ has_more way p
+  more-same way p = ap (λ ms. not (is_none_left ms)) (on-same way p.queues) ∙ ap (λ none. not none) (none-forgets f (map_message f) (messages_at way p))
 
   abbrev with_enabled : {E : Type 0} → List QueueName → State E → State E
   with_enabled names s = record s { enabled = names }
@@ -148,21 +164,21 @@ module _ {C D : Type 0} (f : C → D) where
       let names : Bool → Bool → Option QueueName → List QueueName = λ more goes earlier. enable_if more name (enable_some goes earlier s.enabled) in
       let ended = with_stream here.side (queue_ended here took (stream here.side (map_state f s))) (map_state f s) in
       let earlier = earlier_at here.side here.at s here.way in
-      let goes = at_place (end_relieves module_queue took here.way) false here.at on.modules in
-      let more = at_place (has_more module_queue here.way) false here.at on.modules in
-      ap (λ (t : Stream D). with_enabled (names (at_place (has_more module_queue here.way) false here.at t.modules) (at_place (end_relieves module_queue took here.way) false here.at t.modules) (earlier_at here.side here.at (map_state f s) here.way)) ended) (stream-forgets f here.side s)
-      ∙ ap (λ b. with_enabled (names b (at_place (end_relieves module_queue took here.way) false here.at (images on.modules)) (earlier_at here.side here.at (map_state f s) here.way)) ended) (at_place-same (has_more module_queue here.way) (has_more module_queue here.way) (more-same here.way) false here.at on.modules)
-      ∙ ap (λ b. with_enabled (names more b (earlier_at here.side here.at (map_state f s) here.way)) ended) (at_place-same (end_relieves module_queue took here.way) (end_relieves module_queue took here.way) (end_relieves-same took here.way) false here.at on.modules)
+      let goes = at_place (end_relieves took here.way) false here.at on.modules in
+      let more = at_place (has_more here.way) false here.at on.modules in
+      ap (λ (t : Stream D). with_enabled (names (at_place (has_more here.way) false here.at t.modules) (at_place (end_relieves took here.way) false here.at t.modules) (earlier_at here.side here.at (map_state f s) here.way)) ended) (stream-forgets f here.side s)
+      ∙ ap (λ b. with_enabled (names b (at_place (end_relieves took here.way) false here.at (images on.modules)) (earlier_at here.side here.at (map_state f s) here.way)) ended) (at_place-same (has_more here.way) (has_more here.way) (more-same here.way) false here.at on.modules)
+      ∙ ap (λ b. with_enabled (names more b (earlier_at here.side here.at (map_state f s) here.way)) ended) (at_place-same (end_relieves took here.way) (end_relieves took here.way) (end_relieves-same took here.way) false here.at on.modules)
       ∙ ap (λ e. with_enabled (names more goes e) ended) (before_at-forgets f here.side here.way here.at s)
       ∙ ap (λ x. with_enabled (names more goes earlier) x) (ended_at-same here took s)
 
   -- how many were made
   -- one of several acts
-  among-same : (acts : Module C → Acted C (Module C)) (acts' : Module D → Acted D (Module D)) → ((p : Module C) → acts' (map_module f p) ≡ map_acted f (map_module f) (acts p)) → (i : ℕ) (ps : List (Module C))
+  among-same : (acts : Standing C → Acted C (Standing C)) (acts' : Standing D → Acted D (Standing D)) → ((p : Standing C) → acts' (map_module f p) ≡ map_acted f (map_module f) (acts p)) → (i : ℕ) (ps : List (Standing C))
       → act_among acts' i (images ps) ≡ map_acted f (map (map_module f)) (act_among acts i ps)
   among-same acts acts' same i [] = refl
-  among-same acts acts' same zero (p ∷ ps) = ap (λ (t : Acted D (Module D)). record { state = t.state ∷ images ps; notes = t.notes; sent = t.sent; gone = t.gone }) (same p)
-  among-same acts acts' same (suc i) (p ∷ ps) = ap (λ (t : Acted D (List (Module D))). record { state = map_module f p ∷ t.state; notes = t.notes; sent = t.sent; gone = t.gone }) (among-same acts acts' same i ps)
+  among-same acts acts' same zero (p ∷ ps) = ap (λ (t : Acted D (Standing D)). record { state = t.state ∷ images ps; notes = t.notes; sent = t.sent; gone = t.gone }) (same p)
+  among-same acts acts' same (suc i) (p ∷ ps) = ap (λ (t : Acted D (List (Standing D))). record { state = map_module f p ∷ t.state; notes = t.notes; sent = t.sent; gone = t.gone }) (among-same acts acts' same i ps)
 
   abbrev map_calls : Calls C → Calls D
   map_calls t = record { state = map_state f t.state; gone = map (map_fate f) t.gone; bytes = t.bytes; ended = t.ended }
@@ -178,7 +194,7 @@ module _ {C D : Type 0} (f : C → D) where
   waits-same band here s = ap (λ x. stayed_at Blocked here x) (writer_waits-forgets f here.side here.way here.at band s) ∙ stayed-same Blocked here (writer_waits here.side here.way here.at band s)
 
   -- the place of the module whose queues have a name
-  named-same : (place : Place) (ps : List (Module C)) → place_named place (images ps) ≡ place_named place ps
+  named-same : (place : Place) (ps : List (Standing C)) → place_named place (images ps) ≡ place_named place ps
   named-same place ps =
       ap (λ qs. named_from place 1 (places_of qs)) (take-map (map_module f) MODULES ps) ∙ ap (λ places. named_from place 1 places) (places-forget f (take MODULES ps))
 
@@ -186,19 +202,24 @@ module _ {C : Type 0} (cells : Cells C) (are : AreCells cells) where
   abbrev f : C → ℕ
   f = cells.byte
 
-  module-serves : (here : Spot) (made : ℕ) (again : Bool) (left : ℕ) (p : Module C) → module_serves plain here made again (Some left) (map_module f p) ≡ map_serving f (map_module f) (module_serves cells here made again (Some left) p)
-  module-serves here made again left (OfLdterm l) = ap (served_by OfLdterm) (serves-forget cells are here made again (Some left) l)
-  module-serves here made again left (OfPtem p) = refl
-  module-serves here made again left (OfPckt p) = refl
+  module-serves : (here : Spot) (made : ℕ) (again : Bool) (left : ℕ) (p : Standing C) → module_serves plain here made again (Some left) (map_module f p) ≡ map_serving f (map_module f) (module_serves cells here made again (Some left) p)
+  module-serves here made again left p = by p.part
+    where
+      by : (part : Module C) → module_serves plain here made again (Some left) (map_module f (stood part p.queues)) ≡ map_serving f (map_module f) (module_serves cells here made again (Some left) (stood part p.queues))
+      by (OfLdterm l) =
+          ap (λ (d : Discipline ℕ). served_by ldterm_stands (ldterm_serves plain here made again (Some left) d)) (at-forgets f l p.queues)
+          ∙ ap (served_by ldterm_stands) (serves-forget cells are here made again (Some left) (disciplined l p.queues))
+      by (OfPtem q) = refl
+      by (OfPckt q) = refl
 
-  acts-same : (here : Spot) (made : ℕ) (again : Bool) (left : ℕ) (p : Module C) → (module_serves plain here made again (Some left) (map_module f p)).acted ≡ map_acted f (map_module f) (module_serves cells here made again (Some left) p).acted
-  acts-same here made again left p = ap (λ (t : Serving ℕ (Module ℕ)). t.acted) (module-serves here made again left p)
+  acts-same : (here : Spot) (made : ℕ) (again : Bool) (left : ℕ) (p : Standing C) → (module_serves plain here made again (Some left) (map_module f p)).acted ≡ map_acted f (map_module f) (module_serves cells here made again (Some left) p).acted
+  acts-same here made again left p = ap (λ (t : Serving ℕ (Standing ℕ)). t.acted) (module-serves here made again left p)
 
-  bytes-same : (here : Spot) (made : ℕ) (again : Bool) (left : ℕ) (p : Module C) → (module_serves plain here made again (Some left) (map_module f p)).bytes ≡ (module_serves cells here made again (Some left) p).bytes
-  bytes-same here made again left p = ap (λ (t : Serving ℕ (Module ℕ)). t.bytes) (module-serves here made again left p)
+  bytes-same : (here : Spot) (made : ℕ) (again : Bool) (left : ℕ) (p : Standing C) → (module_serves plain here made again (Some left) (map_module f p)).bytes ≡ (module_serves cells here made again (Some left) p).bytes
+  bytes-same here made again left p = ap (λ (t : Serving ℕ (Standing ℕ)). t.bytes) (module-serves here made again left p)
 
-  again-same : (here : Spot) (made : ℕ) (again : Bool) (left : ℕ) (p : Module C) → (module_serves plain here made again (Some left) (map_module f p)).again ≡ (module_serves cells here made again (Some left) p).again
-  again-same here made again left p = ap (λ (t : Serving ℕ (Module ℕ)). t.again) (module-serves here made again left p)
+  again-same : (here : Spot) (made : ℕ) (again : Bool) (left : ℕ) (p : Standing C) → (module_serves plain here made again (Some left) (map_module f p)).again ≡ (module_serves cells here made again (Some left) p).again
+  again-same here made again left p = ap (λ (t : Serving ℕ (Standing ℕ)). t.again) (module-serves here made again left p)
 
   -- one call, and what it sent
   called-same : (here : Spot) (again : Bool) (left : ℕ) (s : State C) → module_called plain here again left (map_state f s) ≡ map_took f (map_state f) (module_called cells here again left s)
@@ -262,10 +283,10 @@ module _ {C : Type 0} (cells : Cells C) (are : AreCells cells) where
   within-same : (here : Spot) (name : QueueName) (turn : Turn) (s : State C) → moved_within plain here name turn (map_state f s) ≡ map_turn_outcome f (moved_within cells here name turn s)
   within-same here name turn s =
       let ps = (stream here.side s).modules in
-      let size = at_place (λ p. first_size (messages_at module_queue here.way p)) 0 here.at ps in
-      ap (λ (t : Stream ℕ). moved_on plain here name (min (moved_by turn) (at_place (λ p. first_size (messages_at module_queue here.way p)) 0 here.at t.modules)) (map_state f s)) (stream-forgets f here.side s)
+      let size = at_place (λ p. first_size (messages_at here.way p)) 0 here.at ps in
+      ap (λ (t : Stream ℕ). moved_on plain here name (min (moved_by turn) (at_place (λ p. first_size (messages_at here.way p)) 0 here.at t.modules)) (map_state f s)) (stream-forgets f here.side s)
       ∙ ap (λ n. moved_on plain here name (min (moved_by turn) n) (map_state f s))
-      (at_place-same f (λ p. first_size (messages_at module_queue here.way p)) (λ p. first_size (messages_at module_queue here.way p)) (size-same f here.way) 0 here.at ps)
+      (at_place-same f (λ p. first_size (messages_at here.way p)) (λ p. first_size (messages_at here.way p)) (size-same f here.way) 0 here.at ps)
       ∙ moved-same here name (min (moved_by turn) size) s
 
   asked-turn-same : (here : Spot) (asks : Asks) (name : QueueName) (turn : Turn) (s : State C) → asked_turn plain here asks name turn (map_state f s) ≡ map_turn_outcome f (asked_turn cells here asks name turn s)

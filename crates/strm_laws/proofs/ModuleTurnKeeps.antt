@@ -27,7 +27,7 @@ use Rattle.strm_laws.specs.Places.{CarryKeeps, weight_gone, weight_made}
 use Rattle.strm_laws.specs.Puts.{earlier_at, noted, put_in}
 use Rattle.strm_types.specs.Queue.{Queue}
 use Rattle.strm_types.specs.Service.{turn_ended}
-use Rattle.strm_laws.specs.Stacked.{Module, module_asks, module_puts, module_rests, modules_weight}
+use Rattle.strm_laws.specs.Stacked.{Standing, module_asks, module_puts, module_rests, modules_weight}
 use Rattle.strm_laws.specs.State.{State, stream, with_stream}
 use Rattle.strm_laws.specs.TurnOutcomes.{TurnOutcome, stayed_put}
 use Rattle.strm_types.proofs.DeliveryHolds.{carried-holds, in_turn-holds}
@@ -47,17 +47,17 @@ use Rattle.strm_laws.proofs.StreamWeights.{stream-weighs}
 
 module _ {C : Type 0} where
   -- What holds of the modules of a side's stream in a turn there: on the other stream nothing of a turn is under way.
-  abbrev OnOne : Side → (List (Module C) → Type 0) → Side → List (Module C) → Type 0
+  abbrev OnOne : Side → (List (Standing C) → Type 0) → Side → List (Standing C) → Type 0
   OnOne Master On Master ps = On ps
   OnOne Master On Slave ps = AllIdle ps
   OnOne Slave On Master ps = AllIdle ps
   OnOne Slave On Slave ps = On ps
 
-  abbrev InTurn : Side → (List (Module C) → Type 0) → State C → Type 0
+  abbrev InTurn : Side → (List (Standing C) → Type 0) → State C → Type 0
   InTurn side On s = OnBoth (OnOne side On) s
 
   -- nothing of a turn is under way, before it and behind it
-  turn-of-idle : (side : Side) (On : List (Module C) → Type 0) (s : State C) → (AllIdle (stream side s).modules → On (stream side s).modules) → AreIdle s → InTurn side On s
+  turn-of-idle : (side : Side) (On : List (Standing C) → Type 0) (s : State C) → (AllIdle (stream side s).modules → On (stream side s).modules) → AreIdle s → InTurn side On s
   turn-of-idle Master On s on idle = each-side (λ of t. OnOne Master On of t.modules) s.ends (on (idle Master)) (idle Slave)
   turn-of-idle Slave On s on idle = each-side (λ of t. OnOne Slave On of t.modules) s.ends (idle Master) (on (idle Slave))
 
@@ -66,12 +66,12 @@ module _ {C : Type 0} where
   idle-of-turn Slave s both = each-side (λ of t. AllIdle t.modules) s.ends (both Master) (both Slave)
 
   -- the modules of the stream of the turn
-  turn-on : (side : Side) (On : List (Module C) → Type 0) (s : State C) → InTurn side On s → On (stream side s).modules
+  turn-on : (side : Side) (On : List (Standing C) → Type 0) (s : State C) → InTurn side On s → On (stream side s).modules
   turn-on Master On s both = both Master
   turn-on Slave On s both = both Slave
 
   -- other modules stand there
-  turn-with : (side : Side) (Was On : List (Module C) → Type 0) (ps : List (Module C)) (names : List QueueName) (s : State C) → InTurn side Was s → On ps
+  turn-with : (side : Side) (Was On : List (Standing C) → Type 0) (ps : List (Standing C)) (names : List QueueName) (s : State C) → InTurn side Was s → On ps
       → InTurn side On (record (with_stream side (record (stream side s) { modules = ps }) s) { enabled = names })
   turn-with Master Was On ps names s both on = each-side (λ of t. OnOne Master On of t.modules) (set Master (record (stream Master s) { modules = ps }) s.ends) on (both Slave)
   turn-with Slave Was On ps names s both on = each-side (λ of t. OnOne Slave On of t.modules) (set Slave (record (stream Slave s) { modules = ps }) s.ends) (both Master) on
@@ -79,27 +79,27 @@ module _ {C : Type 0} where
   -- what is sent is delivered
   module _ (cells : Cells C) where
     -- what a put at one of several modules keeps
-    abbrev PutsStay : (List (Module C) → Type 0) → Type 0
-    PutsStay On = (made i : ℕ) (here : Spot) (m : Message C) (ps : List (Module C)) → On ps → On (put_among (module_puts cells made) i here m ps).state
+    abbrev PutsStay : (List (Standing C) → Type 0) → Type 0
+    PutsStay On = (made i : ℕ) (here : Spot) (m : Message C) (ps : List (Standing C)) → On ps → On (put_among (module_puts cells made) i here m ps).state
 
-    on-one-puts : (side : Side) (On : List (Module C) → Type 0) → PutsStay On
-        → (of : Side) (made i : ℕ) (here : Spot) (m : Message C) (ps : List (Module C)) → OnOne side On of ps → OnOne side On of (put_among (module_puts cells made) i here m ps).state
+    on-one-puts : (side : Side) (On : List (Standing C) → Type 0) → PutsStay On
+        → (of : Side) (made i : ℕ) (here : Spot) (m : Message C) (ps : List (Standing C)) → OnOne side On of ps → OnOne side On of (put_among (module_puts cells made) i here m ps).state
     on-one-puts Master On stays Master made i here m ps on = stays made i here m ps on
     on-one-puts Master On stays Slave made i here m ps on = among-idle cells made i here m ps on
     on-one-puts Slave On stays Master made i here m ps on = among-idle cells made i here m ps on
     on-one-puts Slave On stays Slave made i here m ps on = stays made i here m ps on
 
-    turn-sent : (side : Side) (On : List (Module C) → Type 0) → PutsStay On
+    turn-sent : (side : Side) (On : List (Standing C) → Type 0) → PutsStay On
         → (sent : List (Parcel C)) (s : State C) → InTurn side On s → InTurn side On (in_turn (carried (put_in cells) HOPS) sent s).state
     turn-sent side On stays sent s both =
         let puts = puts-good (OnOne side On) cells (on-one-puts side On stays) in
         in_turn-holds (InTurn side On) (carried (put_in cells) HOPS) (carried-holds (InTurn side On) (put_in cells) puts HOPS) sent s both
 
   -- the queues that are enabled behind a call, and what stands behind it before it is booked
-  abbrev names_behind : Spot → Acted C (List (Module C)) → State C → List QueueName
+  abbrev names_behind : Spot → Acted C (List (Standing C)) → State C → List QueueName
   names_behind here t s = noted here.side (slice_index_or (places_of (stream here.side s).modules) (here.at - 1) None) (earlier_at here.side here.at s) t.notes s.enabled
 
-  abbrev stands_behind : Spot → Acted C (List (Module C)) → State C → State C
+  abbrev stands_behind : Spot → Acted C (List (Standing C)) → State C → State C
   stands_behind here t s =
       let on = stream here.side s in
       record (with_stream here.side (record on { modules = t.state }) s) { enabled = names_behind here t s }
@@ -116,7 +116,7 @@ module _ {C : Type 0} where
 
 module _ {C : Type 0} (cells : Cells C) (here : Spot) where
   -- the module whose queue has the turn is ready for a call
-  abbrev HasCall : Bool → ℕ → List (Module C) → Type 0
+  abbrev HasCall : Bool → ℕ → List (Standing C) → Type 0
   HasCall again left ps = OneIs (λ l. IsReadyAt again here.way left l) (here.at - 1) ps
 
   call-stays : (again : Bool) (left : ℕ) → PutsStay cells (HasCall again left)
@@ -129,13 +129,13 @@ module _ {C : Type 0} (cells : Cells C) (here : Spot) where
       in_turn (carried (put_in cells) HOPS) t.sent t.state
 
   module _ (again : Bool) (left : ℕ) (s : State C) (turn : InTurn here.side (HasCall again left) s) where
-    abbrev on_it : List (Module C)
+    abbrev on_it : List (Standing C)
     on_it = (stream here.side s).modules
 
-    abbrev call : Acted C (List (Module C))
+    abbrev call : Acted C (List (Standing C))
     call = call_at cells here (made_below here.side s) again left on_it
 
-    called-turn : (On : List (Module C) → Type 0) → On call.state → InTurn here.side On (module_called cells here again left s).state
+    called-turn : (On : List (Standing C) → Type 0) → On call.state → InTurn here.side On (module_called cells here again left s).state
     called-turn On on = booked-holds (OnBoth (OnOne here.side On)) (books-good (OnOne here.side On)) call.gone (stands_behind here call s) (turn-with here.side (HasCall again left) On call.state (names_behind here call s) s turn on)
 
     out-goes : again_at cells here (made_below here.side s) again left on_it ≡ true
@@ -161,7 +161,7 @@ module _ {C : Type 0} (cells : Cells C) (here : Spot) where
   calls-rest zero again left s turn ended = absurd (false≢true ended)
   calls-rest (suc more) again left s turn ended = at (again_at cells here made again left ps) refl (λ goes. calls-rest more true (left - bytes_at cells here made again left ps) (called_out again left s).state goes) ended
     where
-      ps : List (Module C)
+      ps : List (Standing C)
       ps = (stream here.side s).modules
 
       made : ℕ
@@ -220,7 +220,7 @@ module _ {C : Type 0} where
 -- no cell is lost, and none made that isn't told
 module _ {C : Type 0} (p : Dir → C → Bool) where
   -- other modules stand on a side's stream
-  with-keeps : (side : Side) (ps : List (Module C)) (names : List QueueName) (s : State C)
+  with-keeps : (side : Side) (ps : List (Standing C)) (names : List QueueName) (s : State C)
       → state_weight p (record (with_stream side (record (stream side s) { modules = ps }) s) { enabled = names }) + modules_weight p side (stream side s).modules ≡ state_weight p s + modules_weight p side ps
   with-keeps side ps names s = omega (arith, stream-weighs p side (record (stream side s) { modules = ps }) s)
 
@@ -260,7 +260,7 @@ module _ {C : Type 0} (p : Dir → C → Bool) where
     calls-keep zero again left s turn = omega arith
     calls-keep (suc more) again left s turn = at (again_at cells here made again left ps) refl (λ goes. calls-keep more true (left - bytes_at cells here made again left ps) (called_out cells here again left s).state goes)
       where
-        ps : List (Module C)
+        ps : List (Standing C)
         ps = (stream here.side s).modules
 
         made : ℕ

@@ -7,7 +7,7 @@ use Rattle.strm_types.specs.Message.{Message}
 use Rattle.strm_types.specs.Modules.{put_among}
 use Rattle.strm_types.specs.Names.{is_open}
 use Rattle.strm_laws.specs.Puts.{made_above, put_at_driver, put_at_head, put_at_module, put_in}
-use Rattle.strm_laws.specs.Stacked.{Module, module_puts}
+use Rattle.strm_laws.specs.Stacked.{Standing, module_puts}
 use Rattle.strm_laws.specs.State.{State, Stream, stream, with_stream}
 use Rattle.strm_types.proofs.DeliveryHolds.{PutHolds}
 use Rattle.strm_laws.proofs.PutParts.{BookHolds, acted-holds, either-holds, parts-hold}
@@ -15,7 +15,7 @@ use Rattle.strm_types.proofs.BySide.{set-all}
 use Rattle.strm_types.specs.Both.{AllSides}
 use Rattle.strm_types.specs.Heads.{head_put}
 
-module _ {C : Type 0} (Good : Side → List (Module C) → Type 0) where
+module _ {C : Type 0} (Good : Side → List (Standing C) → Type 0) where
   -- so are the modules of both streams
   abbrev pub OnBoth : State C → Type 0
   OnBoth s = AllSides (λ side t. Good side t.modules) s.ends
@@ -32,7 +32,7 @@ module _ {C : Type 0} (Good : Side → List (Module C) → Type 0) where
   pub books-good : BookHolds {C = C} OnBoth
   books-good dir n s good = good
 
-  module _ (cells : Cells C) (kept : (side : Side) (made i : ℕ) (here : Spot) (m : Message C) (ps : List (Module C)) → Good side ps → Good side (put_among (module_puts cells made) i here m ps).state) where
+  module _ (cells : Cells C) (kept : (side : Side) (made i : ℕ) (here : Spot) (m : Message C) (ps : List (Standing C)) → Good side ps → Good side (put_among (module_puts cells made) i here m ps).state) where
     stack-good : (here : Spot) (m : Message C) (s : State C) → OnBoth s → OnBoth (put_at_module cells here m s).state
     stack-good here m s good =
         let on = stream here.side s in

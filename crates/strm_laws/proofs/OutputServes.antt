@@ -10,12 +10,12 @@ use Rattle.strm_types.specs.declared.names.Dir.{Dir}
 use Rattle.strm_laws.proofs.LdtermKeeps.{onward-weighs, way-down}
 use Rattle.strm_types.specs.Names.{direction_at}
 use Rattle.strm_types.specs.Cells.{Cells, AreCells, plain}
-use Rattle.strm_types.specs.Deliver.{Parcel}
+use Rattle.strm_types.specs.Deliver.{Parcel, onward}
 use Rattle.strm_types.specs.Input.{is_data, left_of, output_passes, passes}
 use Rattle.strm_laws.specs.LdtermOrigins.{map_ldterm, map_serving}
 use Rattle.strm_laws.specs.LdtermTurns.{IsOrderly}
 use Rattle.strm_laws.specs.LdtermWeights.{ActedKeeps, IgnoresMapping, ldterm_weight, weight_in_work}
-use Rattle.strm_types.specs.Ldterms.{Ldterm, onward}
+use Rattle.strm_types.specs.Ldterms.{Discipline}
 use Rattle.strm_types.specs.Message.{Message, cells_of, map_message, weight_of}
 use Rattle.strm_types.specs.Origins.{map_fate, map_parcel}
 use Rattle.strm_types.specs.Output.{Output, map_output, posts}
@@ -31,7 +31,7 @@ use Rattle.strm_laws.proofs.OutputKeeps.{posts-forget, posts-keep}
 use Rattle.strm_types.proofs.Weights.{count-join, weight-take, weight-whole}
 
 module _ {C : Type 0} (cells : Cells C) (here : Spot) (stop : Option ℕ) where
-  passes-as-it-is : (made : ℕ) (m : Message C) (rest : List (Message C)) (l : Ldterm C) → (is_data m.kind && opost l.termios) ≡ false →
+  passes-as-it-is : (made : ℕ) (m : Message C) (rest : List (Message C)) (l : Discipline C) → (is_data m.kind && opost l.termios) ≡ false →
       output_serves cells here stop made (m ∷ rest) l ≡ passes cells here Down m rest l
   passes-as-it-is made m rest l is = ap (λ b. turn_of here rest l (cond b (posted cells here stop made (cells_of m) m l) (unchanged m l))) is
 
@@ -39,15 +39,15 @@ module _ {C : Type 0} (cells : Cells C) (here : Spot) (stop : Option ℕ) where
   never true = refl
   never false = refl
 
-  pub unposted-passes : (made : ℕ) (ms : List (Message C)) (l : Ldterm C) → opost l.termios ≡ false → output_serves cells here stop made ms l ≡ output_passes cells here ms l
+  pub unposted-passes : (made : ℕ) (ms : List (Message C)) (l : Discipline C) → opost l.termios ≡ false → output_serves cells here stop made ms l ≡ output_passes cells here ms l
   unposted-passes made [] l is = refl
   unposted-passes made (m ∷ rest) l is = passes-as-it-is made m rest l (ap (λ b. is_data m.kind && b) is ∙ never (is_data m.kind))
 
-  pub others-pass : (made : ℕ) (m : Message C) (rest : List (Message C)) (l : Ldterm C) → is_data m.kind ≡ false → output_serves cells here stop made (m ∷ rest) l ≡ output_passes cells here (m ∷ rest) l
+  pub others-pass : (made : ℕ) (m : Message C) (rest : List (Message C)) (l : Discipline C) → is_data m.kind ≡ false → output_serves cells here stop made (m ∷ rest) l ≡ output_passes cells here (m ∷ rest) l
   others-pass made m rest l is = passes-as-it-is made m rest l (ap (λ b. b && opost l.termios) is)
 
   -- what holds of messages that pass and of those that are output holds of a turn's
-  either-way : (P : Outgoing C → Type 0) (made : ℕ) (m : Message C) (l : Ldterm C) → P (unchanged m l) → P (posted cells here stop made (cells_of m) m l) → P (outgoing cells here stop made m l)
+  either-way : (P : Outgoing C → Type 0) (made : ℕ) (m : Message C) (l : Discipline C) → P (unchanged m l) → P (posted cells here stop made (cells_of m) m l) → P (outgoing cells here stop made m l)
   either-way P made m l one other = at (is_data m.kind && opost l.termios)
     where
       at : (output : Bool) → P (cond output (posted cells here stop made (cells_of m) m l) (unchanged m l))
@@ -62,15 +62,15 @@ module _ {C : Type 0} (cells : Cells C) (here : Spot) (stop : Option ℕ) where
   given-near [] m = tt
   given-near (c ∷ given) m = (omega arith, tt)
 
-  posted-near : (made : ℕ) (xs : List C) (m : Message C) (l : Ldterm C) → Near (posted cells here stop made xs m l).messages
+  posted-near : (made : ℕ) (xs : List C) (m : Message C) (l : Discipline C) → Near (posted cells here stop made xs m l).messages
   posted-near made [] m l = (omega arith, tt)
   posted-near made (c ∷ rest) m l = given-near (posts cells (output_dir cells here) made l.termios l.column (take (unwrap_or stop (length (c ∷ rest))) (c ∷ rest))).given m
 
-  pub output-near : (made : ℕ) (ms : List (Message C)) (l : Ldterm C) → AllByRecursion (λ (q : Parcel C). q.to.at ≤ suc here.at) (output_serves cells here stop made ms l).acted.sent
+  pub output-near : (made : ℕ) (ms : List (Message C)) (l : Discipline C) → AllByRecursion (λ (q : Parcel C). q.to.at ≤ suc here.at) (output_serves cells here stop made ms l).acted.sent
   output-near made [] l = tt
   output-near made (m ∷ rest) l = either-way (λ t. Near t.messages) made m l (omega arith, tt) (posted-near made (cells_of m) m l)
 
-  pub output-orderly : (made : ℕ) (ms : List (Message C)) (l : Ldterm C) → IsOrderly l → l.in_work ≡ None → IsOrderly (output_serves cells here stop made ms l).acted.state
+  pub output-orderly : (made : ℕ) (ms : List (Message C)) (l : Discipline C) → IsOrderly l → l.in_work ≡ None → IsOrderly (output_serves cells here stop made ms l).acted.state
   output-orderly made [] l is none = is
   output-orderly made (m ∷ rest) l is none = record { echo = λ e. absurd (false≢true (sym ((is.idle none).2) ∙ e)); idle = is.idle }
 
@@ -92,7 +92,7 @@ module _ {C : Type 0} (p : Dir → C → Bool) (cells : Cells C) (ignores : Igno
   abbrev Keeps : Message C → Outgoing C → Type 0
   Keeps m t = weight_in_work down t.left + (weight_sent p (map (onward Down here) t.messages) + weight_gone p t.told) ≡ weight_of down m + weight_made p t.told
 
-  posted-keeps : (made : ℕ) (xs : List C) (m : Message C) (l : Ldterm C) → weight_of down m ≡ count_by down xs → Keeps m (posted cells here stop made xs m l)
+  posted-keeps : (made : ℕ) (xs : List C) (m : Message C) (l : Discipline C) → weight_of down m ≡ count_by down xs → Keeps m (posted cells here stop made xs m l)
   posted-keeps made [] m l is = omega (arith, onward-weighs p Down here m)
   posted-keeps made (c ∷ rest) m l is =
       let most = unwrap_or stop (length (c ∷ rest)) in
@@ -102,16 +102,16 @@ module _ {C : Type 0} (p : Dir → C → Bool) (cells : Cells C) (ignores : Igno
       let parts : count_by down (c ∷ rest) ≡ count_by down treated + count_by down left = ap (λ xs. count_by down xs) (sym (take-append-drop most (c ∷ rest))) ∙ count-join down treated left in
       omega (arith, parts, left-weighs left m, given-weighs t.given m, posts-keep p cells ignores (output_dir cells here) made l.termios l.column treated)
 
-  outgoing-keeps : (made : ℕ) (m : Message C) (l : Ldterm C) → Keeps m (outgoing cells here stop made m l)
+  outgoing-keeps : (made : ℕ) (m : Message C) (l : Discipline C) → Keeps m (outgoing cells here stop made m l)
   outgoing-keeps made m l = either-way cells here stop (λ t. Keeps m t) made m l (omega (arith, onward-weighs p Down here m)) (posted-keeps made (cells_of m) m l (sym (weight-whole down m)))
 
-  pub output-keeps : (made : ℕ) (l : Ldterm C) → ActedKeeps p here.side (output_serves cells here stop made l.write_queue.messages l).acted (ldterm_weight p here.side l)
+  pub output-keeps : (made : ℕ) (l : Discipline C) → ActedKeeps p here.side (output_serves cells here stop made l.write_queue.messages l).acted (ldterm_weight p here.side l)
   output-keeps made l = at l.write_queue.messages
     where
-      at : (ms : List (Message C)) → (let held : Ldterm C = record l { write_queue = record l.write_queue { messages = ms } } in ActedKeeps p here.side (output_serves cells here stop made ms held).acted (ldterm_weight p here.side held))
+      at : (ms : List (Message C)) → (let held : Discipline C = record l { write_queue = record l.write_queue { messages = ms } } in ActedKeeps p here.side (output_serves cells here stop made ms held).acted (ldterm_weight p here.side held))
       at [] = omega arith
       at (m ∷ rest) =
-          let held : Ldterm C = record l { write_queue = record l.write_queue { messages = m ∷ rest } } in
+          let held : Discipline C = record l { write_queue = record l.write_queue { messages = m ∷ rest } } in
           omega (arith, weight-take down m rest, outgoing-keeps made m held, back-weighs down (outgoing cells here stop made m held).left (left_with rest held.write_queue))
 
 -- origins are forgotten
@@ -128,7 +128,7 @@ module _ {C : Type 0} (cells : Cells C) (are : AreCells cells) (here : Spot) (st
   given-forgets [] m = refl
   given-forgets (c ∷ given) m = refl
 
-  unchanged-forgets : (m : Message C) (l : Ldterm C) → unchanged (map_message f m) (map_ldterm f l) ≡ map_outgoing f (unchanged m l)
+  unchanged-forgets : (m : Message C) (l : Discipline C) → unchanged (map_message f m) (map_ldterm f l) ≡ map_outgoing f (unchanged m l)
   unchanged-forgets m l = ap (λ n. record { messages = map_message f m ∷ []; left = None; bytes = n; column = l.column; told = [] }) (size-forgets f m)
 
   -- bytes that go out, and what is left behind them
@@ -139,7 +139,7 @@ module _ {C : Type 0} (cells : Cells C) (are : AreCells cells) (here : Spot) (st
   parted-forgets t n left m =
       rw (given-forgets t.given m, left_of-forgets f left m) refl
 
-  posted-forgets : (made : ℕ) (xs : List C) (m : Message C) (l : Ldterm C) → posted plain here stop made (map f xs) (map_message f m) (map_ldterm f l) ≡ map_outgoing f (posted cells here stop made xs m l)
+  posted-forgets : (made : ℕ) (xs : List C) (m : Message C) (l : Discipline C) → posted plain here stop made (map f xs) (map_message f m) (map_ldterm f l) ≡ map_outgoing f (posted cells here stop made xs m l)
   posted-forgets made [] m l = unchanged-forgets m l
   posted-forgets made (c ∷ rest) m l =
       let dir = output_dir cells here in
@@ -148,7 +148,7 @@ module _ {C : Type 0} (cells : Cells C) (are : AreCells cells) (here : Spot) (st
       rw (length-map xs f, take-map f most xs, drop-map f most xs, length-map (take most xs) f, posts-forget cells are dir made l.termios l.column (take most xs))
       (parted-forgets (posts cells dir made l.termios l.column (take most xs)) (length (take most xs)) (drop most xs) m)
 
-  outgoing-forgets : (made : ℕ) (m : Message C) (l : Ldterm C) → outgoing plain here stop made (map_message f m) (map_ldterm f l) ≡ map_outgoing f (outgoing cells here stop made m l)
+  outgoing-forgets : (made : ℕ) (m : Message C) (l : Discipline C) → outgoing plain here stop made (map_message f m) (map_ldterm f l) ≡ map_outgoing f (outgoing cells here stop made m l)
   outgoing-forgets made m l =
       ap (λ kind. cond (is_data kind && opost l.termios) (posted plain here stop made (cells_of (map_message f m)) (map_message f m) (map_ldterm f l)) (unchanged (map_message f m) (map_ldterm f l))) (kind-forgets f m)
       ∙ ap (λ xs. cond (is_data m.kind && opost l.termios) (posted plain here stop made xs (map_message f m) (map_ldterm f l)) (unchanged (map_message f m) (map_ldterm f l))) (cells-forget f m)
@@ -163,11 +163,11 @@ module _ {C : Type 0} (cells : Cells C) (are : AreCells cells) (here : Spot) (st
   sent-forgets [] = refl
   sent-forgets (m ∷ ms) = ap (λ rest. onward Down here (map_message f m) ∷ rest) (sent-forgets ms)
 
-  turn-forgets : (rest : List (Message C)) (l : Ldterm C) (t : Outgoing C) → turn_of here (map_messages f rest) (map_ldterm f l) (map_outgoing f t) ≡ map_serving f (map_ldterm f) (turn_of here rest l t)
+  turn-forgets : (rest : List (Message C)) (l : Discipline C) (t : Outgoing C) → turn_of here (map_messages f rest) (map_ldterm f l) (map_outgoing f t) ≡ map_serving f (map_ldterm f) (turn_of here rest l t)
   turn-forgets rest l t =
       rw (back_on-forgets f t.left (left_with rest l.write_queue), sent-forgets t.messages) refl
 
-  pub output-forgets : (made : ℕ) (ms : List (Message C)) (l : Ldterm C) → output_serves plain here stop made (map_messages f ms) (map_ldterm f l) ≡ map_serving f (map_ldterm f) (output_serves cells here stop made ms l)
+  pub output-forgets : (made : ℕ) (ms : List (Message C)) (l : Discipline C) → output_serves plain here stop made (map_messages f ms) (map_ldterm f l) ≡ map_serving f (map_ldterm f) (output_serves cells here stop made ms l)
   output-forgets made [] l = refl
   output-forgets made (m ∷ rest) l =
       ap (λ t. turn_of here (map_messages f rest) (map_ldterm f l) t) (outgoing-forgets made m l)

@@ -11,7 +11,8 @@ use Rattle.strm_types.specs.ModuleQueues.{can_pass, full_at, place_past, room_at
 use Rattle.strm_types.specs.Modules.{change_among}
 use Rattle.strm_laws.specs.Past.{end_queue, has_room_past, may_pass, waits_on, writer_waits}
 use Rattle.strm_types.specs.Queue.{is_full}
-use Rattle.strm_laws.specs.Stacked.{Module, OfLdterm, OfPtem, OfPckt, map_module, module_queue, with_module_queue}
+use Rattle.strm_types.specs.Standings.{QueuePair, stood}
+use Rattle.strm_laws.specs.Stacked.{Standing, map_module}
 use Rattle.strm_laws.specs.State.{State, Stream, stream, with_stream, map_state, map_stream}
 use Rattle.strm_laws.proofs.Earlier.{place_past-forgets}
 use Rattle.strm_laws.proofs.EmptiedForgets.{stream-forgets}
@@ -22,28 +23,30 @@ use Rattle.strm_laws.proofs.StreamWeights.{same-weighs}
 use Rattle.strm_types.proofs.BySide.{set-all}
 
 module _ {C D : Type 0} (f : C → D) where
-  abbrev images : List (Module C) → List (Module D)
+  abbrev images : List (Standing C) → List (Standing D)
   images ps = map (map_module f) ps
 
   -- room
-  full-same : (way : Way) (band : ℕ) (p : Module C) → full_at module_queue way band (map_module f p) ≡ full_at module_queue way band p
-  full-same Up band (OfLdterm l) = full-forgets f band l.read_queue
-  full-same Down band (OfLdterm l) = full-forgets f band l.write_queue
-  full-same way band (OfPtem p) = refl
-  full-same way band (OfPckt p) = refl
+  full-same : (way : Way) (band : ℕ) (p : Standing C) → full_at way band (map_module f p) ≡ full_at way band p
+  full-same way band p = by way p.queues
+    where
+      by : (way : Way) (queues : Option (QueuePair C)) → full_at way band (map_module f (stood p.part queues)) ≡ full_at way band (stood p.part queues)
+      by way None = refl
+      by Up (Some pair) = full-forgets f band pair.read
+      by Down (Some pair) = full-forgets f band pair.write
 
-  fulls-same : (way : Way) (band : ℕ) (ps : List (Module C)) → map (full_at module_queue way band) (images ps) ≡ map (full_at module_queue way band) ps
+  fulls-same : (way : Way) (band : ℕ) (ps : List (Standing C)) → map (full_at way band) (images ps) ≡ map (full_at way band) ps
   fulls-same way band [] = refl
   fulls-same way band (p ∷ ps) =
-      ap (λ b. b ∷ map (full_at module_queue way band) (images ps)) (full-same way band p) ∙ ap (λ bs. full_at module_queue way band p ∷ bs) (fulls-same way band ps)
+      ap (λ b. b ∷ map (full_at way band) (images ps)) (full-same way band p) ∙ ap (λ bs. full_at way band p ∷ bs) (fulls-same way band ps)
 
-  room-same : (way : Way) (band : ℕ) (ps : List (Module C)) (o : Option ℕ) → room_at module_queue way band (images ps) o ≡ room_at module_queue way band ps o
+  room-same : (way : Way) (band : ℕ) (ps : List (Standing C)) (o : Option ℕ) → room_at way band (images ps) o ≡ room_at way band ps o
   room-same way band ps None = refl
   room-same way band ps (Some place) = ap (λ bs. Some (not (slice_index_or bs (place - 1) false))) (fulls-same way band ps)
 
-  can_pass-same : (way : Way) (band at : ℕ) (ps : List (Module C)) → can_pass module_queue way band at (images ps) ≡ can_pass module_queue way band at ps
+  can_pass-same : (way : Way) (band at : ℕ) (ps : List (Standing C)) → can_pass way band at (images ps) ≡ can_pass way band at ps
   can_pass-same way band at ps =
-      ap (λ o. room_at module_queue way band (images ps) o) (place_past-forgets f way at ps) ∙ room-same way band ps (place_past module_queue way at ps)
+      ap (λ o. room_at way band (images ps) o) (place_past-forgets f way at ps) ∙ room-same way band ps (place_past way at ps)
 
   end-same : (way : Way) (band : ℕ) (t : Stream C) → is_full band (end_queue way (map_stream f t)) ≡ is_full band (end_queue way t)
   end-same Up band t = full-forgets f band t.head.queue
@@ -57,14 +60,16 @@ module _ {C D : Type 0} (f : C → D) where
   room-forgets side way at band s = ap (λ t. may_pass way at band t) (stream-forgets f side s) ∙ may_pass-same way at band (stream side s)
 
   -- a writer that waits
-  waits-same : (way : Way) (band : ℕ) (p : Module C) → waits module_queue with_module_queue way band (map_module f p) ≡ map_module f (waits module_queue with_module_queue way band p)
-  waits-same Up band (OfLdterm l) = refl
-  waits-same Down band (OfLdterm l) = refl
-  waits-same way band (OfPtem p) = refl
-  waits-same way band (OfPckt p) = refl
+  waits-same : (way : Way) (band : ℕ) (p : Standing C) → waits way band (map_module f p) ≡ map_module f (waits way band p)
+  waits-same way band p = by way p.queues
+    where
+      by : (way : Way) (queues : Option (QueuePair C)) → waits way band (map_module f (stood p.part queues)) ≡ map_module f (waits way band (stood p.part queues))
+      by way None = refl
+      by Up (Some pair) = refl
+      by Down (Some pair) = refl
 
-  change-same : (way : Way) (band i : ℕ) (ps : List (Module C))
-      → change_among (waits module_queue with_module_queue way band) i (images ps) ≡ images (change_among (waits module_queue with_module_queue way band) i ps)
+  change-same : (way : Way) (band i : ℕ) (ps : List (Standing C))
+      → change_among (waits way band) i (images ps) ≡ images (change_among (waits way band) i ps)
   change-same way band i [] = refl
   change-same way band zero (p ∷ ps) = ap (λ q. q ∷ images ps) (waits-same way band p)
   change-same way band (suc i) (p ∷ ps) = ap (λ qs. map_module f p ∷ qs) (change-same way band i ps)
@@ -72,7 +77,7 @@ module _ {C D : Type 0} (f : C → D) where
   waits_on-same : (way : Way) (band : ℕ) (o : Option ℕ) (t : Stream C) → waits_on way band o (map_stream f t) ≡ map_stream f (waits_on way band o t)
   waits_on-same Up band None t = refl
   waits_on-same Down band None t = refl
-  waits_on-same way band (Some place) t = ap (λ (ps : List (Module D)). record (map_stream f t) { modules = ps }) (change-same way band (place - 1) t.modules)
+  waits_on-same way band (Some place) t = ap (λ (ps : List (Standing D)). record (map_stream f t) { modules = ps }) (change-same way band (place - 1) t.modules)
 
   pub with_stream-same : (side : Side) (t : Stream C) (s : State C) → with_stream side (map_stream f t) (map_state f s) ≡ map_state f (with_stream side t s)
   with_stream-same Master t s = refl
@@ -81,7 +86,7 @@ module _ {C D : Type 0} (f : C → D) where
   pub writer_waits-forgets : (side : Side) (way : Way) (at band : ℕ) (s : State C) → writer_waits side way at band (map_state f s) ≡ map_state f (writer_waits side way at band s)
   writer_waits-forgets side way at band s =
       let t = stream side s in
-      let past = place_past module_queue way at t.modules in
+      let past = place_past way at t.modules in
       rw (stream-forgets f side s, place_past-forgets f way at t.modules, waits_on-same way band past t) (with_stream-same side (waits_on way band past t) s)
 
 module _ {C : Type 0} where
@@ -93,7 +98,7 @@ module _ {C : Type 0} where
   pub waits-idle : (side : Side) (way : Way) (at band : ℕ) (s : State C) → AreIdle s → AreIdle (writer_waits side way at band s)
   waits-idle side way at band s idle =
       let t = stream side s in
-      let past = place_past module_queue way at t.modules in
+      let past = place_past way at t.modules in
       set-all (λ of u. AllIdle u.modules) side (waits_on way band past t) s.ends (idle-on way band past t (idle side)) idle
 
   module _ (p : Dir → C → Bool) where
@@ -105,5 +110,5 @@ module _ {C : Type 0} where
     pub waits-keeps : (side : Side) (way : Way) (at band : ℕ) (s : State C) → state_weight p (writer_waits side way at band s) ≡ state_weight p s
     waits-keeps side way at band s =
         let t = stream side s in
-        let past = place_past module_queue way at t.modules in
+        let past = place_past way at t.modules in
         same-weighs p side (waits_on way band past t) s (weight-on side way band past t)

@@ -6,13 +6,14 @@ use Rattle.strm_types.specs.declared.names.Way.{Way}
 use Rattle.strm_types.specs.declared.names.Way.TheVariants.{Up, Down}
 use Rattle.strm_types.specs.declared.spots.Spot.{Spot}
 use Rattle.strm_types.specs.Cells.{plain}
-use Rattle.strm_types.specs.Deliver.{Acted, Comes}
-use Rattle.strm_types.specs.Ldterms.{onward}
+use Rattle.strm_types.specs.Deliver.{Acted, Comes, onward}
 use Rattle.strm_types.specs.Message.{Message, band_of, cells_of}
 use Rattle.strm_types.specs.Modules.{put_among}
 use Rattle.strm_types.specs.Names.{direction_at}
 use Rattle.strm_types.specs.Pckts.{Pckt, flush_passed, is_bare_packet, is_packed, kind_made, pckt_on_way, pckt_packs, pckt_passes, pckt_puts, plain_packed}
-use Rattle.strm_laws.specs.Stacked.{Module, OfLdterm, OfPtem, OfPckt, done_by, module_puts}
+use Rattle.strm_laws.specs.Stacked.{Standing, OfLdterm, OfPtem, OfPckt, module_puts, Module}
+use Rattle.strm_types.specs.Service.{done_by}
+use Rattle.strm_types.specs.Standings.{stood}
 use Rattle.strm_types.proofs.MadeCells.{made-same}
 
 module _ (a b : ℕ) (here : Spot) (m : Message ℕ) where
@@ -40,12 +41,15 @@ module _ (a b : ℕ) (here : Spot) (m : Message ℕ) where
       at Up = ap (λ t. cond (is_packed m.kind) t (pckt_passes here m)) packs-same
       at Down = refl
 
-  puts-same : (p : Module ℕ) → module_puts plain a here m p ≡ module_puts plain b here m p
-  puts-same (OfLdterm l) = refl
-  puts-same (OfPtem l) = refl
-  puts-same (OfPckt l) = ap (done_by OfPckt) pckt-same
+  puts-same : (p : Standing ℕ) → module_puts plain a here m p ≡ module_puts plain b here m p
+  puts-same p = by p.part
+    where
+      by : (q : Module ℕ) → module_puts plain a here m (stood q p.queues) ≡ module_puts plain b here m (stood q p.queues)
+      by (OfLdterm l) = refl
+      by (OfPtem l) = refl
+      by (OfPckt l) = ap (done_by (λ (q : Pckt). stood (OfPckt q) p.queues)) pckt-same
 
-  pub among-same : (i : ℕ) (ps : List (Module ℕ)) → put_among (module_puts plain a) i here m ps ≡ put_among (module_puts plain b) i here m ps
+  pub among-same : (i : ℕ) (ps : List (Standing ℕ)) → put_among (module_puts plain a) i here m ps ≡ put_among (module_puts plain b) i here m ps
   among-same i [] = refl
-  among-same zero (p ∷ ps) = ap (λ (t : Acted ℕ (Module ℕ)). record { state = t.state ∷ ps; notes = t.notes; sent = t.sent; gone = t.gone }) (puts-same p)
-  among-same (suc i) (p ∷ ps) = ap (λ (t : Acted ℕ (List (Module ℕ))). record { state = p ∷ t.state; notes = t.notes; sent = t.sent; gone = t.gone }) (among-same i ps)
+  among-same zero (p ∷ ps) = ap (λ (t : Acted ℕ (Standing ℕ)). record { state = t.state ∷ ps; notes = t.notes; sent = t.sent; gone = t.gone }) (puts-same p)
+  among-same (suc i) (p ∷ ps) = ap (λ (t : Acted ℕ (List (Standing ℕ))). record { state = p ∷ t.state; notes = t.notes; sent = t.sent; gone = t.gone }) (among-same i ps)

@@ -15,9 +15,8 @@ use Rattle.strm_laws.proofs.LdtermKeeps.{onward-weighs}
 use Rattle.strm_types.specs.Names.{direction_at}
 use Rattle.strm_types.specs.Acks.{ack_message, payload, telling_message}
 use Rattle.strm_types.specs.Commands.{is_asked, is_ioctl, sets_termios}
-use Rattle.strm_types.specs.Deliver.{Acted}
+use Rattle.strm_types.specs.Deliver.{Acted, onward}
 use Rattle.strm_types.specs.Ioctls.{read_ioc}
-use Rattle.strm_types.specs.Ldterms.{onward}
 use Rattle.strm_types.specs.Message.{Message, cells_of, has_parts, map_message, weight_of}
 use Rattle.strm_types.specs.Origins.{map_acted}
 use Rattle.strm_laws.specs.Places.{weight_sent}

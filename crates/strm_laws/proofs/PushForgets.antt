@@ -16,26 +16,23 @@ use Rattle.strm_types.specs.declared.refusals.Refusal.TheVariants.{Einval}
 use Rattle.strm_types.specs.declared.rules.Rule.{Rule}
 use Rattle.strm_types.specs.declared.rules.Rule.TheVariants.{ModulePopped}
 use Rattle.strm_types.specs.declared.slots.Slot.TheVariants.{Free, Waiting, Answered}
-use Rattle.strm_types.specs.declared.spots.Note.TheVariants.{Room}
-use Rattle.strm_types.specs.Deliver.{Acted, Carried, Fate, Goes, Took}
+use Rattle.strm_types.specs.Deliver.{Acted, Carried, Fate, Took}
 use Rattle.strm_types.specs.Dropped.{has_ioctl, is_ioctl_of, slot_dropped}
 use Rattle.strm_laws.specs.Earlier.{before_at}
-use Rattle.strm_types.specs.Emptied.{of_all, cells_gone, queue_behind, writer_goes}
-use Rattle.strm_laws.specs.LdtermOrigins.{map_ldterm}
-use Rattle.strm_types.specs.Ldterms as ldterms
+use Rattle.strm_types.specs.Emptied.{of_all}
 use Rattle.strm_types.specs.Message.{Message, map_message}
-use Rattle.strm_types.specs.ModuleQueues.{has_queue, messages_at}
+use Rattle.strm_types.specs.Standings.{QueuePair, has_queues, map_pair, messages_at, messages_on as waiting_on, stood}
 use Rattle.strm_types.specs.Modules.{top_name, without_module}
-use Rattle.strm_types.specs.Names.{direction_at, enable_if, place_of}
+use Rattle.strm_types.specs.Names.{enable_if, place_of}
 use Rattle.strm_types.specs.Numbers.{number_of}
 use Rattle.strm_types.specs.Options.{mode_message}
 use Rattle.strm_types.specs.Origins.{map_acted, map_carried, map_fate}
-use Rattle.strm_laws.specs.Pushes.{all_taken, below_top, enable_waiting, head_above, ioctl_dropped, is_there, let_come, messages_on, messages_there, mode_behind, mode_on_push, mode_put, modules_emptied, named_by, popped, pushed, pushed_named, taken_off, top_on, top_taken, with_modules, without_top}
+use Rattle.strm_laws.specs.Pushes.{all_taken, below_top, enable_waiting, head_above, ioctl_dropped, let_come, messages_on, messages_there, mode_behind, mode_on_push, mode_put, modules_emptied, named_by, popped, pushed, pushed_named, taken_off, top_on, top_taken, with_modules, without_top}
 use Rattle.strm_laws.specs.Puts.{earlier_at, noted, put_at_head}
-use Rattle.strm_types.specs.Queue.{Queue, is_none_left, map_messages, map_queue}
+use Rattle.strm_types.specs.Queue.{is_none_left, map_messages}
 use Rattle.strm_types.specs.Slots.{PlainSlot}
-use Rattle.strm_types.specs.Service.{cleared, line_gone}
-use Rattle.strm_laws.specs.Stacked.{Module, OfLdterm, OfPtem, OfPckt, done_by, map_module, module_line, module_name, module_queue, with_module_queue, without_module_line}
+use Rattle.strm_types.specs.Service.{cleared, line_gone, queues_cleared}
+use Rattle.strm_laws.specs.Stacked.{Module, OfLdterm, OfPtem, OfPckt, Standing, kind_line, map_kind, map_module, module_name, without_kind_line}
 use Rattle.strm_laws.specs.State.{State, Stream, stream, map_state, map_stream, with_ioctl}
 use Rattle.strm_laws.proofs.Earlier.{before_at-forgets, name-forgets, queue-forgets}
 use Rattle.strm_laws.proofs.EmptiedForgets.{gone-forgets, queue_behind-forgets, stream-forgets, writer_goes-forgets}
@@ -44,75 +41,91 @@ use Rattle.strm_laws.proofs.LdtermPutForgets.{line_gone-forgets}
 use Rattle.strm_laws.proofs.PutForgets.{mode-forgets, bytes-forget, parts-forget}
 use Rattle.strm_laws.proofs.PutsForget.{head-forgets, notes-forget}
 
--- what is left of a module whose queues and line have gone, so, with what let writers go
-abbrev let_go : {E : Type 0} → Side → Rule → ldterms.Ldterm E → Queue E → Bool → List E → List (Fate E) → Queue E → Bool → List E → Acted E (ldterms.Ldterm E)
-let_go side rule p up up_goes up_cells line down down_goes down_cells = record {
-  state = record p { line = []; read_queue = up; write_queue = down };
-  notes = cond up_goes (Room Up ∷ []) [] ++ cond down_goes (Room Down ∷ []) [];
+-- a module that is let go, from what its queues let go and its line
+abbrev joined : {E : Type 0} → Module E → Acted E (Option (QueuePair E)) → List (Fate E) → Acted E (Option (QueuePair E)) → Acted E (Standing E)
+joined part above line below = record {
+  state = record { part = part; queues = below.state };
+  notes = above.notes ++ below.notes;
   sent = [];
-  gone = (Goes (direction_at Up side) rule up_cells ∷ []) ++ (line ++ (Goes (direction_at Down side) rule down_cells ∷ []));
+  gone = above.gone ++ (line ++ below.gone);
 }
 
-abbrev pub clears : {E : Type 0} → Side → Rule → Module E → Acted E (Module E)
-clears side rule p = cleared module_queue with_module_queue module_line without_module_line side rule p
+abbrev pub clears : {E : Type 0} → Side → Rule → Standing E → Acted E (Standing E)
+clears side rule p = cleared kind_line without_kind_line side rule p
 
 -- a pair on whose stream of a side the module on top was let go so, with these queues enabled
-abbrev taken : {E : Type 0} → Side → List (Module E) → List (Fate E) → List QueueName → State E → Carried E (State E)
+abbrev taken : {E : Type 0} → Side → List (Standing E) → List (Fate E) → List QueueName → State E → Carried E (State E)
 taken side ps gone names s = record { state = record (with_modules side ps s) { enabled = names }; gone = gone }
 
 module _ {C D : Type 0} (f : C → D) where
-  abbrev images : List (Module C) → List (Module D)
+  abbrev images : List (Standing C) → List (Standing D)
   images ps = map (map_module f) ps
 
   abbrev image : Carried C (State C) → Carried D (State D)
   image t = map_carried f (map_state f) t
 
-  let_go-forgets : (side : Side) (rule : Rule) (p : ldterms.Ldterm C) (up down : Queue C) (up_goes down_goes : Bool) (up_cells down_cells : List C) (line : List (Fate C))
-      → let_go side rule (map_ldterm f p) (map_queue f up) up_goes (map f up_cells) (map (map_fate f) line) (map_queue f down) down_goes (map f down_cells)
-      ≡ map_acted f (map_ldterm f) (let_go side rule p up up_goes up_cells line down down_goes down_cells)
-  let_go-forgets side rule p up down up_goes down_goes up_cells down_cells line =
-      ap (λ (gone : List (Fate D)). record {
-        state = record (map_ldterm f p) { line = []; read_queue = map_queue f up; write_queue = map_queue f down };
-        notes = cond up_goes (Room Up ∷ []) [] ++ cond down_goes (Room Down ∷ []) [];
-        sent = [];
-        gone = (Goes (direction_at Up side) rule (map f up_cells) ∷ []) ++ gone;
-      }) (sym (map-append (map_fate f) line (Goes (direction_at Down side) rule down_cells ∷ [])))
+  abbrev map_queues : Option (QueuePair C) → Option (QueuePair D)
+  map_queues queues = option_map (map_pair f) queues
 
-  pub clears-forget : (side : Side) (rule : Rule) (p : Module C) → clears side rule (map_module f p) ≡ map_acted f (map_module f) (clears side rule p)
-  clears-forget side rule (OfPtem q) = refl
-  clears-forget side rule (OfPckt q) = refl
-  clears-forget side rule (OfLdterm p) = ap (done_by OfLdterm) (
-      let r = p.read_queue in
-      let w = p.write_queue in
-      let q = map_ldterm f p in
-      let up = queue_behind of_all r in
-      let down = queue_behind of_all w in
-      rw (queue_behind-forgets f of_all r, writer_goes-forgets f of_all r, gone-forgets f of_all r.messages, line_gone-forgets f side rule p.line, queue_behind-forgets f of_all w, writer_goes-forgets f of_all w, gone-forgets f of_all w.messages)
-      (let_go-forgets side rule p up down (writer_goes of_all r) (writer_goes of_all w) (cells_gone of_all r.messages) (cells_gone of_all w.messages) (line_gone side rule p.line)))
+  queues-forget : (side : Side) (rule : Rule) (way : Way) (queues : Option (QueuePair C)) → queues_cleared side rule way (map_queues queues) ≡ map_acted f map_queues (queues_cleared side rule way queues)
+  queues-forget side rule way None = refl
+  queues-forget side rule Up (Some pair) =
+      rw (queue_behind-forgets f of_all pair.read, writer_goes-forgets f of_all pair.read, gone-forgets f of_all pair.read.messages) refl
+  queues-forget side rule Down (Some pair) =
+      rw (queue_behind-forgets f of_all pair.write, writer_goes-forgets f of_all pair.write, gone-forgets f of_all pair.write.messages) refl
+
+  line-forgets : (part : Module C) → kind_line (map_kind f part) ≡ map f (kind_line part)
+  line-forgets (OfLdterm l) = refl
+  line-forgets (OfPtem q) = refl
+  line-forgets (OfPckt q) = refl
+
+  lineless-forgets : (part : Module C) → without_kind_line (map_kind f part) ≡ map_kind f (without_kind_line part)
+  lineless-forgets (OfLdterm l) = refl
+  lineless-forgets (OfPtem q) = refl
+  lineless-forgets (OfPckt q) = refl
+
+  joined-forgets-all : (part : Module C) (above : Acted C (Option (QueuePair C))) (line : List (Fate C)) (below : Acted C (Option (QueuePair C)))
+      → joined (map_kind f part) (map_acted f map_queues above) (map (map_fate f) line) (map_acted f map_queues below) ≡ map_acted f (map_module f) (joined part above line below)
+  joined-forgets-all part above line below =
+      ap (λ (gone : List (Fate D)). record { state = map_module f (stood part below.state); notes = above.notes ++ below.notes; sent = []; gone = gone })
+      (ap (λ xs. map (map_fate f) above.gone ++ xs) (sym (map-append (map_fate f) line below.gone)) ∙ sym (map-append (map_fate f) above.gone (line ++ below.gone)))
+
+  pub clears-forget : (side : Side) (rule : Rule) (p : Standing C) → clears side rule (map_module f p) ≡ map_acted f (map_module f) (clears side rule p)
+  clears-forget side rule p =
+      let bare = without_kind_line (map_kind f p.part) in
+      let above = queues_cleared side rule Up p.queues in
+      let below = queues_cleared side rule Down above.state in
+      let lost = line_gone side rule (kind_line (map_kind f p.part)) in
+      let up = map_acted f map_queues above in
+      ap (λ (t : Acted D (Option (QueuePair D))). joined bare t lost (queues_cleared side rule Down t.state)) (queues-forget side rule Up p.queues)
+      ∙ ap (λ (t : Acted D (Option (QueuePair D))). joined bare up lost t) (queues-forget side rule Down above.state)
+      ∙ ap (λ (line : List (Fate D)). joined bare up line (map_acted f map_queues below)) (ap (λ xs. line_gone side rule xs) (line-forgets p.part) ∙ line_gone-forgets f side rule (kind_line p.part))
+      ∙ ap (λ (part : Module D). joined part up (map (map_fate f) (line_gone side rule (kind_line p.part))) (map_acted f map_queues below)) (lineless-forgets p.part)
+      ∙ joined-forgets-all (without_kind_line p.part) above (line_gone side rule (kind_line p.part)) below
 
   -- the module on top, and all of them
-  taken-forgets : (side : Side) (ps : List (Module C)) (gone : List (Fate C)) (names : List QueueName) (s : State C)
+  taken-forgets : (side : Side) (ps : List (Standing C)) (gone : List (Fate C)) (names : List QueueName) (s : State C)
       → taken side (images ps) (map (map_fate f) gone) names (map_state f s) ≡ image (taken side ps gone names s)
   taken-forgets Master ps gone names s = refl
   taken-forgets Slave ps gone names s = refl
 
-  without_top-forgets : (side : Side) (name : ModuleName) (ps : List (Module C)) (t : Acted C (Module C)) (s : State C)
+  without_top-forgets : (side : Side) (name : ModuleName) (ps : List (Standing C)) (t : Acted C (Standing C)) (s : State C)
       → without_top side name (images ps) (map_acted f (map_module f) t) (map_state f s) ≡ image (without_top side name ps t s)
   without_top-forgets side name ps t s =
       ap (λ (names : List QueueName). taken side (images ps) (map (map_fate f) t.gone) (without_module side name names) (map_state f s)) (notes-forget f side (place_of name) 1 t.notes s.enabled s)
       ∙ taken-forgets side ps t.gone (without_module side name (noted side (place_of name) (earlier_at side 1 s) t.notes s.enabled)) s
 
-  top_taken-forgets : (rule : Rule) (side : Side) (ps : List (Module C)) (s : State C) → top_taken rule side (images ps) (map_state f s) ≡ image (top_taken rule side ps s)
+  top_taken-forgets : (rule : Rule) (side : Side) (ps : List (Standing C)) (s : State C) → top_taken rule side (images ps) (map_state f s) ≡ image (top_taken rule side ps s)
   top_taken-forgets rule side [] s = refl
   top_taken-forgets rule side (p ∷ ps) s =
       ap (λ name. without_top side name (images ps) (clears side rule (map_module f p)) (map_state f s)) (name-forgets f p)
-      ∙ ap (λ (t : Acted D (Module D)). without_top side (module_name p) (images ps) t (map_state f s)) (clears-forget side rule p)
+      ∙ ap (λ (t : Acted D (Standing D)). without_top side (module_name p) (images ps) t (map_state f s)) (clears-forget side rule p)
       ∙ without_top-forgets side (module_name p) ps (clears side rule p) s
 
   joined-forgets : (t u : Carried C (State C)) → record { state = map_state f u.state; gone = map (map_fate f) t.gone ++ map (map_fate f) u.gone } ≡ image (record { state = u.state; gone = t.gone ++ u.gone })
   joined-forgets t u = ap (λ (gone : List (Fate D)). record { state = map_state f u.state; gone = gone }) (sym (map-append (map_fate f) t.gone u.gone))
 
-  all_taken-forgets : (rule : Rule) (side : Side) (ps : List (Module C)) (s : State C) → all_taken rule side (images ps) (map_state f s) ≡ image (all_taken rule side ps s)
+  all_taken-forgets : (rule : Rule) (side : Side) (ps : List (Standing C)) (s : State C) → all_taken rule side (images ps) (map_state f s) ≡ image (all_taken rule side ps s)
   all_taken-forgets rule side [] s = refl
   all_taken-forgets rule side (p ∷ ps) s =
       let t = top_taken rule side (p ∷ ps) s in
@@ -135,15 +148,17 @@ module _ {C D : Type 0} (f : C → D) where
       carried_of t = record { state = t.state; gone = t.gone }
 
   -- a push
-  abbrev there : {E : Type 0} → Way → Module E → List (Message E)
-  there way p = cond (is_there Ldterm (place_of (module_name p))) (messages_at module_queue way p) []
+  on-forgets : (way : Way) (queues : Option (QueuePair C)) → waiting_on way (map_queues queues) ≡ map_messages f (waiting_on way queues)
+  on-forgets way None = refl
+  on-forgets Up (Some pair) = refl
+  on-forgets Down (Some pair) = refl
 
-  all-there : (way : Way) (ps : List (Module C)) → flat_map (there way) (images ps) ≡ map_messages f (flat_map (there way) ps)
+  all-there : (way : Way) (ps : List (Standing C)) → flat_map (messages_at way) (images ps) ≡ map_messages f (flat_map (messages_at way) ps)
   all-there way [] = refl
-  all-there Up (OfLdterm l ∷ ps) = ap (λ ms. map_messages f l.read_queue.messages ++ ms) (all-there Up ps) ∙ sym (map-append (map_message f) l.read_queue.messages (flat_map (there Up) ps))
-  all-there Down (OfLdterm l ∷ ps) = ap (λ ms. map_messages f l.write_queue.messages ++ ms) (all-there Down ps) ∙ sym (map-append (map_message f) l.write_queue.messages (flat_map (there Down) ps))
-  all-there way (OfPtem p ∷ ps) = all-there way ps
-  all-there way (OfPckt p ∷ ps) = all-there way ps
+  all-there way (p ∷ ps) =
+      ap (λ ms. ms ++ flat_map (messages_at way) (images ps)) (on-forgets way p.queues)
+      ∙ ap (λ ms. map_messages f (messages_at way p) ++ ms) (all-there way ps)
+      ∙ sym (map-append (map_message f) (messages_at way p) (flat_map (messages_at way) ps))
 
   there-forgets : (place : Place) (way : Way) (t : Stream C) → messages_there place way (map_stream f t) ≡ map_messages f (messages_there place way t)
   there-forgets Head way t = refl
@@ -163,17 +178,17 @@ module _ {C D : Type 0} (f : C → D) where
   let_come-forgets true side s =
       rw (before_at-forgets f side Up 1 s, waiting-forgets (before_at side Up 1 s) s) refl
 
-  with_modules-forgets : (side : Side) (ps : List (Module C)) (s : State C) → with_modules side (images ps) (map_state f s) ≡ map_state f (with_modules side ps s)
+  with_modules-forgets : (side : Side) (ps : List (Standing C)) (s : State C) → with_modules side (images ps) (map_state f s) ≡ map_state f (with_modules side ps s)
   with_modules-forgets Master ps s = refl
   with_modules-forgets Slave ps s = refl
 
-  pushed-forgets : (side : Side) (p : Module C) (s : State C) → pushed side (map_module f p) (map_state f s) ≡ image (pushed side p s)
+  pushed-forgets : (side : Side) (p : Standing C) (s : State C) → pushed side (map_module f p) (map_state f s) ≡ image (pushed side p s)
   pushed-forgets side p s =
       let mode = mode_on_push (module_name p) in
-      let reads = has_queue module_queue Up p in
+      let reads = has_queues p in
       let on = with_modules side (p ∷ (stream side s).modules) s in
-      ap (λ (name : ModuleName). let t = mode_put side (mode_on_push name) (with_modules side (map_module f p ∷ (stream side (map_state f s)).modules) (map_state f s)) in record { state = let_come (has_queue module_queue Up (map_module f p)) side t.state; gone = t.gone }) (name-forgets f p)
-      ∙ ap (λ (b : Bool). let t = mode_put side mode (with_modules side (map_module f p ∷ (stream side (map_state f s)).modules) (map_state f s)) in record { state = let_come b side t.state; gone = t.gone }) (queue-forgets f Up p)
+      ap (λ (name : ModuleName). let t = mode_put side (mode_on_push name) (with_modules side (map_module f p ∷ (stream side (map_state f s)).modules) (map_state f s)) in record { state = let_come (has_queues (map_module f p)) side t.state; gone = t.gone }) (name-forgets f p)
+      ∙ ap (λ (b : Bool). let t = mode_put side mode (with_modules side (map_module f p ∷ (stream side (map_state f s)).modules) (map_state f s)) in record { state = let_come b side t.state; gone = t.gone }) (queue-forgets f p)
       ∙ ap (λ (x : Stream D). let t = mode_put side mode (with_modules side (map_module f p ∷ x.modules) (map_state f s)) in record { state = let_come reads side t.state; gone = t.gone }) (stream-forgets f side s)
       ∙ ap (λ (x : State D). let t = mode_put side mode x in record { state = let_come reads side t.state; gone = t.gone }) (with_modules-forgets side (p ∷ (stream side s).modules) s)
       ∙ ap (λ (t : Carried D (State D)). record { state = let_come reads side t.state; gone = t.gone }) (mode_put-forgets side mode on)
@@ -185,16 +200,16 @@ module _ {C D : Type 0} (f : C → D) where
   named_by-forgets (Some names.Ptem) = refl
   named_by-forgets (Some names.Pckt) = refl
 
-  of_named-forgets : (side : Side) (p : Option (Module C)) (s : State C) → pushed_named side (option_map (map_module f) p) (map_state f s) ≡ image (pushed_named side p s)
+  of_named-forgets : (side : Side) (p : Option (Standing C)) (s : State C) → pushed_named side (option_map (map_module f) p) (map_state f s) ≡ image (pushed_named side p s)
   of_named-forgets side None s = refl
   of_named-forgets side (Some p) s = pushed-forgets side p s
 
   pub push-forgets : (side : Side) (name : Option ModuleName) (s : State C) → pushed_named side (named_by name) (map_state f s) ≡ image (pushed_named side (named_by name) s)
   push-forgets side name s =
-      ap (λ (p : Option (Module D)). pushed_named side p (map_state f s)) (named_by-forgets name) ∙ of_named-forgets side (named_by name) s
+      ap (λ (p : Option (Standing D)). pushed_named side p (map_state f s)) (named_by-forgets name) ∙ of_named-forgets side (named_by name) s
 
   -- a pop
-  top_name-forgets : (ps : List (Module C)) → top_name module_name (images ps) ≡ top_name module_name ps
+  top_name-forgets : (ps : List (Standing C)) → top_name module_name (images ps) ≡ top_name module_name ps
   top_name-forgets [] = refl
   top_name-forgets (p ∷ ps) = ap (λ name. Some name) (name-forgets f p)
 
@@ -209,11 +224,9 @@ module _ {C D : Type 0} (f : C → D) where
       rw (top-forgets side s, stream-forgets f side s, top_taken-forgets ModulePopped side ps s, mode_put-forgets side mode t.state) (joined-forgets t (mode_put side mode t.state))
 
   -- the ioctl whose M_IOCTL goes
-  below-forgets : (ps : List (Module C)) → below_top (images ps) ≡ map_messages f (below_top ps)
+  below-forgets : (ps : List (Standing C)) → below_top (images ps) ≡ map_messages f (below_top ps)
   below-forgets [] = refl
-  below-forgets (OfLdterm l ∷ ps) = refl
-  below-forgets (OfPtem p ∷ ps) = refl
-  below-forgets (OfPckt p ∷ ps) = refl
+  below-forgets (p ∷ ps) = on-forgets Down p.queues
 
   ioctl-forgets : (number : ℕ) (m : Message C) → is_ioctl_of number (map_message f m) ≡ is_ioctl_of number m
   ioctl-forgets number m =

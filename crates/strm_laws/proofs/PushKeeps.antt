@@ -1,5 +1,5 @@
 -- No push and no pop loses a byte, or makes one: what a module has that is taken off goes by a rule.
-use Rattle.std.proofs.Common.{ℕ, ◌≡◌, ◌+◌, Bool, true, false, cond, List, [], ◌∷◌, refl, ap, arith}
+use Rattle.std.proofs.Common.{ℕ, ◌≡◌, ◌+◌, Bool, true, false, cond, List, [], ◌∷◌, ◌++◌, refl, ap, arith}
 use Rattle.std.specs.Prelude.{Option, None, Some, count_by}
 use Rattle.std.specs.List.{AllByRecursion}
 use Rattle.std.proofs.lemmas.List.Sums.{sum_by-cons}
@@ -8,27 +8,25 @@ use Rattle.strm_types.specs.declared.names.ModuleName.{ModuleName}
 use Rattle.strm_types.specs.declared.names.ModuleName.TheVariants as names
 use Rattle.strm_types.specs.declared.names.Side.{Side}
 use Rattle.strm_types.specs.declared.names.Side.TheVariants.{Master, Slave}
+use Rattle.strm_types.specs.declared.names.Way.{Way}
 use Rattle.strm_types.specs.declared.names.Way.TheVariants.{Up, Down}
 use Rattle.strm_types.specs.declared.rules.Rule.{Rule}
 use Rattle.strm_types.specs.declared.rules.Rule.TheVariants.{ModulePopped}
 use Rattle.strm_types.specs.declared.names.Dir.{Dir}
-use Rattle.strm_types.specs.Deliver.{Carried, Fate, Goes, Took}
+use Rattle.strm_types.specs.Deliver.{Carried, Took}
 use Rattle.strm_types.specs.Emptied.{of_all, cells_gone}
 use Rattle.strm_laws.specs.Kept.{state_weight}
-use Rattle.strm_laws.specs.LdtermWeights.{ldterm_weight, weight_begun, weight_in_work}
-use Rattle.strm_types.specs.Ldterms.{IsIdle, Ldterm, new_ldterm}
+use Rattle.strm_laws.specs.LdtermWeights.{weight_begun, weight_in_work}
 use Rattle.strm_types.specs.Message.{Message}
-use Rattle.strm_types.specs.ModuleQueues.{has_queue}
+use Rattle.strm_types.specs.Standings.{QueuePair, has_queues}
 use Rattle.strm_types.specs.Names.{direction_at, is_open}
 use Rattle.strm_types.specs.Options.{mode_message}
 use Rattle.strm_laws.specs.Places.{weight_gone, weight_made, weight_sent}
-use Rattle.strm_types.specs.Pckts.{new_pckt}
-use Rattle.strm_types.specs.Ptems.{new_ptem}
-use Rattle.strm_laws.specs.Pushes.{all_taken, below_top, head_above, ioctl_dropped, let_come, mode_behind, mode_on_push, mode_put, modules_emptied, named_by, popped, pushed, pushed_named, taken_off, top_on, top_taken, with_modules}
+use Rattle.strm_laws.specs.Pushes.{all_taken, below_top, head_above, ioctl_dropped, let_come, mode_behind, mode_on_push, mode_put, module_named, modules_emptied, named_by, popped, pushed, pushed_named, taken_off, top_on, top_taken, with_modules}
 use Rattle.strm_laws.specs.Puts.{put_at_head}
 use Rattle.strm_types.specs.Queue.{Queue, weight}
-use Rattle.strm_types.specs.Service.{line_gone}
-use Rattle.strm_laws.specs.Stacked.{Module, OfLdterm, OfPtem, OfPckt, IsAtRest, module_name, module_queue, module_weight, modules_weight}
+use Rattle.strm_types.specs.Service.{line_gone, queues_cleared}
+use Rattle.strm_laws.specs.Stacked.{Module, OfLdterm, OfPtem, OfPckt, Standing, IsAtRest, KindRests, kind_line, kind_weight, module_line, module_name, module_weight, modules_weight, queues_weight}
 use Rattle.strm_laws.specs.State.{State, stream}
 use Rattle.strm_laws.proofs.PutsKeep.{head-keeps}
 use Rattle.strm_laws.proofs.DeliveryKeeps.{gone-append, made-append}
@@ -46,40 +44,53 @@ module _ {C : Type 0} (p : Dir → C → Bool) where
   all-goes : (t : C → Bool) (q : Queue C) → count_by t (cells_gone of_all q.messages) ≡ weight t q.messages
   all-goes t q = omega (arith, behind-keeps t of_all q, behind-all t q)
 
-  begun-none : (side : Side) (l : Ldterm C) → IsIdle l →
-      ldterm_weight p side l ≡ weight (p (direction_at Up side)) l.read_queue.messages + (count_by (p (direction_at Up side)) l.line + weight (p (direction_at Down side)) l.write_queue.messages)
-  begun-none side l idle =
+  kind-goes : (side : Side) (rule : Rule) (q : Module C) → KindRests q → weight_gone p (line_gone side rule (kind_line q)) ≡ kind_weight p side q
+  kind-goes side rule (OfPtem q) idle = refl
+  kind-goes side rule (OfPckt q) idle = refl
+  kind-goes side rule (OfLdterm l) idle =
+      let line = lost-gone p side rule l.line in
       let stage = ap (λ x. weight_begun p side x) idle.3 in
       let work = ap (λ x. weight_in_work (p (direction_at Up side)) x) idle.0 in
       let gathered = ap (λ xs. count_by (p (direction_at Up side)) xs) idle.1 in
       omega arith
 
-  -- what its write queue had
-  abbrev down_gone : Side → Rule → Ldterm C → List (Fate C)
-  down_gone side rule l = Goes (direction_at Down side) rule (cells_gone of_all l.write_queue.messages) ∷ []
+  queues-go : (side : Side) (rule : Rule) (queues : Option (QueuePair C)) → let t = queues_cleared side rule Up queues in
+      weight_gone p t.gone + weight_gone p (queues_cleared side rule Down t.state).gone ≡ queues_weight p side queues
+  queues-go side rule None = refl
+  queues-go side rule (Some pair) = omega (arith, all-goes (p (direction_at Up side)) pair.read, all-goes (p (direction_at Down side)) pair.write)
 
-  clears-keeps : (side : Side) (rule : Rule) (q : Module C) → IsAtRest q → weight_gone p (clears side rule q).gone ≡ module_weight p side q
-  clears-keeps side rule (OfPtem q) idle = refl
-  clears-keeps side rule (OfPckt q) idle = refl
-  clears-keeps side rule (OfLdterm l) idle =
-      let line = lost-gone p side rule l.line in
-      let up = all-goes (p (direction_at Up side)) l.read_queue in
-      let down = all-goes (p (direction_at Down side)) l.write_queue in
-      let joined = gone-append p (line_gone side rule l.line) (down_gone side rule l) in
-      omega (arith, begun-none side l idle, line, up, down, joined)
+  queues-make-none : (side : Side) (rule : Rule) (way : Way) (queues : Option (QueuePair C)) → weight_made p (queues_cleared side rule way queues).gone ≡ 0
+  queues-make-none side rule way None = refl
+  queues-make-none side rule way (Some pair) = refl
 
-  pub clears-make-none : (side : Side) (rule : Rule) (q : Module C) → weight_made p (clears side rule q).gone ≡ 0
-  clears-make-none side rule (OfPtem q) = refl
-  clears-make-none side rule (OfPckt q) = refl
-  clears-make-none side rule (OfLdterm l) = omega (arith, lost-made p side rule l.line, made-append p (line_gone side rule l.line) (down_gone side rule l))
+  clears-keeps : (side : Side) (rule : Rule) (q : Standing C) → IsAtRest q → weight_gone p (clears side rule q).gone ≡ module_weight p side q
+  clears-keeps side rule q idle =
+      let above = queues_cleared side rule Up q.queues in
+      let line = line_gone side rule (module_line q) in
+      let below = queues_cleared side rule Down above.state in
+      omega (arith, kind-goes side rule q.part idle, queues-go side rule q.queues, gone-append p line below.gone, gone-append p above.gone (line ++ below.gone))
+
+  pub clears-make-none : (side : Side) (rule : Rule) (q : Standing C) → weight_made p (clears side rule q).gone ≡ 0
+  clears-make-none side rule q =
+      let above = queues_cleared side rule Up q.queues in
+      let line = line_gone side rule (module_line q) in
+      let below = queues_cleared side rule Down above.state in
+      omega (
+        arith,
+        lost-made p side rule (module_line q),
+        queues-make-none side rule Up q.queues,
+        queues-make-none side rule Down above.state,
+        made-append p line below.gone,
+        made-append p above.gone (line ++ below.gone),
+      )
 
   -- a pair with other modules on a side
-  modules-weigh : (side : Side) (ps : List (Module C)) (s : State C) → state_weight p (with_modules side ps s) + modules_weight p side (stream side s).modules ≡ state_weight p s + modules_weight p side ps
+  modules-weigh : (side : Side) (ps : List (Standing C)) (s : State C) → state_weight p (with_modules side ps s) + modules_weight p side (stream side s).modules ≡ state_weight p s + modules_weight p side ps
   modules-weigh Master ps s = omega arith
   modules-weigh Slave ps s = omega arith
 
   -- the module on top, and all of them
-  pub top_taken-keeps : (rule : Rule) (side : Side) (ps : List (Module C)) (s : State C) → (stream side s).modules ≡ ps → AllByRecursion (λ l. IsAtRest l) ps → Keeps (top_taken rule side ps s) (state_weight p s)
+  pub top_taken-keeps : (rule : Rule) (side : Side) (ps : List (Standing C)) (s : State C) → (stream side s).modules ≡ ps → AllByRecursion (λ l. IsAtRest l) ps → Keeps (top_taken rule side ps s) (state_weight p s)
   top_taken-keeps rule side [] s are idle = refl
   top_taken-keeps rule side (l ∷ ls) s are idle =
       let there = ap (λ ps. modules_weight p side ps) are in
@@ -89,11 +100,11 @@ module _ {C : Type 0} (p : Dir → C → Bool) where
       let apart = modules-weigh side ls s in
       omega arith
 
-  taken-are : (rule : Rule) (side : Side) (l : Module C) (ls : List (Module C)) (s : State C) → (stream side (top_taken rule side (l ∷ ls) s).state).modules ≡ ls
+  taken-are : (rule : Rule) (side : Side) (l : Standing C) (ls : List (Standing C)) (s : State C) → (stream side (top_taken rule side (l ∷ ls) s).state).modules ≡ ls
   taken-are rule Master l ls s = refl
   taken-are rule Slave l ls s = refl
 
-  all_taken-keeps : (rule : Rule) (side : Side) (ps : List (Module C)) (s : State C) → (stream side s).modules ≡ ps → AllByRecursion (λ l. IsAtRest l) ps → Keeps (all_taken rule side ps s) (state_weight p s)
+  all_taken-keeps : (rule : Rule) (side : Side) (ps : List (Standing C)) (s : State C) → (stream side s).modules ≡ ps → AllByRecursion (λ l. IsAtRest l) ps → Keeps (all_taken rule side ps s) (state_weight p s)
   all_taken-keeps rule side [] s are idle = refl
   all_taken-keeps rule side (l ∷ ls) s are idle =
       let t = top_taken rule side (l ∷ ls) s in
@@ -125,24 +136,24 @@ module _ {C : Type 0} (p : Dir → C → Bool) where
   come-keeps false side s = refl
   come-keeps true side s = refl
 
-  pushed-keeps : (side : Side) (l : Module C) (s : State C) → Keeps (pushed side l s) (state_weight p s + module_weight p side l)
+  pushed-keeps : (side : Side) (l : Standing C) (s : State C) → Keeps (pushed side l s) (state_weight p s + module_weight p side l)
   pushed-keeps side l s =
       let on = with_modules side (l ∷ (stream side s).modules) s in
       let told = mode_put side (mode_on_push (module_name l)) on in
-      let comes = come-keeps (has_queue module_queue Up l) side told.state in
+      let comes = come-keeps (has_queues l) side told.state in
       let first = mode_put-keeps side (mode_on_push (module_name l)) on in
       let cons = sum_by-cons (module_weight p side) l (stream side s).modules in
       let apart = modules-weigh side (l ∷ (stream side s).modules) s in
       omega arith
 
-  new-weight : (side : Side) → module_weight p side (OfLdterm (new_ldterm {C = C})) ≡ 0
-  new-weight side = refl
+  new-weight : (side : Side) (name : ModuleName) → module_weight p side (module_named {C = C} name) ≡ 0
+  new-weight side names.Ldterm = refl
+  new-weight side names.Ptem = refl
+  new-weight side names.Pckt = refl
 
   pub push-keeps : (side : Side) (name : Option ModuleName) (s : State C) → Keeps (pushed_named side (named_by name) s) (state_weight p s)
   push-keeps side None s = refl
-  push-keeps side (Some names.Ldterm) s = let made = new-weight side in let all = pushed-keeps side (OfLdterm new_ldterm) s in omega arith
-  push-keeps side (Some names.Ptem) s = let all = pushed-keeps side (OfPtem new_ptem) s in omega arith
-  push-keeps side (Some names.Pckt) s = let all = pushed-keeps side (OfPckt new_pckt) s in omega arith
+  push-keeps side (Some name) s = let made = new-weight side name in let all = pushed-keeps side (module_named name) s in omega arith
 
   -- a pop
   off-keeps : (side : Side) (s : State C) → AllByRecursion (λ l. IsAtRest l) (stream side s).modules → Keeps (taken_off side s) (state_weight p s)

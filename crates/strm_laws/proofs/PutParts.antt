@@ -18,7 +18,7 @@ use Rattle.strm_types.specs.Modules.{put_among}
 use Rattle.strm_laws.specs.Past.{end_queue, with_end_queue}
 use Rattle.strm_laws.specs.Puts.{booked, delivered, made_above, module_acted, passed_up, put_at_driver, put_at_head, put_at_module, put_behind, put_below, put_in}
 use Rattle.strm_types.specs.Flushing.{is_bare_flush}
-use Rattle.strm_laws.specs.Stacked.{Module, module_puts}
+use Rattle.strm_laws.specs.Stacked.{Standing, module_puts}
 use Rattle.strm_laws.specs.State.{State, book, stream, with_book, with_stream}
 use Rattle.strm_types.proofs.DeliveryHolds.{PutHolds, carried-holds, in_turn-holds}
 
@@ -40,7 +40,7 @@ module _ {C : Type 0} (P : State C → Type 0) where
   abbrev pub NamesHold : Type 0
   NamesHold = (names : List QueueName) (s : State C) → P s → P (record s { enabled = names })
 
-  pub acted-holds : NamesHold → BookHolds → (here : Spot) (t : Acted C (List (Module C))) (s : State C) → P (with_stream here.side (record (stream here.side s) { modules = t.state }) s) → P (module_acted here t s).state
+  pub acted-holds : NamesHold → BookHolds → (here : Spot) (t : Acted C (List (Standing C))) (s : State C) → P (with_stream here.side (record (stream here.side s) { modules = t.state }) s) → P (module_acted here t s).state
   acted-holds names books here t s holds = booked-holds books t.gone _ (names _ (with_stream here.side (record (stream here.side s) { modules = t.state }) s) holds)
 
   pub either-holds : (b : Bool) (one another : Took C (State C)) → P one.state → P another.state → P (cond b one another).state
@@ -70,7 +70,7 @@ module _ {C : Type 0} (P : State C → Type 0) where
   pub record Stays : Type 0 where
     pub head : (side : Side) (here : Spot) (m : Message C) (s : State C) → P s → P (put_at_head side here m s).state
     pub driver : (side : Side) (here : Spot) (m : Message C) (s : State C) → P s → P (put_at_driver side here m s).state
-    pub modules : (side : Side) (ps : List (Module C)) (s : State C) → P s → P (with_stream side (record (stream side s) { modules = ps }) s)
+    pub modules : (side : Side) (ps : List (Standing C)) (s : State C) → P s → P (with_stream side (record (stream side s) { modules = ps }) s)
     pub names : NamesHold
     pub books : BookHolds
     pub waits : (side : Side) (way : Way) (band : ℕ) (s : State C) → P s → P (waiting side way band s)

@@ -21,7 +21,7 @@ use Rattle.strm_types.specs.Pckts.{plain_packed}
 use Rattle.strm_laws.specs.Places.{weight_made}
 use Rattle.strm_laws.specs.Puts.{across_of, booked, delivered, made_above, module_acted, passed_up, put_at_driver, put_at_head, put_at_module, put_behind, put_below, put_in}
 use Rattle.strm_types.specs.Flushing.{is_bare_flush}
-use Rattle.strm_laws.specs.Stacked.{Module, OfLdterm, OfPtem, OfPckt, module_puts}
+use Rattle.strm_laws.specs.Stacked.{Standing, OfLdterm, OfPtem, OfPckt, module_puts, Module}
 use Rattle.strm_laws.specs.State.{State, book, stream, with_book}
 use Rattle.strm_laws.proofs.EndsMake.{driver_put-none, head_put-none}
 use Rattle.strm_laws.proofs.InOrder.{BooksMade, InOrder, books-none, carried-books, in_turn-books}
@@ -32,6 +32,8 @@ use Rattle.strm_laws.proofs.TurnOrder.{TurnOrder, all_made, order-next, order-no
 use Rattle.strm_types.specs.declared.both.Both.{Both}
 use Rattle.strm_types.specs.declared.books.Book.{Book}
 use Rattle.strm_types.specs.Both.{get}
+use Rattle.strm_types.specs.Standings.{stood}
+use Rattle.strm_types.specs.LdtermStands.{disciplined}
 
 module _ {C : Type 0} where
   -- the books of both directions stay
@@ -115,7 +117,7 @@ module _ {C : Type 0} (cells : Cells C) where
       at Slave MasterToSlave order = goes MasterToSlave _ (order.up s.books.master.made)
       at Slave SlaveToMaster order = goes SlaveToMaster _ order.down
 
-  pub acted-books : (side : Side) (here : Spot) (t : Acted C (List (Module C))) (s : State C) → TurnOrder cells side (book (direction_at Down side) s).made t.gone → Books s t.gone (module_acted here t s).state
+  pub acted-books : (side : Side) (here : Spot) (t : Acted C (List (Standing C))) (s : State C) → TurnOrder cells side (book (direction_at Down side) s).made t.gone → Books s t.gone (module_acted here t s).state
   acted-books side here t s order =
       let u : State C = (module_acted here (record t { gone = [] }) s).state in
       record { written = λ dir. booked-written dir t.gone u; made = ordered-made side t.gone u order }
@@ -125,14 +127,17 @@ module _ {C : Type 0} (cells : Cells C) where
     abbrev Ordered : ℕ → List (Fate C) → Type 0
     Ordered made told = TurnOrder cells (other here.side) made told
 
-    module-order : (made : ℕ) (q : Module C) → Ordered made (module_puts cells made here m q).gone
-    module-order made (OfLdterm l) = order-none cells (other here.side) made _ (ldterm-none (λ dir c. true) here m l)
-    module-order made (OfPtem q) = order-none cells (other here.side) made _ (ap all_made (puts-gone here m q))
-    module-order made (OfPckt q) =
-        puts-each cells made here m (λ t. Ordered made t.gone) (order-none cells (other here.side) made [] refl)
-        (λ up is. order-next cells (other here.side) made (kind_number m.kind ∷ plain_packed m) [] refl)
+    module-order : (made : ℕ) (q : Standing C) → Ordered made (module_puts cells made here m q).gone
+    module-order made q = by q.part
+      where
+        by : (p : Module C) → Ordered made (module_puts cells made here m (stood p q.queues)).gone
+        by (OfLdterm l) = order-none cells (other here.side) made _ (ldterm-none (λ dir c. true) here m (disciplined l q.queues))
+        by (OfPtem p) = order-none cells (other here.side) made _ (ap all_made (puts-gone here m p))
+        by (OfPckt p) =
+            puts-each cells made here m (λ t. Ordered made t.gone) (order-none cells (other here.side) made [] refl)
+            (λ up is. order-next cells (other here.side) made (kind_number m.kind ∷ plain_packed m) [] refl)
 
-    among-order : (made i : ℕ) (ps : List (Module C)) → Ordered made (put_among (module_puts cells made) i here m ps).gone
+    among-order : (made i : ℕ) (ps : List (Standing C)) → Ordered made (put_among (module_puts cells made) i here m ps).gone
     among-order made i [] = order-none cells (other here.side) made [] refl
     among-order made zero (q ∷ ps) = module-order made q
     among-order made (suc i) (q ∷ ps) = among-order made i ps

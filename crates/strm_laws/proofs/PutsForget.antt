@@ -27,8 +27,8 @@ use Rattle.strm_types.specs.Names.{is_closed, is_open, other}
 use Rattle.strm_types.specs.Origins.{PutsAgree, map_acted, map_carried, map_fate, map_took}
 use Rattle.strm_laws.specs.Puts.{booked, delivered, earlier_at, flushed_on, made_above, module_acted, noted, passed_up, put_at_driver, put_at_head, put_at_module, put_behind, put_below, put_in}
 use Rattle.strm_types.specs.Queue.{Queue, map_queue}
-use Rattle.strm_laws.specs.Stacked.{Module, map_module, module_puts}
-use Rattle.strm_laws.specs.State.{State, Stream, book, stream, with_book, with_stream, with_driver_queue, map_state}
+use Rattle.strm_laws.specs.Stacked.{Standing, map_module, module_puts}
+use Rattle.strm_laws.specs.State.{State, Stream, book, stream, with_book, with_stream, with_driver_queue, map_state, map_stream}
 use Rattle.strm_laws.proofs.DeliveryForgets.{carried-agrees}
 use Rattle.strm_laws.proofs.EmptiedForgets.{stream-forgets}
 use Rattle.strm_laws.proofs.Earlier.{before_at-forgets, modules_on-forgets, places-forget}
@@ -37,7 +37,6 @@ use Rattle.strm_laws.proofs.ModulePuts.{among-forgets}
 use Rattle.strm_laws.proofs.Noted.{noted-same}
 use Rattle.strm_laws.proofs.PutForgets.{driver_put-forgets, flush-forgets, head_put-forgets, parts-forget}
 use Rattle.strm_types.proofs.BySide.{map-set}
-use Rattle.strm_laws.specs.State.{map_stream}
 
 -- a pair whose driver of a side has had a message, with these queues enabled
 abbrev driver_took : {E : Type 0} → Side → Acted E (Queue E) → List QueueName → State E → Took E (State E)
@@ -75,7 +74,7 @@ module _ {C D : Type 0} (f : C → D) where
       rw (length-map cells f) (booked-same told (with_book dir (with_made (length cells) (book dir s)) s))
 
   -- modules that have acted
-  pub acted-same : (here : Spot) (t : Acted C (List (Module C))) (s : State C) → module_acted here (map_acted f (map (map_module f)) t) (map_state f s) ≡ map_took f (map_state f) (module_acted here t s)
+  pub acted-same : (here : Spot) (t : Acted C (List (Standing C))) (s : State C) → module_acted here (map_acted f (map (map_module f)) t) (map_state f s) ≡ map_took f (map_state f) (module_acted here t s)
   acted-same here t s =
       let on = stream here.side s in
       let u = (module_acted here (record t { gone = [] }) s).state in

@@ -19,7 +19,7 @@ use Rattle.strm_types.specs.Names.{direction_at, is_open}
 use Rattle.strm_laws.specs.Places.{PutKeeps, direction_to, way_to, weight_sent, weight_gone, weight_made}
 use Rattle.strm_laws.specs.Puts.{SameButMade, across_of, booked, made_above, module_acted, put_at_driver, put_at_head, put_at_module, put_behind, put_below, put_in}
 use Rattle.strm_types.specs.Modules.{put_among}
-use Rattle.strm_laws.specs.Stacked.{Module, module_puts, modules_weight}
+use Rattle.strm_laws.specs.Stacked.{Standing, module_puts, modules_weight}
 use Rattle.strm_laws.specs.State.{State, stream, with_book, with_stream, book, Stream, with_driver_queue}
 use Rattle.strm_laws.proofs.ModulePuts.{among-keeps}
 use Rattle.strm_laws.proofs.LdtermKeeps.{way-up}
@@ -79,7 +79,7 @@ module _ {C : Type 0} (p : Dir → C → Bool) where
   booked-keeps (Comes dir xs ∷ told) s = booked-keeps told (with_book dir (with_made (length xs) (book dir s)) s)
 
   -- modules that have acted
-  acted-keeps : (here : Spot) (t : Acted C (List (Module C))) (s : State C) (n : ℕ)
+  acted-keeps : (here : Spot) (t : Acted C (List (Standing C))) (s : State C) (n : ℕ)
       → modules_weight p here.side t.state + (weight_sent p t.sent + weight_gone p t.gone) ≡ modules_weight p here.side (stream here.side s).modules + n + weight_made p t.gone
       → Keeps (module_acted here t s) (state_weight p s + n)
   acted-keeps here t s n kept =

@@ -15,17 +15,17 @@ use Rattle.strm_laws.specs.Earlier.{modules_on}
 use Rattle.strm_laws.specs.SideCosts.{SideAt, SideCosts, behind_costs, costs, does_among, front_on, fronts, place_costs, side_does}
 use Rattle.strm_laws.specs.Spares.{module_packs}
 use Rattle.strm_laws.specs.StackCosts.{module_takes, stands_of}
-use Rattle.strm_laws.specs.Stacked.{Module, module_name}
+use Rattle.strm_laws.specs.Stacked.{Standing, module_name}
 use Rattle.strm_laws.specs.State.{State, stream}
 use Rattle.strm_laws.proofs.PutsWithin.{among-front, count-on, names-on}
 
 module _ {C : Type 0} (here : Spot) (m : Message C) where
-  among-own : (i : ℕ) (ps : List (Module C)) → slice_index_or (map (module_takes here m) ps) i 0 ≡ (does_among i (map module_name ps) here.way (shape_of m)).own
+  among-own : (i : ℕ) (ps : List (Standing C)) → slice_index_or (map (module_takes here m) ps) i 0 ≡ (does_among i (map module_name ps) here.way (shape_of m)).own
   among-own i [] = refl
   among-own zero (p ∷ ps) = refl
   among-own (suc i) (p ∷ ps) = among-own i ps
 
-  among-makes : (i : ℕ) (ps : List (Module C)) → slice_index_or (map (module_packs here m) ps) i 0 ≤ slice_index_or (map (module_takes here m) ps) i 0
+  among-makes : (i : ℕ) (ps : List (Standing C)) → slice_index_or (map (module_packs here m) ps) i 0 ≤ slice_index_or (map (module_takes here m) ps) i 0
   among-makes i [] = omega arith
   among-makes zero (p ∷ ps) = makes-own (module_name p) here.way (shape_of m)
   among-makes (suc i) (p ∷ ps) = among-makes i ps

@@ -28,6 +28,8 @@ use Rattle.strm_types.specs.Names.{is_master, is_open, other}
 use Rattle.strm_types.specs.Queue.{Queue}
 use Rattle.strm_types.specs.Shapes.{At, Shape, Asking, FlushR, FlushW, FlushRW, Passing, bare_shape, flush_shape, is_flushing, shape_by, shape_of}
 use Rattle.strm_types.specs.Tables.{ToDriver, ToReaders, driver_does, head_does, name_does}
+use Rattle.strm_types.specs.Standings.{stood}
+use Rattle.strm_types.specs.LdtermStands.{disciplined}
 use Rattle.strm_types.proofs.BySide.{get-map}
 use Rattle.strm_types.proofs.CostsOf.{both-cost, cost-one, none-few, one-few, sent-none}
 use Rattle.strm_types.proofs.LdtermWithin.{ldterm-within}
@@ -37,7 +39,7 @@ use Rattle.strm_laws.specs.Earlier.{driver_place, modules_on}
 use Rattle.strm_laws.specs.Puts.{across_of, made_above, passed_up, put_at_driver, put_at_head, put_at_module, put_behind, put_below, put_in}
 use Rattle.strm_laws.specs.SideCosts.{SideCosts, both_costs, behind_costs, costs, crossed, does_among, front_on, fronts, place_costs, rises, side_does, side_drives, side_next, whole}
 use Rattle.strm_laws.specs.StackCosts.{stands_of, stands_on}
-use Rattle.strm_laws.specs.Stacked.{Module, OfLdterm, OfPtem, OfPckt, module_name, module_puts}
+use Rattle.strm_laws.specs.Stacked.{Standing, OfLdterm, OfPtem, OfPckt, module_name, module_puts, kind_name, Module}
 use Rattle.strm_laws.specs.State.{State, Stream, stream}
 use Rattle.strm_types.proofs.PtemWithin.{ptem-within}
 use Rattle.strm_laws.proofs.StackStays.{puts-stand}
@@ -182,17 +184,20 @@ module _ (C : Type 0) (cost : At → ℕ) where
 
   -- at one of the modules
   module _ (cells : Cells C) (made : ℕ) (here : Spot) (m : Message C) where
-    module-fits : (p : Module C) → cost_of cost (module_puts cells made here m p).sent ≤ sum_by cost (emits_at here (name_does (module_name p) here.way (shape_of m)))
-    module-fits (OfLdterm l) = ldterm-within here m l cost
-    module-fits (OfPtem p) = ptem-within here m p cost
-    module-fits (OfPckt p) = pckt-within cells made here m cost
+    module-fits : (p : Standing C) → cost_of cost (module_puts cells made here m p).sent ≤ sum_by cost (emits_at here (name_does (module_name p) here.way (shape_of m)))
+    module-fits x = by x.part
+      where
+        by : (p : Module C) → cost_of cost (module_puts cells made here m (stood p x.queues)).sent ≤ sum_by cost (emits_at here (name_does (kind_name p) here.way (shape_of m)))
+        by (OfLdterm l) = ldterm-within here m (disciplined l x.queues) cost
+        by (OfPtem p) = ptem-within here m p cost
+        by (OfPckt p) = pckt-within cells made here m cost
 
-    among-fits : (i : ℕ) (ps : List (Module C)) → cost_of cost (put_among (module_puts cells made) i here m ps).sent ≤ sum_by cost (emits_at here (does_among i (map module_name ps) here.way (shape_of m)))
+    among-fits : (i : ℕ) (ps : List (Standing C)) → cost_of cost (put_among (module_puts cells made) i here m ps).sent ≤ sum_by cost (emits_at here (does_among i (map module_name ps) here.way (shape_of m)))
     among-fits i [] = none-few C cost 0
     among-fits zero (p ∷ ps) = module-fits p
     among-fits (suc i) (p ∷ ps) = among-fits i ps
 
-pub module-within : {C : Type 0} (cells : Cells C) (made : ℕ) (here : Spot) (m : Message C) (p : Module C)
+pub module-within : {C : Type 0} (cells : Cells C) (made : ℕ) (here : Spot) (m : Message C) (p : Standing C)
     → Within (module_puts cells made here m p).sent (emits_at here (name_does (module_name p) here.way (shape_of m)))
 module-within {C} cells made here m p cost = module-fits C cost cells made here m p
 

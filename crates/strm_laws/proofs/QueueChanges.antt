@@ -1,5 +1,5 @@
 -- A change of a module's queue begins no turn, and where it leaves the messages that stand there, it loses no cell.
-use Rattle.std.proofs.Common.{ℕ, zero, suc, ◌≡◌, Bool, List, [], ◌∷◌, refl, ap, arith}
+use Rattle.std.proofs.Common.{ℕ, zero, suc, ◌≡◌, Bool, List, [], ◌∷◌, refl, ap, arith, ◌+◌}
 use Rattle.std.proofs.lemmas.List.Sums.{sum_by-cons}
 use Rattle.strm_types.specs.declared.names.Side.{Side}
 use Rattle.strm_types.specs.declared.names.Way.{Way}
@@ -7,36 +7,33 @@ use Rattle.strm_types.specs.declared.names.Way.TheVariants.{Up, Down}
 use Rattle.strm_types.specs.declared.names.Dir.{Dir}
 use Rattle.strm_types.specs.Names.{direction_at}
 use Rattle.strm_types.specs.Message.{Message}
-use Rattle.strm_types.specs.ModuleQueues.{queue_changed}
+use Rattle.strm_types.specs.Standings.{queue_changed, QueuePair, pair_changed}
 use Rattle.strm_types.specs.Modules.{change_among}
 use Rattle.strm_types.specs.Queue.{Queue, weight}
-use Rattle.strm_laws.specs.Stacked.{Module, OfLdterm, OfPtem, OfPckt, IsAtRest, module_queue, module_weight, modules_weight, with_module_queue}
+use Rattle.strm_laws.specs.Stacked.{Standing, module_weight, modules_weight, queues_weight, kind_weight}
 use Rattle.strm_laws.proofs.ModulesIdle.{AllIdle}
+use Rattle.std.specs.Prelude.{Option, None, Some, option_map}
 
 module _ {C : Type 0} (change : Queue C → Queue C) where
   -- the queue of a way changes so
-  abbrev changed : Way → Module C → Module C
-  changed way l = queue_changed module_queue with_module_queue way change l
+  abbrev changed : Way → Standing C → Standing C
+  changed way l = queue_changed way change l
 
-  changed-idle : (way : Way) (q : Module C) → IsAtRest q → IsAtRest (changed way q)
-  changed-idle Up (OfLdterm l) idle = idle
-  changed-idle Down (OfLdterm l) idle = idle
-  changed-idle way (OfPtem q) idle = tt
-  changed-idle way (OfPckt q) idle = tt
-
-  pub changes-idle : (way : Way) (i : ℕ) (ps : List (Module C)) → AllIdle ps → AllIdle (change_among (changed way) i ps)
+  pub changes-idle : (way : Way) (i : ℕ) (ps : List (Standing C)) → AllIdle ps → AllIdle (change_among (changed way) i ps)
   changes-idle way i [] idle = tt
-  changes-idle way zero (l ∷ ls) idle = (changed-idle way l idle.0, idle.1)
+  changes-idle way zero (l ∷ ls) idle = idle
   changes-idle way (suc i) (l ∷ ls) idle = (idle.0, changes-idle way i ls idle.1)
 
   module _ (p : Dir → C → Bool) (side : Side) (same : (q : Queue C) → (change q).messages ≡ q.messages) where
-    changed-keeps : (way : Way) (l : Module C) → module_weight p side (changed way l) ≡ module_weight p side l
-    changed-keeps Up (OfLdterm l) = let messages = ap (λ (ms : List (Message C)). weight (p (direction_at Up side)) ms) (same l.read_queue) in omega arith
-    changed-keeps Down (OfLdterm l) = let messages = ap (λ (ms : List (Message C)). weight (p (direction_at Down side)) ms) (same l.write_queue) in omega arith
-    changed-keeps way (OfPtem q) = refl
-    changed-keeps way (OfPckt q) = refl
+    queues-keep : (way : Way) (queues : Option (QueuePair C)) → queues_weight p side (option_map (pair_changed way change) queues) ≡ queues_weight p side queues
+    queues-keep way None = refl
+    queues-keep Up (Some pair) = let messages = ap (λ (ms : List (Message C)). weight (p (direction_at Up side)) ms) (same pair.read) in omega arith
+    queues-keep Down (Some pair) = let messages = ap (λ (ms : List (Message C)). weight (p (direction_at Down side)) ms) (same pair.write) in omega arith
 
-    pub changes-keep : (way : Way) (i : ℕ) (ps : List (Module C)) → modules_weight p side (change_among (changed way) i ps) ≡ modules_weight p side ps
+    changed-keeps : (way : Way) (l : Standing C) → module_weight p side (changed way l) ≡ module_weight p side l
+    changed-keeps way l = ap (λ n. kind_weight p side l.part + n) (queues-keep way l.queues)
+
+    pub changes-keep : (way : Way) (i : ℕ) (ps : List (Standing C)) → modules_weight p side (change_among (changed way) i ps) ≡ modules_weight p side ps
     changes-keep way i [] = refl
     changes-keep way zero (l ∷ ls) = omega (arith, changed-keeps way l, sum_by-cons (module_weight p side) l ls, sum_by-cons (module_weight p side) (changed way l) ls)
     changes-keep way (suc i) (l ∷ ls) =

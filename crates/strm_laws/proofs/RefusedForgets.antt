@@ -18,12 +18,11 @@ use Rattle.strm_types.specs.declared.needs.Reach.TheVariants as reaches
 use Rattle.strm_types.specs.declared.refusals.Refusal.TheVariants.{Eagain, Einval, Enxio, Erange}
 use Rattle.strm_types.specs.Events.{Request}
 use Rattle.strm_types.specs.Cells.{AreCells, Cells, plain, tagged}
-use Rattle.strm_types.specs.Message.{is_held}
+use Rattle.strm_types.specs.Message.{is_held, Message}
 use Rattle.strm_types.specs.Gets.{get_refusal}
 use Rattle.strm_types.specs.JobControl.{refusal_behind}
 use Rattle.strm_types.specs.Journal.{PlainEntry}
-use Rattle.strm_types.specs.Message.{Message}
-use Rattle.strm_types.specs.ModuleQueues.{messages_at}
+use Rattle.strm_types.specs.Standings.{QueuePair, map_pair, messages_at, messages_on}
 use Rattle.strm_types.specs.Modules.{may_push, stands}
 use Rattle.strm_types.specs.Names.{is_closed, is_master, is_open, same_module}
 use Rattle.strm_types.specs.PutMsg.{no_parts, put_waits}
@@ -36,12 +35,13 @@ use Rattle.strm_types.specs.Needs.{needs}
 use Rattle.strm_laws.specs.Refusals.{at_end, goes_down, in_range, is_numbered, is_reached, hold, refused_at_once, refused_by_state, unfit}
 use Rattle.strm_types.specs.Refused.{has_no_data, or_else, unless}
 use Rattle.strm_types.specs.Slots.{is_free, result_refusal}
-use Rattle.strm_laws.specs.Stacked.{Module, OfLdterm, OfPtem, OfPckt, map_module, module_name, module_queue}
+use Rattle.strm_laws.specs.Stacked.{Standing, map_module, module_name}
 use Rattle.strm_laws.specs.State.{State, map_state, stream}
 use Rattle.strm_laws.specs.Step.{IsLegal, Step, after}
 use Rattle.strm_laws.specs.Writes.{is_full_below}
 use Rattle.strm_types.proofs.PlainCells.{tagged-cells}
 use Rattle.strm_laws.proofs.Based.{based-forgets}
+use Rattle.strm_laws.proofs.Earlier.{name-forgets}
 use Rattle.strm_laws.proofs.Forgetting.{kind-forgets}
 use Rattle.strm_laws.proofs.ForgettingSteps.{after-forgets, call-forgets, turn-forgets}
 use Rattle.strm_laws.proofs.GetKeeps.{wanted-forgets}
@@ -51,7 +51,7 @@ use Rattle.strm_laws.proofs.ReadForgets.{refusal-forgets}
 use Rattle.strm_laws.proofs.Stopping.{hold-same}
 
 module _ {C D : Type 0} (f : C → D) where
-  abbrev images : List (Module C) → List (Module D)
+  abbrev images : List (Standing C) → List (Standing D)
   images ps = map (map_module f) ps
 
   goes-same : (side : Side) (s : State C) → goes_down side (map_state f s) ≡ goes_down side s
@@ -85,12 +85,14 @@ module _ {C D : Type 0} (f : C → D) where
   no-data : (ms : List (Message C)) → has_no_data (map_messages f ms) ≡ has_no_data ms
   no-data ms = ap (λ b. not b) (any-held ms)
 
-  waits-up : (ps : List (Module C)) → list_any (λ p. not (has_no_data (messages_at module_queue Up p))) (images ps) ≡ list_any (λ p. not (has_no_data (messages_at module_queue Up p))) ps
+  on-same : (queues : Option (QueuePair C)) → has_no_data (messages_on Up (option_map (map_pair f) queues)) ≡ has_no_data (messages_on Up queues)
+  on-same None = refl
+  on-same (Some pair) = no-data pair.read.messages
+
+  waits-up : (ps : List (Standing C)) → list_any (λ p. not (has_no_data (messages_at Up p))) (images ps) ≡ list_any (λ p. not (has_no_data (messages_at Up p))) ps
   waits-up [] = refl
-  waits-up (OfPtem p ∷ ps) = waits-up ps
-  waits-up (OfPckt p ∷ ps) = waits-up ps
-  waits-up (OfLdterm l ∷ ps) =
-      ap (λ b. not b || list_any (λ p. not (has_no_data (messages_at module_queue Up p))) (images ps)) (no-data l.read_queue.messages) ∙ ap (λ b. not (has_no_data l.read_queue.messages) || b) (waits-up ps)
+  waits-up (p ∷ ps) =
+      ap (λ b. not b || list_any (λ p. not (has_no_data (messages_at Up p))) (images ps)) (on-same p.queues) ∙ ap (λ b. not (has_no_data (messages_at Up p)) || b) (waits-up ps)
 
   end-same : (side : Side) (s : State C) → at_end side (map_state f s) ≡ at_end side s
   end-same Slave s = refl
@@ -116,26 +118,24 @@ module _ {C D : Type 0} (f : C → D) where
   put-same prios.High control body side s = refl
   put-same (prios.Band band) control body side s = ap (λ b. not (no_parts control body) && b) (full-same side band.0 s)
 
-  named-same : (p : Module C) → module_name (map_module f p) ≡ module_name p
-  named-same (OfLdterm l) = refl
-  named-same (OfPtem p) = refl
-  named-same (OfPckt p) = refl
+  named-same : (p : Standing C) → module_name (map_module f p) ≡ module_name p
+  named-same p = name-forgets f p
 
-  stands-same : (name : ModuleName) (ps : List (Module C)) → stands module_name name (images ps) ≡ stands module_name name ps
+  stands-same : (name : ModuleName) (ps : List (Standing C)) → stands module_name name (images ps) ≡ stands module_name name ps
   stands-same name [] = refl
   stands-same name (p ∷ ps) = ap (λ n. same_module n name || stands module_name name (images ps)) (named-same p) ∙ ap (λ b. same_module (module_name p) name || b) (stands-same name ps)
 
-  may-push : (p : Module C) (ps : List (Module C)) → may_push module_name (map_module f p) (images ps) ≡ may_push module_name p ps
+  may-push : (p : Standing C) (ps : List (Standing C)) → may_push module_name (map_module f p) (images ps) ≡ may_push module_name p ps
   may-push p ps =
       rw (length-map ps (map_module f), named-same p, stands-same (module_name p) ps) refl
 
-  may-same : (p : Option (Module C)) (ps : List (Module C)) → may_stand (option_map (map_module f) p) (images ps) ≡ may_stand p ps
+  may-same : (p : Option (Standing C)) (ps : List (Standing C)) → may_stand (option_map (map_module f) p) (images ps) ≡ may_stand p ps
   may-same None ps = refl
   may-same (Some p) ps = may-push p ps
 
   push-same : (side : Side) (name : Option ModuleName) (s : State C) → may_stand (named_by name) (stream side (map_state f s)).modules ≡ may_stand (named_by name) (stream side s).modules
-  push-same Master name s = ap (λ (p : Option (Module D)). may_stand p (images s.ends.master.modules)) (named_by-forgets f name) ∙ may-same (named_by name) s.ends.master.modules
-  push-same Slave name s = ap (λ (p : Option (Module D)). may_stand p (images s.ends.slave.modules)) (named_by-forgets f name) ∙ may-same (named_by name) s.ends.slave.modules
+  push-same Master name s = ap (λ (p : Option (Standing D)). may_stand p (images s.ends.master.modules)) (named_by-forgets f name) ∙ may-same (named_by name) s.ends.master.modules
+  push-same Slave name s = ap (λ (p : Option (Standing D)). may_stand p (images s.ends.slave.modules)) (named_by-forgets f name) ∙ may-same (named_by name) s.ends.slave.modules
 
   slot-same : (side : Side) (s : State C) → (stream side (map_state f s)).head.ioctl ≡ (stream side s).head.ioctl
   slot-same Master s = refl

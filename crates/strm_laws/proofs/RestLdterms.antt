@@ -13,12 +13,12 @@ use Rattle.strm_types.specs.declared.rules.Rule.TheVariants.{Flushed}
 use Rattle.strm_types.specs.declared.spots.Spot.{Spot}
 use Rattle.strm_types.specs.declared.termios.Termios.{Termios}
 use Rattle.strm_types.specs.Commands.{is_ioctl}
-use Rattle.strm_types.specs.Deliver.{Acted, Parcel}
+use Rattle.strm_types.specs.Deliver.{Acted, Parcel, onward}
 use Rattle.strm_types.specs.Emptied.{of_data}
 use Rattle.strm_types.specs.Flushing.{asked_by, flush_message, is_flush, read_flush}
 use Rattle.strm_types.specs.Ioctls.{read_ioc}
 use Rattle.strm_types.specs.LdtermPuts.{ldterm_puts, waits_behind, waits_on}
-use Rattle.strm_types.specs.Ldterms.{Ldterm, both, flush_passes, line_flushed, onward, queue_flushed, queued_at, read_flushed, sends, takes_band_0, waits_there, without_line, write_flushed}
+use Rattle.strm_types.specs.Ldterms.{Discipline, both, flush_passes, line_flushed, queue_flushed, queued_at, read_flushed, sends, takes_band_0, waits_there, without_line, write_flushed}
 use Rattle.strm_types.specs.Message.{Message, cells_of, data_message, has_parts, rank_of}
 use Rattle.strm_types.specs.Names.{other}
 use Rattle.strm_types.specs.Options.{mode_message}
@@ -80,26 +80,26 @@ module _ {C : Type 0} (all : Stands) (posts : Side → ℕ) (here : Spot) (some 
   unfolding data_message
   data-past xs = past-it (data_message xs)
 
-  abbrev Adds : Acted C (Ldterm C) → ℕ → Type 0
+  abbrev Adds : Acted C (Discipline C) → ℕ → Type 0
   Adds t n = ldterm_moves t.state + tolls all posts t.sent ≤ n
 
   -- flushes
-  queue-less : (way : Way) (asked : FlushAsked) (l : Ldterm C) → Adds (queue_flushed way here asked.band l) (ldterm_moves l)
+  queue-less : (way : Way) (asked : FlushAsked) (l : Discipline C) → Adds (queue_flushed way here asked.band l) (ldterm_moves l)
   queue-less Up asked l = omega (arith, behind-less moves_in (of_data asked.band) l.read_queue)
   queue-less Down asked l = omega (arith, behind-less moves_out (of_data asked.band) l.write_queue)
 
-  line-less : (asked : FlushAsked) (l : Ldterm C) → Adds (line_flushed here asked.band l) (ldterm_moves l)
+  line-less : (asked : FlushAsked) (l : Discipline C) → Adds (line_flushed here asked.band l) (ldterm_moves l)
   line-less asked l = either (λ t. Adds t (ldterm_moves l)) (takes_band_0 asked.band) (record (sends [] (without_line l)) { gone = line_gone here.side Flushed l.line }) (sends [] l) (omega arith) (omega arith)
 
-  both-less : (t : Acted C (Ldterm C)) (next : Ldterm C → Acted C (Ldterm C)) (n k : ℕ) → Adds t n → Adds (next t.state) (ldterm_moves t.state + k) → Adds (both t next) (n + k)
+  both-less : (t : Acted C (Discipline C)) (next : Discipline C → Acted C (Discipline C)) (n k : ℕ) → Adds t n → Adds (next t.state) (ldterm_moves t.state + k) → Adds (both t next) (n + k)
   both-less t next n k first second = omega (arith, first, second, tolls-both all posts t.sent (next t.state).sent)
 
-  pub read-less : (asked : FlushAsked) (l : Ldterm C) → Adds (read_flushed here asked l) (ldterm_moves l)
+  pub read-less : (asked : FlushAsked) (l : Discipline C) → Adds (read_flushed here asked l) (ldterm_moves l)
   read-less asked l = either (λ t. Adds t (ldterm_moves l)) asked.for_read (both (queue_flushed Up here asked.band l) (line_flushed here asked.band)) (sends [] l)
       (omega (arith, both-less (queue_flushed Up here asked.band l) (line_flushed here asked.band) (ldterm_moves l) 0 (queue-less Up asked l) (omega (arith, line-less asked (queue_flushed Up here asked.band l).state))))
       (omega arith)
 
-  write-less : (asked : FlushAsked) (l : Ldterm C) → Adds (write_flushed here asked l) (ldterm_moves l)
+  write-less : (asked : FlushAsked) (l : Discipline C) → Adds (write_flushed here asked l) (ldterm_moves l)
   write-less asked l = at asked.for_write
     where
       at : (b : Bool) → Adds (cond b (queue_flushed Down here asked.band (record l { echoing = l.echoing && not (takes_band_0 asked.band) })) (sends [] l)) (ldterm_moves l)
@@ -107,10 +107,10 @@ module _ {C : Type 0} (all : Stands) (posts : Side → ℕ) (here : Spot) (some 
       at false = omega arith
 
   module _ (m : Message C) where
-    abbrev Pays : Ldterm C → Acted C (Ldterm C) → Type 0
+    abbrev Pays : Discipline C → Acted C (Discipline C) → Type 0
     Pays l t = Adds t (ldterm_moves l + toll all posts here m)
 
-    flush-pays : (l : Ldterm C) → Pays l (flush_passes here m l)
+    flush-pays : (l : Discipline C) → Pays l (flush_passes here m l)
     flush-pays l =
         let asked = asked_by m.plain in
         let first = read_flushed here asked l in
@@ -118,7 +118,7 @@ module _ {C : Type 0} (all : Stands) (posts : Side → ℕ) (here : Spot) (some 
         let quiet = both-less first (write_flushed here asked) (ldterm_moves l) 0 (read-less asked l) (omega (arith, write-less asked first.state)) in
         both-less behind (sends (onward here.way here m ∷ [])) (ldterm_moves l) (toll all posts here m) (omega (arith, quiet)) (omega (arith, onward-falls all posts here.way here m))
 
-    waits-pays : (way : Way) (l : Ldterm C) → here.way ≡ way → waits_on way m ≡ true → Pays l (queued_at way m l)
+    waits-pays : (way : Way) (l : Discipline C) → here.way ≡ way → waits_on way m ≡ true → Pays l (queued_at way m l)
     waits-pays Up l way is =
         let paid : moves_in m ≤ toll all posts here m =
         (let this = ap (λ (w : Way). toll_at all posts w here.side here.at m) way ∙ at-it m in omega (arith, this, in-paid m.kind (length (cells_of m)) is)) in
@@ -129,7 +129,7 @@ module _ {C : Type 0} (all : Stands) (posts : Side → ℕ) (here : Spot) (some 
         omega (arith, paid, sum-put rank_of moves_out m l.write_queue.messages)
 
     -- the answer that sets a termios: it goes on, and what else goes up moves no more
-    flushed-pays : (command : ℕ) (l : Ldterm C) → Adds (input_flushed here command l) (ldterm_moves l)
+    flushed-pays : (command : ℕ) (l : Discipline C) → Adds (input_flushed here command l) (ldterm_moves l)
     flushed-pays command l =
         let up : List (Parcel C) = onward Up here (flush_message (read_flush None)) ∷ [] in
         let none = past-it (flush_message (read_flush None)) in
@@ -141,7 +141,7 @@ module _ {C : Type 0} (all : Stands) (posts : Side → ℕ) (here : Spot) (some 
     line-none [] = refl
     line-none (c ∷ more) = omega (arith, data-past (c ∷ more))
 
-    termios-pays : here.way ≡ Up → (t : Termios) (l : Ldterm C) → Pays l (termios_taken here t m l)
+    termios-pays : here.way ≡ Up → (t : Termios) (l : Discipline C) → Pays l (termios_taken here t m l)
     termios-pays way t l = at (ends_lines l.termios t)
       where
         rest : List (Parcel C)
@@ -154,11 +154,11 @@ module _ {C : Type 0} (all : Stands) (posts : Side → ℕ) (here : Spot) (some 
         at true = omega (arith, next, line-none l.line, tolls-both all posts (line_up here l.line) rest, past-it (mode_message {C = C} (read_mode_of t) (tostop t)))
         at false = omega (arith, next, past-it (mode_message {C = C} (read_mode_of t) (tostop t)))
 
-    taken-pays : here.way ≡ Up → (command : ℕ) (t : Termios) (l : Ldterm C) → Pays l (taken_up here command t m l)
+    taken-pays : here.way ≡ Up → (command : ℕ) (t : Termios) (l : Discipline C) → Pays l (taken_up here command t m l)
     taken-pays way command t l =
         both-less (input_flushed here command l) (termios_taken here t m) (ldterm_moves l) (toll all posts here m) (flushed-pays command l) (termios-pays way t (input_flushed here command l).state)
 
-    pub ldterm-pays : (l : Ldterm C) → Pays l (ldterm_puts here m l)
+    pub ldterm-pays : (l : Discipline C) → Pays l (ldterm_puts here m l)
     ldterm-pays l = puts-each here m l (Pays l) (record {
       waits = λ is. waits-pays here.way l refl is;
       flushes = λ is. flush-pays l;

@@ -15,13 +15,12 @@ use Rattle.strm_types.specs.declared.spots.Note.TheVariants.{Enable}
 use Rattle.strm_types.specs.declared.spots.Spot.{Spot}
 use Rattle.strm_types.specs.Acks.{ack_message, telling_message}
 use Rattle.strm_types.specs.Cells.{Cells}
-use Rattle.strm_types.specs.Deliver.{Acted, Goes, Parcel, toward}
+use Rattle.strm_types.specs.Deliver.{Acted, Goes, Parcel, toward, onward}
 use Rattle.strm_types.specs.Drivers.{answered, bottom_across, crosses, driver_across, driver_put, freed, ioctl_put, own_flushed, put_across, put_down, reader_flush, taken_in}
 use Rattle.strm_types.specs.Emptied.{Choice, emptied, none_goes, of_data, queue_behind, stayed}
 use Rattle.strm_types.specs.Flushing.{asked_by, flush_bytes, flush_message, is_bare_flush, is_flush, read_flush}
 use Rattle.strm_types.specs.Heads.{Head, head_put, is_doubled, nak_down, obeyed, passed_by, turned_round, waits_for_readers}
 use Rattle.strm_types.specs.Ioctls.{nak_message, read_ioc}
-use Rattle.strm_types.specs.Ldterms.{onward}
 use Rattle.strm_types.specs.Message.{Message, cells_of, has_parts}
 use Rattle.strm_types.specs.Names.{direction_at, direction_from, is_master, other}
 use Rattle.strm_types.specs.Pckts.{is_flush_passed, packet, pckt_puts}

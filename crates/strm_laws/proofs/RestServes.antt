@@ -18,29 +18,29 @@ use Rattle.strm_types.specs.declared.names.Way.TheVariants.{Up, Down}
 use Rattle.strm_types.specs.declared.rules.Rule.TheVariants.{Flushed, SignalKey, LineFull, LineOver}
 use Rattle.strm_types.specs.declared.spots.Spot.{Spot}
 use Rattle.strm_types.specs.Cells.{Cells, bytes_of, cells_made}
-use Rattle.strm_types.specs.Deliver.{Acted}
+use Rattle.strm_types.specs.Deliver.{Acted, onward}
 use Rattle.strm_types.specs.Flushing.{flush_bytes, flush_message, is_bare_flush}
 use Rattle.strm_types.specs.Input.{back_on, begins_next, cells_left, finished, input_begins, is_data, left_of, made_of, next_stage, passes, stage_at, stages, stages_done, treats}
 use Rattle.strm_types.specs.Keys.{restarts}
-use Rattle.strm_types.specs.LdtermCalls.{echo_most}
 use Rattle.strm_types.specs.LdtermServes.{ldterm_serves}
-use Rattle.strm_types.specs.Ldterms.{Answered, Begun, Between, Ldterm, Stage, onward, queue_at, sends, waits_there}
+use Rattle.strm_types.specs.Ldterms.{Answered, Begun, Between, Discipline, Stage, queue_at, sends, waits_there}
 use Rattle.strm_types.specs.Lines.{Types, edited, has_room}
 use Rattle.strm_types.specs.Message.{Message, cells_of, data_message, rank_of, size_of}
 use Rattle.strm_types.specs.Names.{other}
 use Rattle.strm_types.specs.Output.{posts as outputs}
 use Rattle.strm_types.specs.OutputTurns.{output_dir, output_serves, posted, unchanged, with_given}
 use Rattle.strm_types.specs.Queue.{IsOrdered, Queue, first_size, is_full, is_none_left, left_with, put_back}
-use Rattle.strm_types.specs.Service.{Serving}
+use Rattle.strm_types.specs.Service.{Serving, echo_most}
 use Rattle.strm_types.specs.Termios.{icanon, imaxbel, noflsh, opost}
 use Rattle.strm_types.specs.Typing.{added, bare, begins, both_ways, dropped, echo_dir, echo_grows, echo_lost, echo_stands, echoed, gathered_up, grown, is_blank_cell, is_lnext, lost, sigint, signals, sigquit, sigtstp, stops, stroke_at, strikes, struck, up_alone}
 use Rattle.strm_laws.specs.Rest.{byte_moves, echoes, ldterm_moves, moves_above, moves_across, moves_in, moves_in_work, moves_out, moves_within}
-use Rattle.strm_laws.specs.Restorable.{GoodLdterm, StandsOn}
+use Rattle.strm_laws.specs.Restorable.{StandsOn}
 use Rattle.strm_laws.specs.StackCosts.{Stands}
 use Rattle.strm_types.proofs.EchoSizes.{echo-few}
 use Rattle.strm_types.proofs.MadeCells.{made-long}
 use Rattle.strm_types.proofs.Ranked.{sum-put, sum-put_back}
 use Rattle.strm_types.proofs.StrikesStay.{strikes-stay}
+use Rattle.strm_laws.proofs.GoodLdterms.{GoodDiscipline}
 use Rattle.strm_laws.proofs.GoodLdtermTurns.{next-good}
 use Rattle.strm_laws.proofs.RestCosts.{at_or_below, sinks_by, toll_at}
 use Rattle.strm_laws.proofs.RestLdterms.{data-past, past-it}
@@ -93,11 +93,11 @@ some-left (suc left) size goes some = omega arith
 
 module _ {C : Type 0} (cells : Cells C) (all : Stands) (posts : Side → ℕ) (here : Spot) (some : 0 < here.at)
     (echoed-here : echoes all here.side ≡ true) (alone : echoes all (other here.side) ≡ false) (post : posts here.side ≡ here.at) where
-  abbrev Less : Acted C (Ldterm C) → ℕ → Type 0
+  abbrev Less : Acted C (Discipline C) → ℕ → Type 0
   Less t n = ldterm_moves t.state + tolls all posts t.sent ≤ n
 
   -- what stands there beside the byte that has begun
-  abbrev beside : Ldterm C → ℕ
+  abbrev beside : Discipline C → ℕ
   beside l = sum_by moves_in l.read_queue.messages + (sum_by moves_out l.write_queue.messages + moves_in_work l.in_work)
 
   -- what goes down from it has no ldterm ahead
@@ -125,16 +125,16 @@ module _ {C : Type 0} (cells : Cells C) (all : Stands) (posts : Side → ℕ) (h
   gathered-free (c ∷ more) = omega (arith, data-past all posts here some echoed-here alone post (c ∷ more))
 
   -- a key sends one message down at most
-  signals-free : (asked : FlushAsked) (signal : ℕ) (c : C) (l : Ldterm C) → tolls all posts (signals cells here asked signal c l).sent ≡ 0
+  signals-free : (asked : FlushAsked) (signal : ℕ) (c : C) (l : Discipline C) → tolls all posts (signals cells here asked signal c l).sent ≡ 0
   signals-free asked signal c l = at (noflsh l.termios)
     where
-      at : (kept : Bool) → tolls all posts (cond {A = Acted C (Ldterm C)} kept
+      at : (kept : Bool) → tolls all posts (cond {A = Acted C (Discipline C)} kept
           (record { state = record l { gathered = [] }; notes = []; sent = gathered_up cells here l.gathered ++ onward Up here (bare kinds.Pcsig (signal ∷ [])) ∷ []; gone = lost cells here SignalKey (c ∷ []) })
           (record { state = record l { gathered = []; line = [] }; notes = []; sent = gathered_up cells here l.gathered ++ onward Up here (flush_message (flush_bytes asked)) ∷ onward Up here (bare kinds.Pcsig (signal ∷ [])) ∷ []; gone = lost cells here Flushed l.line ++ lost cells here SignalKey (c ∷ []) })).sent ≡ 0
       at true = omega (arith, gathered-free l.gathered, tolls-both all posts (gathered_up cells here l.gathered) (onward Up here (bare kinds.Pcsig (signal ∷ [])) ∷ []))
       at false = omega (arith, gathered-free l.gathered, tolls-both all posts (gathered_up cells here l.gathered) (onward Up here (flush_message (flush_bytes asked)) ∷ onward Up here (bare kinds.Pcsig (signal ∷ [])) ∷ []))
 
-  added-free : (c : C) (l : Ldterm C) → tolls all posts (added cells here c l).sent ≡ 0
+  added-free : (c : C) (l : Discipline C) → tolls all posts (added cells here c l).sent ≡ 0
   added-free c l = at (icanon l.termios) (has_room l.line) (imaxbel l.termios)
     where
       at : (canonical room bell : Bool) →
@@ -146,14 +146,14 @@ module _ {C : Type 0} (cells : Cells C) (all : Stands) (posts : Side → ℕ) (h
       at true false true = refl
       at true false false = refl
 
-  stops-one : (c : C) (l : Ldterm C) → tolls all posts (stops cells here c l).sent ≤ 1
+  stops-one : (c : C) (l : Discipline C) → tolls all posts (stops cells here c l).sent ≤ 1
   stops-one c l = at l.stopped
     where
       at : (stopped : Bool) → tolls all posts (cond stopped [] (onward Down here (bare {C = C} kinds.Stop []) ∷ [])) ≤ 1
       at true = omega arith
       at false = omega arith
 
-  strikes-one : (key : Key) (c : C) (l : Ldterm C) → tolls all posts (strikes cells here key c l).sent ≤ 1
+  strikes-one : (key : Key) (c : C) (l : Discipline C) → tolls all posts (strikes cells here key c l).sent ≤ 1
   strikes-one Stop c l = stops-one c l
   strikes-one Start c l = omega arith
   strikes-one Intr c l = omega (arith, signals-free both_ways sigint c l)
@@ -170,21 +170,21 @@ module _ {C : Type 0} (cells : Cells C) (all : Stands) (posts : Side → ℕ) (h
   strikes-one Ordinary c l = omega (arith, added-free c l)
 
   -- a byte begins, and may start output
-  begins-most : (c : C) (l : Ldterm C) → Less (begins cells here c l) (beside l + 4 + 2 * echo_most)
+  begins-most : (c : C) (l : Discipline C) → Less (begins cells here c l) (beside l + 4 + 2 * echo_most)
   begins-most c l = at (l.stopped && restarts l.termios (stroke_at cells here c l))
     where
       at : (starts : Bool) → Less (cond starts (sends (onward Down here (bare kinds.Start []) ∷ []) (record l { stopped = false; stage = Begun true c })) (sends [] (record l { stage = Begun false c }))) (beside l + 4 + 2 * echo_most)
       at true = omega arith
       at false = omega arith
 
-  begun-fewer : (m : Message C) (c : C) (rest : List C) (l : Ldterm C) → cells_of m ≡ c ∷ rest
+  begun-fewer : (m : Message C) (c : C) (rest : List C) (l : Discipline C) → cells_of m ≡ c ∷ rest
       → let t = begins_next cells here (c ∷ rest) (record l { stage = Between; in_work = Some m }) in suc (ldterm_moves t.state + tolls all posts t.sent) ≤ ldterm_moves (record l { stage = Between; in_work = Some m })
   begun-fewer m c rest l is =
       let was : length (cells_of m) ≡ suc (length rest) = ap length is in
       let left = ap length (left-cells rest m) in
       omega (arith, was, left, begins-most c (record l { stage = Between; in_work = Some (left_of rest m) }))
 
-  between-less : (in_work : Option (Message C)) (l : Ldterm C)
+  between-less : (in_work : Option (Message C)) (l : Discipline C)
       → Less (begins_next cells here (cells_left (record l { in_work = in_work })) (record l { stage = Between; in_work = in_work })) (ldterm_moves (record l { stage = Between; in_work = in_work }))
   between-less None l = omega arith
   between-less (Some m) l = at (cells_of m) refl
@@ -194,7 +194,7 @@ module _ {C : Type 0} (cells : Cells C) (all : Stands) (posts : Side → ℕ) (h
       at (c ∷ rest) is = omega (arith, begun-fewer m c rest l is)
 
   -- a key is struck
-  struck-less : (started : Bool) (c : C) (l : Ldterm C) → length l.line ≤ LINE_MAX → Less (struck cells here started c l) (beside l + 3 + 2 * echo_most)
+  struck-less : (started : Bool) (c : C) (l : Discipline C) → length l.line ≤ LINE_MAX → Less (struck cells here started c l) (beside l + 3 + 2 * echo_most)
   struck-less started c l few =
       let stroke = stroke_at cells here c l in
       let from = record l { after_lnext = is_lnext stroke.key } in
@@ -216,7 +216,7 @@ module _ {C : Type 0} (cells : Cells C) (all : Stands) (posts : Side → ℕ) (h
       omega (arith, data-out (cells_of m ++ new), length-append (cells_of m) new, sum_by-cons moves_out m [], sum_by-cons moves_out (data_message (cells_of m ++ new)) [])
   grown-less new (m ∷ n ∷ ms) = omega (arith, grown-less new (n ∷ ms), sum_by-cons moves_out m (n ∷ ms), sum_by-cons moves_out m (grown cells here new (n ∷ ms)))
 
-  echoed-less : (made : ℕ) (echo : List ℕ) (l : Ldterm C) → Less (echoed cells here made echo (record l { stage = Between })) (beside l + 2 + 2 * length echo)
+  echoed-less : (made : ℕ) (echo : List ℕ) (l : Discipline C) → Less (echoed cells here made echo (record l { stage = Between })) (beside l + 2 + 2 * length echo)
   echoed-less made [] l = omega arith
   echoed-less made (b ∷ bytes) l = at (is_full 0 l.write_queue) l.echoing
     where
@@ -231,7 +231,7 @@ module _ {C : Type 0} (cells : Cells C) (all : Stands) (posts : Side → ℕ) (h
       at false true = omega (arith, long, grown-less new l.write_queue.messages)
       at false false = omega (arith, long, data-out new, sum-put rank_of moves_out (data_message new) l.write_queue.messages)
 
-  next-less : (made : ℕ) (l : Ldterm C) → length l.line ≤ LINE_MAX → Less (next_stage cells here made l) (ldterm_moves l)
+  next-less : (made : ℕ) (l : Discipline C) → length l.line ≤ LINE_MAX → Less (next_stage cells here made l) (ldterm_moves l)
   next-less made l few = at l.stage
     where
       at : (stage : Stage C) → Less (stage_at cells here stage made (record l { stage = stage })) (ldterm_moves (record l { stage = stage }))
@@ -250,14 +250,14 @@ module _ {C : Type 0} (cells : Cells C) (all : Stands) (posts : Side → ℕ) (h
           let long : 0 < length (cells_of m) = (let e : length (cells_of m) ≡ suc (length rest) = ap length is in omega (arith, e)) in
           omega (arith, within-most m.kind (length (cells_of m)) long, sum-put_back rank_of moves_in m q.messages)
 
-  finished-less : (l : Ldterm C) → Less (finished cells here l) (beside l)
+  finished-less : (l : Discipline C) → Less (finished cells here l) (beside l)
   finished-less l = omega (arith, gathered-free l.gathered, back-less l.in_work l.read_queue)
 
-  stages-less : (k made : ℕ) (l : Ldterm C) → GoodLdterm l → Less (stages cells here k made l) (ldterm_moves l)
+  stages-less : (k made : ℕ) (l : Discipline C) → GoodDiscipline l → Less (stages cells here k made l) (ldterm_moves l)
   stages-less zero made l good = omega (arith, finished-less l)
   stages-less (suc k) made l good = at (is_none_left t.sent) (next-less made l good.line) (stages-less k (made + made_of t.gone) t.state (next-good cells here made l good).state)
     where
-      t : Acted C (Ldterm C)
+      t : Acted C (Discipline C)
       t = next_stage cells here made l
 
       at : (none : Bool) → Less t (ldterm_moves l) → Less (stages cells here k (made + made_of t.gone) t.state) (ldterm_moves t.state)
@@ -266,32 +266,32 @@ module _ {C : Type 0} (cells : Cells C) (all : Stands) (posts : Side → ℕ) (h
       at false first rest = first
 
   -- where a message has begun, one byte of it is treated, or there is none
-  stages-fewer : (k made : ℕ) (m : Message C) (l : Ldterm C) → GoodLdterm (record l { stage = Between; in_work = Some m }) → (0 < k) ⊎ (cells_of m ≡ [])
+  stages-fewer : (k made : ℕ) (m : Message C) (l : Discipline C) → GoodDiscipline (record l { stage = Between; in_work = Some m }) → (0 < k) ⊎ (cells_of m ≡ [])
       → let t = stages cells here k made (record l { stage = Between; in_work = Some m }) in suc (ldterm_moves t.state + tolls all posts t.sent) ≤ ldterm_moves (record l { stage = Between; in_work = Some m })
   stages-fewer zero made m l good may = elim may [
     | inl less ↦ absurd (omega (arith, less))
     | inr none ↦ over none
   ]
     where
-      from : Ldterm C
+      from : Discipline C
       from = record l { stage = Between; in_work = Some m }
 
       over : cells_of m ≡ [] → suc (ldterm_moves (finished cells here from).state + tolls all posts (finished cells here from).sent) ≤ ldterm_moves from
       over none = omega (arith, gathered-free l.gathered, ap (λ (xs : List C). sum_by moves_in (cond (is_none_left xs) l.read_queue (record l.read_queue { messages = put_back m l.read_queue.messages })).messages) none)
   stages-fewer (suc k) made m l good may = at (cells_of m) refl (next-good cells here made from good).state (λ none. stages-fewer k (made + 0) m l good (inr none))
     where
-      from : Ldterm C
+      from : Discipline C
       from = record l { stage = Between; in_work = Some m }
 
-      on : Acted C (Ldterm C) → Acted C (Ldterm C)
+      on : Acted C (Discipline C) → Acted C (Discipline C)
       on t = (let u = stages cells here k (made + made_of t.gone) t.state in cond (is_none_left t.sent) (record { state = u.state; notes = t.notes ++ u.notes; sent = u.sent; gone = t.gone ++ u.gone }) t)
 
-      goes : (t : Acted C (Ldterm C)) (none : Bool) → suc (ldterm_moves t.state + tolls all posts t.sent) ≤ ldterm_moves from → Less (stages cells here k (made + made_of t.gone) t.state) (ldterm_moves t.state)
+      goes : (t : Acted C (Discipline C)) (none : Bool) → suc (ldterm_moves t.state + tolls all posts t.sent) ≤ ldterm_moves from → Less (stages cells here k (made + made_of t.gone) t.state) (ldterm_moves t.state)
           → (let u = stages cells here k (made + made_of t.gone) t.state in let w = cond none (record { state = u.state; notes = t.notes ++ u.notes; sent = u.sent; gone = t.gone ++ u.gone }) t in suc (ldterm_moves w.state + tolls all posts w.sent) ≤ ldterm_moves from)
       goes t true first rest = omega (arith, first, rest)
       goes t false first rest = first
 
-      at : (xs : List C) → cells_of m ≡ xs → GoodLdterm (begins_next cells here xs from).state → (cells_of m ≡ [] → let u = stages cells here k (made + 0) from in suc (ldterm_moves u.state + tolls all posts u.sent) ≤ ldterm_moves from)
+      at : (xs : List C) → cells_of m ≡ xs → GoodDiscipline (begins_next cells here xs from).state → (cells_of m ≡ [] → let u = stages cells here k (made + 0) from in suc (ldterm_moves u.state + tolls all posts u.sent) ≤ ldterm_moves from)
           → let w = on (begins_next cells here xs from) in suc (ldterm_moves w.state + tolls all posts w.sent) ≤ ldterm_moves from
       at [] is good again = again is
       at (c ∷ rest) is good again =
@@ -299,7 +299,7 @@ module _ {C : Type 0} (cells : Cells C) (all : Stands) (posts : Side → ℕ) (h
           goes t (is_none_left t.sent) (begun-fewer m c rest l is) (stages-less k (made + made_of t.gone) t.state good)
 
   -- A turn that begins: what it takes first is treated whole, or byte by byte, and one at least.
-  input-fewer : (made left : ℕ) (ms : List (Message C)) (l : Ldterm C) → GoodLdterm l → AllByRecursion (λ m. StandsOn waits_there m) ms → IsOrdered ms
+  input-fewer : (made left : ℕ) (ms : List (Message C)) (l : Discipline C) → GoodDiscipline l → AllByRecursion (λ m. StandsOn waits_there m) ms → IsOrdered ms
       → l.read_queue.messages ≡ ms → l.stage ≡ Between → is_none_left ms ≡ false → Goes left (first_size ms)
       → let t = (input_begins cells here (Some left) made ms l).acted in suc (ldterm_moves t.state + tolls all posts t.sent) ≤ ldterm_moves l
   input-fewer made left [] l good each order is between waits size = absurd (cc)
@@ -308,10 +308,10 @@ module _ {C : Type 0} (cells : Cells C) (all : Stands) (posts : Side → ℕ) (h
       sums : sum_by moves_in l.read_queue.messages ≡ moves_in m + sum_by moves_in rest
       sums = ap (λ (ms : List (Message C)). sum_by moves_in ms) is ∙ sum_by-cons moves_in m rest
 
-      begun : Ldterm C
+      begun : Discipline C
       begun = record l { read_queue = left_with rest l.read_queue; in_work = Some m }
 
-      begun-good : (stage : Stage C) → is_data m.kind ≡ true → GoodLdterm (record begun { stage = stage })
+      begun-good : (stage : Stage C) → is_data m.kind ≡ true → GoodDiscipline (record begun { stage = stage })
       begun-good stage kind = record {
         termios = good.termios;
         column = good.column;
@@ -337,7 +337,7 @@ module _ {C : Type 0} (cells : Cells C) (all : Stands) (posts : Side → ℕ) (h
           inl (omega (arith, done, goes))
 
       at : (typed : Bool) → is_data m.kind ≡ typed
-          → let t = (cond {A = Serving C (Ldterm C)} typed (treats cells here left made begun) (passes cells here Up m rest l)).acted in suc (ldterm_moves t.state + tolls all posts t.sent) ≤ ldterm_moves l
+          → let t = (cond {A = Serving C (Discipline C)} typed (treats cells here left made begun) (passes cells here Up m rest l)).acted in suc (ldterm_moves t.state + tolls all posts t.sent) ≤ ldterm_moves l
       at true kind =
           let within : moves_in m ≡ 1 + byte_moves * length (cells_of m) = data-within m.kind (length (cells_of m)) kind in
           omega (arith, sums, within, work l.stage between kind (may-be (cells_of m) refl))
@@ -349,7 +349,7 @@ module _ {C : Type 0} (cells : Cells C) (all : Stands) (posts : Side → ℕ) (h
       let out : Message C = record m { control = None; body = Some (c ∷ given) } in
       omega (arith, past-down out, data-above m.kind (length (cells_of out)) typed)
 
-  output-fewer : (made left : ℕ) (ms : List (Message C)) (l : Ldterm C) → l.write_queue.messages ≡ ms → is_none_left ms ≡ false → Goes left (first_size ms)
+  output-fewer : (made left : ℕ) (ms : List (Message C)) (l : Discipline C) → l.write_queue.messages ≡ ms → is_none_left ms ≡ false → Goes left (first_size ms)
       → let t = (output_serves cells here (Some left) made ms l).acted in suc (ldterm_moves t.state + tolls all posts t.sent) ≤ ldterm_moves l
   output-fewer made left [] l is waits size = absurd (cc)
   output-fewer made left (m ∷ rest) l is waits size = at (is_data m.kind && opost l.termios) refl
@@ -384,13 +384,13 @@ module _ {C : Type 0} (cells : Cells C) (all : Stands) (posts : Side → ℕ) (h
 -- the first call of a turn, and each later one
 module _ {C : Type 0} (cells : Cells C) (all : Stands) (posts : Side → ℕ) (here : Spot) (some : 0 < here.at)
     (echoed : echoes all here.side ≡ true) (alone : echoes all (other here.side) ≡ false) (post : posts here.side ≡ here.at) where
-  pub first-fewer : (way : Way) (made left : ℕ) (l : Ldterm C) → l.stage ≡ Between → is_none_left (queue_at way l).messages ≡ false → Goes left (first_size (queue_at way l).messages) → GoodLdterm l
+  pub first-fewer : (way : Way) (made left : ℕ) (l : Discipline C) → l.stage ≡ Between → is_none_left (queue_at way l).messages ≡ false → Goes left (first_size (queue_at way l).messages) → GoodDiscipline l
       → let t = (ldterm_serves cells (record here { way = way }) made false (Some left) l).acted in suc (ldterm_moves t.state + tolls all posts t.sent) ≤ ldterm_moves l
   first-fewer Up made left l between waits size good =
       input-fewer cells all posts (record here { way = Up }) some echoed alone post made left l.read_queue.messages l good good.read_queue.messages good.read_queue.order refl between waits size
   first-fewer Down made left l between waits size good = output-fewer cells all posts (record here { way = Down }) some echoed alone post made left l.write_queue.messages l refl waits size
 
-  pub later-less : (way : Way) (made left : ℕ) (l : Ldterm C) → way ≡ Up → GoodLdterm l
+  pub later-less : (way : Way) (made left : ℕ) (l : Discipline C) → way ≡ Up → GoodDiscipline l
       → let t = (ldterm_serves cells (record here { way = way }) made true (Some left) l).acted in ldterm_moves t.state + tolls all posts t.sent ≤ ldterm_moves l
   later-less Up made left l up good = stages-less cells all posts (record here { way = Up }) some echoed alone post (3 * left - stages_done l.stage) made l good
   later-less Down made left l up good = absurd (cc)

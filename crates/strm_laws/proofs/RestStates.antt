@@ -22,11 +22,13 @@ use Rattle.strm_types.specs.Heads.{head_put}
 use Rattle.strm_types.specs.Message.{Message, cells_of, has_parts}
 use Rattle.strm_types.specs.Modules.{put_among}
 use Rattle.strm_types.specs.Names.{is_open, other}
+use Rattle.strm_types.specs.Standings.{stood}
+use Rattle.strm_types.specs.LdtermStands.{disciplined}
 use Rattle.strm_laws.specs.Earlier.{driver_place, modules_on}
 use Rattle.strm_laws.specs.Puts.{across_of, booked, delivered, made_above, module_acted, passed_up, put_at_driver, put_at_head, put_at_module, put_behind, put_below, put_in}
 use Rattle.strm_laws.specs.Rest.{echoes, module_moves, moves, moves_above, moves_across, stream_moves}
 use Rattle.strm_laws.specs.StackCosts.{Stands, stands_of, stands_on}
-use Rattle.strm_laws.specs.Stacked.{Module, OfLdterm, OfPtem, OfPckt, module_name, module_puts}
+use Rattle.strm_laws.specs.Stacked.{Standing, OfLdterm, OfPtem, OfPckt, module_name, module_puts, kind_name, Module}
 use Rattle.strm_laws.specs.State.{State, Stream, stream, with_stream}
 use Rattle.strm_types.proofs.BySide.{get-map}
 use Rattle.strm_types.proofs.DeliveryHolds.{carried-holds}
@@ -74,7 +76,7 @@ module _ {C : Type 0} (all : Stands) where
   booked-same (Comes dir xs ∷ told) s = booked-same told _
 
   -- modules that have acted
-  pub acted-moves : (here : Spot) (t : Acted C (List (Module C))) (s : State C) → moves all (module_acted here t s).state + sum_by module_moves (stream here.side s).modules ≡ moves all s + sum_by module_moves t.state
+  pub acted-moves : (here : Spot) (t : Acted C (List (Standing C))) (s : State C) → moves all (module_acted here t s).state + sum_by module_moves (stream here.side s).modules ≡ moves all s + sum_by module_moves t.state
   acted-moves here t s =
       let on = stream here.side s in
       omega (arith, with-moves here.side (record on { modules = t.state }) s, booked-same t.gone (module_acted here (record t { gone = [] }) s).state)
@@ -128,13 +130,17 @@ module _ {C : Type 0} (all : Stands) where
         (λ is. omega (arith, up-falls all posts here.side (modules_on here.side s) here.at m low))
 
     module _ (cells : Cells C) (made : ℕ) where
-      module-pays : (here : Spot) (m : Message C) (q : Module C) → 0 < here.at → FitsName (echoes all here.side) (echoes all (other here.side)) (posts here.side) here.at (module_name q)
+      module-pays : (here : Spot) (m : Message C) (q : Standing C) → 0 < here.at → FitsName (echoes all here.side) (echoes all (other here.side)) (posts here.side) here.at (module_name q)
           → let t = module_puts cells made here m q in module_moves t.state + tolls all posts t.sent ≤ module_moves q + toll all posts here m
-      module-pays here m (OfLdterm l) some fits = ldterm-pays all posts here some fits.0 fits.1 fits.2 m l
-      module-pays here m (OfPtem q) some fits = omega (arith, ptem-few all posts here m q)
-      module-pays here m (OfPckt q) some fits = omega (arith, pckt-few all posts cells made here m fits)
+      module-pays here m x some fits = by x.part fits
+        where
+          by : (q : Module C) → FitsName (echoes all here.side) (echoes all (other here.side)) (posts here.side) here.at (kind_name q)
+              → let t = module_puts cells made here m (stood q x.queues) in module_moves t.state + tolls all posts t.sent ≤ module_moves (stood q x.queues) + toll all posts here m
+          by (OfLdterm l) fits = ldterm-pays all posts here some fits.0 fits.1 fits.2 m (disciplined l x.queues)
+          by (OfPtem q) fits = omega (arith, ptem-few all posts here m q)
+          by (OfPckt q) fits = omega (arith, pckt-few all posts cells made here m fits)
 
-      among-pays : (i at : ℕ) (here : Spot) (m : Message C) (ps : List (Module C)) → 0 < here.at → at + i ≡ here.at → FitNames (echoes all here.side) (echoes all (other here.side)) (posts here.side) at (map module_name ps)
+      among-pays : (i at : ℕ) (here : Spot) (m : Message C) (ps : List (Standing C)) → 0 < here.at → at + i ≡ here.at → FitNames (echoes all here.side) (echoes all (other here.side)) (posts here.side) at (map module_name ps)
           → let t = put_among (module_puts cells made) i here m ps in sum_by module_moves t.state + tolls all posts t.sent ≤ sum_by module_moves ps + toll all posts here m
       among-pays i at here m [] some is fits = omega arith
       among-pays zero at here m (q ∷ qs) some is fits =

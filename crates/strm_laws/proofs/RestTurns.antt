@@ -1,6 +1,6 @@
 -- A turn of a queue leaves fewer moves, or no more of them and only its own queue less enabled.
-use Rattle.std.proofs.Common.{ℕ, zero, suc, ◌≡◌, ◌≤◌, ◌<◌, ◌+◌, ◌-◌, ◌*◌, ◌⊎◌, inl, inr, Bool, true, false, cond, List, [], ◌∷◌, ◌++◌, map, refl, ap, subst, ◌∙◌, arith}
-use Rattle.std.specs.Prelude.{◌&&◌, ◌==◌, not, max, min, sum_by, slice_index_or, Option, None, Some, is_some}
+use Rattle.std.proofs.Common.{ℕ, zero, suc, ◌≡◌, ◌≤◌, ◌<◌, ◌+◌, ◌-◌, ◌*◌, ◌⊎◌, inl, inr, Bool, true, false, cond, List, [], ◌∷◌, ◌++◌, map, refl, sym, ap, subst, ◌∙◌, arith}
+use Rattle.std.specs.Prelude.{◌&&◌, ◌==◌, not, max, min, sum_by, slice_index_or, Option, None, Some, is_some, option_map}
 use Rattle.std.proofs.lemmas.List.Sums.{sum_by-cons}
 use Rattle.std.specs.List.{AllByRecursion}
 use Rattle.strm_types.specs.declared.answers.Turn.{Turn}
@@ -13,12 +13,14 @@ use Rattle.strm_types.specs.declared.names.Way.TheVariants.{Up, Down}
 use Rattle.strm_types.specs.declared.spots.Asks.{Asks}
 use Rattle.strm_types.specs.declared.spots.Asks.TheVariants as asked
 use Rattle.strm_types.specs.declared.spots.Spot.{Spot}
-use Rattle.strm_types.specs.Asking.{asked_first}
+use Rattle.strm_types.specs.Asking.{asked_first, ldterm_asks}
 use Rattle.strm_types.specs.Cells.{Cells}
 use Rattle.strm_types.specs.Deliver.{Acted, carried, in_turn}
-use Rattle.strm_types.specs.Ldterms.{Answered, Begun, Between, Ldterm as TheLdterm, Stage, is_between, queue_at}
+use Rattle.strm_types.specs.LdtermStands.{disciplined}
+use Rattle.strm_types.specs.Ldterms.{Answered, Begun, Between, Discipline as TheLdterm, Ldterm, Stage, is_between, queue_at}
 use Rattle.strm_types.specs.Message.{Message, band_of, size_of}
-use Rattle.strm_types.specs.ModuleQueues.{at_place, messages_at, place_past, queue_changed, with_waiting}
+use Rattle.strm_types.specs.ModuleQueues.{at_place, place_past, with_waiting}
+use Rattle.strm_types.specs.Standings.{QueuePair, messages_at, pair_changed, queue_changed, stood}
 use Rattle.strm_types.specs.Modules.{act_among, change_among}
 use Rattle.strm_types.specs.Names.{is_open, other}
 use Rattle.strm_types.specs.OutputTurns.{output_serves}
@@ -29,15 +31,16 @@ use Rattle.strm_laws.specs.LdtermTurns.{ldterm_rests}
 use Rattle.strm_laws.specs.ModuleTurns.{Calls, again_at, asked_turn, bytes_at, call_at, calls, made_below, module_called, module_turn_ended, moved_on, moved_within, queue_ended, stayed_at, turned_there, waits_there}
 use Rattle.strm_laws.specs.Past.{has_room_past, waits_on, writer_waits}
 use Rattle.strm_laws.specs.Puts.{delivered, put_in}
-use Rattle.strm_laws.specs.Rest.{echoes, module_moves, moves, moves_across, moves_in, moves_out, stream_moves}
-use Rattle.strm_laws.specs.Restorable.{GoodModule}
+use Rattle.strm_laws.specs.Rest.{echoes, ldterm_moves, module_moves, moves, moves_across, moves_in, moves_out, stream_moves}
+use Rattle.strm_laws.specs.Restorable.{GoodKind, GoodModule}
 use Rattle.strm_laws.specs.StackCosts.{Stands, stands_of}
-use Rattle.strm_laws.specs.Stacked.{Module, OfLdterm, OfPtem, OfPckt, module_asks, module_name, module_queue, module_rests, module_serves, with_module_queue}
+use Rattle.strm_laws.specs.Stacked.{Module, OfLdterm, OfPtem, OfPckt, Standing, kind_name, module_asks, module_name, module_rests, module_serves}
 use Rattle.strm_laws.specs.State.{State, Stream, stream, with_driver_queue, with_stream}
 use Rattle.strm_laws.specs.TurnOutcomes.{TurnOutcome, stayed_put}
 use Rattle.strm_laws.specs.Turns.{driver_serves, held_back, is_stopped_across, moved_across, turned_queue, up_across, with_driver}
 use Rattle.strm_types.proofs.DeliveryHolds.{carried-holds, in_turn-holds}
 use Rattle.strm_types.proofs.LdtermPuts.{either}
+use Rattle.strm_laws.proofs.GoodLdterms.{good-with}
 use Rattle.strm_laws.proofs.GoodStreams.{AreStreams}
 use Rattle.strm_laws.proofs.GoodTurns.{call-good}
 use Rattle.strm_laws.proofs.PutParts.{acted-holds}
@@ -46,6 +49,7 @@ use Rattle.strm_laws.proofs.RestPuts.{tolls}
 use Rattle.strm_laws.proofs.RestServes.{Goes, first-fewer, later-less}
 use Rattle.strm_laws.proofs.RestStates.{Fit, FitNames, FitsName, acted-moves, delivered-pays, fits-on, same-moves, sent-pays, with-moves}
 use Rattle.strm_laws.proofs.StackStays.{Stand, puts-stand, queue-names, same-names, serve-names}
+use Rattle.strm_laws.proofs.StandingLdterms.{stands-at}
 use Rattle.strm_laws.proofs.TurnHolds.{any-holds}
 
 -- whether a message waits for its turn
@@ -54,12 +58,12 @@ is_waiting asked.Empty = false
 is_waiting _ = true
 
 -- what holds of the module at a place, where one stands there
-abbrev pub At : {C : Type 0} → (Module C → Type 0) → ℕ → List (Module C) → Type 0
+abbrev pub At : {C : Type 0} → (Standing C → Type 0) → ℕ → List (Standing C) → Type 0
 At P i [] = ◌≡◌ {A = Bool} true false
 At P zero (q ∷ qs) = P q
 At P (suc i) (q ∷ qs) = At P i qs
 
-rests-between : {C : Type 0} (l : TheLdterm C) → ldterm_rests l ≡ true → l.stage ≡ Between
+rests-between : {C : Type 0} (l : Ldterm C) → ldterm_rests l ≡ true → l.stage ≡ Between
 rests-between {C} l is = at l.stage (last-of (not (is_some l.in_work)) (is_none_left l.gathered) (not l.echoing) (is_between l.stage) is)
   where
     last-of : (a b c d : Bool) → (a && (b && (c && d))) ≡ true → d ≡ true
@@ -75,17 +79,24 @@ rests-between {C} l is = at l.stage (last-of (not (is_some l.in_work)) (is_none_
 
 -- a change of queues that leaves the messages leaves the moves
 module _ {C : Type 0} (change : Queue C → Queue C) (same : (q : Queue C) → (change q).messages ≡ q.messages) where
-  changed-moves : (way : Way) (q : Module C) → module_moves (queue_changed module_queue with_module_queue way change q) ≡ module_moves q
-  changed-moves Up (OfLdterm l) = let messages = ap (λ (ms : List (Message C)). sum_by moves_in ms) (same l.read_queue) in omega arith
-  changed-moves Down (OfLdterm l) = let messages = ap (λ (ms : List (Message C)). sum_by moves_out ms) (same l.write_queue) in omega arith
-  changed-moves way (OfPtem q) = refl
-  changed-moves way (OfPckt q) = refl
+  pair-moves : (way : Way) (l : Ldterm C) (queues : Option (QueuePair C)) → ldterm_moves (disciplined l (option_map (pair_changed way change) queues)) ≡ ldterm_moves (disciplined l queues)
+  pair-moves way l None = refl
+  pair-moves Up l (Some pair) = let messages = ap (λ (ms : List (Message C)). sum_by moves_in ms) (same pair.read) in omega arith
+  pair-moves Down l (Some pair) = let messages = ap (λ (ms : List (Message C)). sum_by moves_out ms) (same pair.write) in omega arith
 
-  changes-moves : (way : Way) (i : ℕ) (ps : List (Module C)) → sum_by module_moves (change_among (queue_changed module_queue with_module_queue way change) i ps) ≡ sum_by module_moves ps
+  changed-moves : (way : Way) (q : Standing C) → module_moves (queue_changed way change q) ≡ module_moves q
+  changed-moves way q = by q.part
+    where
+      by : (part : Module C) → module_moves (queue_changed way change (stood part q.queues)) ≡ module_moves (stood part q.queues)
+      by (OfLdterm l) = pair-moves way l q.queues
+      by (OfPtem p) = refl
+      by (OfPckt p) = refl
+
+  changes-moves : (way : Way) (i : ℕ) (ps : List (Standing C)) → sum_by module_moves (change_among (queue_changed way change) i ps) ≡ sum_by module_moves ps
   changes-moves way i [] = refl
-  changes-moves way zero (q ∷ qs) = omega (arith, changed-moves way q, sum_by-cons module_moves q qs, sum_by-cons module_moves (queue_changed module_queue with_module_queue way change q) qs)
+  changes-moves way zero (q ∷ qs) = omega (arith, changed-moves way q, sum_by-cons module_moves q qs, sum_by-cons module_moves (queue_changed way change q) qs)
   changes-moves way (suc i) (q ∷ qs) =
-      let rs = change_among (queue_changed module_queue with_module_queue way change) i qs in
+      let rs = change_among (queue_changed way change) i qs in
       omega (arith, changes-moves way i qs, sum_by-cons module_moves q qs, sum_by-cons module_moves q rs)
 
 module _ {C : Type 0} where
@@ -126,7 +137,7 @@ module _ {C : Type 0} (all : Stands) where
   waits-stand : (side : Side) (way : Way) (at band : ℕ) (s : State C) → stands_of s ≡ all → stands_of (writer_waits side way at band s) ≡ all
   waits-stand side way at band s is =
       let t = stream side s in
-      let o = place_past module_queue way at t.modules in
+      let o = place_past way at t.modules in
       stream-stands side (waits_on way band o t) s (waits-names side way band o t) is
 
   waits-moves : (echoed : Bool) (way : Way) (band : ℕ) (o : Option ℕ) (t : Stream C) → stream_moves echoed (waits_on way band o t) ≡ stream_moves echoed t
@@ -137,7 +148,7 @@ module _ {C : Type 0} (all : Stands) where
   waits-same : (side : Side) (way : Way) (at band : ℕ) (s : State C) → moves all (writer_waits side way at band s) ≡ moves all s
   waits-same side way at band s =
       let t = stream side s in
-      let o = place_past module_queue way at t.modules in
+      let o = place_past way at t.modules in
       same-moves all side (waits_on way band o t) s (waits-moves (echoes all (other side)) way band o t)
 
   module _ (cells : Cells C) (posts : Side → ℕ) (fit : Fit all posts) where
@@ -182,39 +193,51 @@ module _ {C : Type 0} (all : Stands) where
         (moved-leaves side m rest s is first)
 
     module _ (here : Spot) (some : 0 < here.at) where
-      abbrev acts : Bool → ℕ → ℕ → Module C → Acted C (Module C)
+      abbrev acts : Bool → ℕ → ℕ → Standing C → Acted C (Standing C)
       acts again made left p = (module_serves cells here made again (Some left) p).acted
 
-      abbrev FitsHere : ℕ → List (Module C) → Type 0
+      abbrev FitsHere : ℕ → List (Standing C) → Type 0
       FitsHere at ps = FitNames (echoes all here.side) (echoes all (other here.side)) (posts here.side) at (map module_name ps)
 
       -- a module whose turn may begin, and treats so many bytes of its first message
-      abbrev pub Ready : ℕ → Module C → Type 0
-      Ready left q = (module_rests q ≡ true) × (is_waiting (module_asks here.way q) ≡ true) × Goes left (first_size (messages_at module_queue here.way q))
+      abbrev pub Ready : ℕ → Standing C → Type 0
+      Ready left q = (module_rests q ≡ true) × (is_waiting (module_asks here.way q) ≡ true) × Goes left (first_size (messages_at here.way q))
 
-      waits-some : (way : Way) (l : TheLdterm C) → is_waiting (module_asks way (OfLdterm l)) ≡ true → is_none_left (queue_at way l).messages ≡ false
+      waits-some : (way : Way) (l : TheLdterm C) → is_waiting (ldterm_asks way l) ≡ true → is_none_left (queue_at way l).messages ≡ false
       waits-some way l is = at (queue_at way l).messages is
         where
           at : (ms : List (Message C)) → is_waiting (asked_first way l.stopped ms) ≡ true → is_none_left ms ≡ false
           at [] is = absurd (cc)
           at (m ∷ ms) is = refl
 
-      module-first : (made left : ℕ) (q : Module C) → FitsName (echoes all here.side) (echoes all (other here.side)) (posts here.side) here.at (module_name q) → GoodModule q → Ready left q
+      module-first : (made left : ℕ) (q : Standing C) → FitsName (echoes all here.side) (echoes all (other here.side)) (posts here.side) here.at (module_name q) → GoodModule q → Ready left q
           → let t = acts false made left q in suc (module_moves t.state + tolls all posts t.sent) ≤ module_moves q
-      module-first made left (OfLdterm l) fits good ready = first-fewer cells all posts here some fits.0 fits.1 fits.2 here.way made left l (rests-between l ready.0) (waits-some here.way l ready.1) ready.2 good
-      module-first made left (OfPtem q) fits good ready = absurd (cc (ready.1))
-      module-first made left (OfPckt q) fits good ready = absurd (cc (ready.1))
+      module-first made left q fits good ready = by q.part fits good.kind ready
+        where
+          by : (part : Module C) → FitsName (echoes all here.side) (echoes all (other here.side)) (posts here.side) here.at (kind_name part) → GoodKind part → Ready left (stood part q.queues)
+              → let t = acts false made left (stood part q.queues) in suc (module_moves t.state + tolls all posts t.sent) ≤ module_moves (stood part q.queues)
+          by (OfLdterm l) fits own ready =
+              let d = disciplined l q.queues in
+              let size = subst (λ ms. Goes left (first_size ms)) (sym (stands-at here.way l q.queues)) ready.2 in
+              first-fewer cells all posts here some fits.0 fits.1 fits.2 here.way made left d (rests-between l ready.0) (waits-some here.way d ready.1) size (good-with l q.queues own good.queues)
+          by (OfPtem p) fits own ready = absurd (cc (ready.1))
+          by (OfPckt p) fits own ready = absurd (cc (ready.1))
 
-      module-later : (made left : ℕ) (q : Module C) → FitsName (echoes all here.side) (echoes all (other here.side)) (posts here.side) here.at (module_name q) → GoodModule q → here.way ≡ Up
+      module-later : (made left : ℕ) (q : Standing C) → FitsName (echoes all here.side) (echoes all (other here.side)) (posts here.side) here.at (module_name q) → GoodModule q → here.way ≡ Up
           → let t = acts true made left q in module_moves t.state + tolls all posts t.sent ≤ module_moves q
-      module-later made left (OfLdterm l) fits good up = later-less cells all posts here some fits.0 fits.1 fits.2 here.way made left l up good
-      module-later made left (OfPtem q) fits good up = omega arith
-      module-later made left (OfPckt q) fits good up = omega arith
+      module-later made left q fits good up = by q.part fits good.kind
+        where
+          by : (part : Module C) → FitsName (echoes all here.side) (echoes all (other here.side)) (posts here.side) here.at (kind_name part) → GoodKind part
+              → let t = acts true made left (stood part q.queues) in module_moves t.state + tolls all posts t.sent ≤ module_moves (stood part q.queues)
+          by (OfLdterm l) fits own =
+              later-less cells all posts here some fits.0 fits.1 fits.2 here.way made left (disciplined l q.queues) up (good-with l q.queues own good.queues)
+          by (OfPtem p) fits own = omega arith
+          by (OfPckt p) fits own = omega arith
 
-      fits-at : (at : ℕ) (q : Module C) → at ≡ here.at → FitsName (echoes all here.side) (echoes all (other here.side)) (posts here.side) at (module_name q) → FitsName (echoes all here.side) (echoes all (other here.side)) (posts here.side) here.at (module_name q)
+      fits-at : (at : ℕ) (q : Standing C) → at ≡ here.at → FitsName (echoes all here.side) (echoes all (other here.side)) (posts here.side) at (module_name q) → FitsName (echoes all here.side) (echoes all (other here.side)) (posts here.side) here.at (module_name q)
       fits-at at q same fits = subst (λ n. FitsName (echoes all here.side) (echoes all (other here.side)) (posts here.side) n (module_name q)) same fits
 
-      among-first : (made left i at : ℕ) (ps : List (Module C)) → at + i ≡ here.at → FitsHere at ps → AllByRecursion GoodModule ps → At (Ready left) i ps
+      among-first : (made left i at : ℕ) (ps : List (Standing C)) → at + i ≡ here.at → FitsHere at ps → AllByRecursion GoodModule ps → At (Ready left) i ps
           → let t = act_among (acts false made left) i ps in suc (sum_by module_moves t.state + tolls all posts t.sent) ≤ sum_by module_moves ps
       among-first made left i at [] is fits good ready = absurd (cc (ready))
       among-first made left zero at (q ∷ qs) is fits good ready =
@@ -224,7 +247,7 @@ module _ {C : Type 0} (all : Stands) where
           let t = act_among (acts false made left) i qs in
           omega (arith, among-first made left i (suc at) qs (omega (arith, is)) fits.1 good.1 ready, sum_by-cons module_moves q qs, sum_by-cons module_moves q t.state)
 
-      among-later : (made left i at : ℕ) (ps : List (Module C)) → at + i ≡ here.at → FitsHere at ps → AllByRecursion GoodModule ps → here.way ≡ Up
+      among-later : (made left i at : ℕ) (ps : List (Standing C)) → at + i ≡ here.at → FitsHere at ps → AllByRecursion GoodModule ps → here.way ≡ Up
           → let t = act_among (acts true made left) i ps in sum_by module_moves t.state + tolls all posts t.sent ≤ sum_by module_moves ps
       among-later made left i at [] is fits good up = omega arith
       among-later made left zero at (q ∷ qs) is fits good up =
@@ -275,7 +298,7 @@ module _ {C : Type 0} (all : Stands) where
           )
 
       -- on the write queue one call is a turn
-      down-once : (made left i : ℕ) (again : Bool) (ps : List (Module C)) → here.way ≡ Down → slice_index_or (map (λ p. (module_serves cells here made again (Some left) p).again) ps) i false ≡ false
+      down-once : (made left i : ℕ) (again : Bool) (ps : List (Standing C)) → here.way ≡ Down → slice_index_or (map (λ p. (module_serves cells here made again (Some left) p).again) ps) i false ≡ false
       down-once made left i again [] down = refl
       down-once made left zero again (q ∷ qs) down = one here.way q down
         where
@@ -283,11 +306,14 @@ module _ {C : Type 0} (all : Stands) where
           served [] l spot = refl
           served (m ∷ ms) l spot = refl
 
-          one : (way : Way) (q : Module C) → way ≡ Down → (module_serves cells (record here { way = way }) made again (Some left) q).again ≡ false
-          one Down (OfLdterm l) down = served l.write_queue.messages l (record here { way = Down })
-          one Up (OfLdterm l) down = absurd (cc)
-          one way (OfPtem q) down = refl
-          one way (OfPckt q) down = refl
+          one : (way : Way) (q : Standing C) → way ≡ Down → (module_serves cells (record here { way = way }) made again (Some left) q).again ≡ false
+          one way q down = by way q.part down
+            where
+              by : (way : Way) (part : Module C) → way ≡ Down → (module_serves cells (record here { way = way }) made again (Some left) (stood part q.queues)).again ≡ false
+              by Down (OfLdterm l) down = let d = disciplined l q.queues in served d.write_queue.messages d (record here { way = Down })
+              by Up (OfLdterm l) down = absurd (cc)
+              by way (OfPtem p) down = refl
+              by way (OfPckt p) down = refl
       down-once made left (suc i) again (q ∷ qs) down = down-once made left i again qs down
 
       calls-later : (n left : ℕ) (s : State C) → stands_of s ≡ all → AreStreams s → here.way ≡ Up → let v = calls cells here n true left s in (stands_of v.state ≡ all) × (moves all v.state ≤ moves all s)
@@ -306,7 +332,7 @@ module _ {C : Type 0} (all : Stands) where
       calls-fewer zero left s goes is good ready = absurd (omega (arith, goes))
       calls-fewer (suc more) left s goes is good ready = at (again_at cells here (made_below here.side s) false left ps) refl here.way refl (on-first left s is good ready)
         where
-          ps : List (Module C)
+          ps : List (Standing C)
           ps = (stream here.side s).modules
 
           less_left : ℕ
@@ -344,8 +370,8 @@ module _ {C : Type 0} (all : Stands) where
           let waiting = writer_waits here.side here.way here.at band s in
           (ended-stands here false waiting (waits-stand here.side here.way here.at band s is), inr (omega (arith, waits-same here.side here.way here.at band s, ended-same here false waiting), refl))
 
-      one-ready : (left i : ℕ) (ps : List (Module C)) → slice_index_or (map module_rests ps) i false ≡ true → is_waiting (slice_index_or (map (module_asks here.way) ps) i asked.Empty) ≡ true
-          → Goes left (slice_index_or (map (λ p. first_size (messages_at module_queue here.way p)) ps) i 0) → At (Ready left) i ps
+      one-ready : (left i : ℕ) (ps : List (Standing C)) → slice_index_or (map module_rests ps) i false ≡ true → is_waiting (slice_index_or (map (module_asks here.way) ps) i asked.Empty) ≡ true
+          → Goes left (slice_index_or (map (λ p. first_size (messages_at here.way p)) ps) i 0) → At (Ready left) i ps
       one-ready left i [] rests waits size = absurd (cc (rests))
       one-ready left zero (q ∷ qs) rests waits size = (rests, waits, size)
       one-ready left (suc i) (q ∷ qs) rests waits size = one-ready left i qs rests waits size
@@ -358,7 +384,7 @@ module _ {C : Type 0} (all : Stands) where
 
       -- how many bytes the first message of the queue there has
       abbrev first_there : State C → ℕ
-      first_there s = at_place (λ p. first_size (messages_at module_queue here.way p)) 0 here.at (stream here.side s).modules
+      first_there s = at_place (λ p. first_size (messages_at here.way p)) 0 here.at (stream here.side s).modules
 
       -- a turn that is answered so
       abbrev pub Answers : Turn → TurnOutcome C → Type 0
@@ -402,7 +428,7 @@ module _ {C : Type 0} (all : Stands) where
       pub there-leaves : (name : QueueName) (turn : Turn) (s : State C) → stands_of s ≡ all → AreStreams s → Answers turn (turned_there cells here name turn s) → Leaves (moves all s) s.enabled (turned_there cells here name turn s).state
       there-leaves name turn s is good answers = at (at_place module_rests false here.at ps) refl answers
         where
-          ps : List (Module C)
+          ps : List (Standing C)
           ps = (stream here.side s).modules
 
           asks : Asks

@@ -18,14 +18,14 @@ use Rattle.strm_types.specs.declared.names.Way.{Way}
 use Rattle.strm_types.specs.declared.names.Way.TheVariants.{Up, Down}
 use Rattle.strm_types.specs.declared.spots.Spot.{Spot}
 use Rattle.strm_types.specs.Cells.{Cells}
-use Rattle.strm_types.specs.Names.{is_enabled, other, same_place, same_queue, without}
+use Rattle.strm_types.specs.Names.{is_enabled, other, same_place, same_queue, without, place_of}
 use Rattle.strm_laws.specs.Earlier.{places_of}
 use Rattle.strm_laws.specs.ModuleTurns.{module_turned, named_from, place_named, turned_named, turned_there}
 use Rattle.strm_laws.specs.Rest.{EchoesOnce, NoLdterm, count_enabled, echoes, is_pckt, moves, packs_below, queue_names, work}
 use Rattle.strm_laws.specs.Restorable.{is_ldterm}
 use Rattle.strm_laws.specs.StackCosts.{Stands, stands_of, stands_on}
-use Rattle.strm_laws.specs.Stacked.{Module, OfLdterm, OfPtem, OfPckt, module_name}
-use Rattle.strm_laws.specs.State.{State, Stream, stream}
+use Rattle.strm_laws.specs.Stacked.{Standing, OfLdterm, OfPtem, OfPckt, module_name, kind_name, Module}
+use Rattle.strm_laws.specs.State.{State, stream}
 use Rattle.strm_laws.specs.Step.{IsTurn}
 use Rattle.strm_laws.specs.Turns.{turned, turned_at}
 use Rattle.strm_types.proofs.EnabledNames.{same_queue-sound}
@@ -181,12 +181,16 @@ named-least place from (Some other ∷ places) at is = by (same_place other plac
     by false is least = let more = least is in omega (arith, more)
 
 module _ {C : Type 0} where
-  named-none : (place : Place) (n from : ℕ) (ps : List (Module C)) → list_any is_ldterm (map module_name ps) ≡ false → named_from place from (places_of (take n ps)) ≡ None
+  named-none : (place : Place) (n from : ℕ) (ps : List (Standing C)) → list_any is_ldterm (map module_name ps) ≡ false → named_from place from (places_of (take n ps)) ≡ None
   named-none place zero from ps none = refl
   named-none place (suc n) from [] none = refl
-  named-none place (suc n) from (OfLdterm l ∷ ps) none = absurd (cc)
-  named-none place (suc n) from (OfPtem q ∷ ps) none = named-none place n (suc from) ps none
-  named-none place (suc n) from (OfPckt q ∷ ps) none = named-none place n (suc from) ps none
+  named-none place (suc n) from (p ∷ ps) none = by p.part none (λ rest. named-none place n (suc from) ps rest)
+    where
+      by : (q : Module C) → (is_ldterm (kind_name q) || list_any is_ldterm (map module_name ps)) ≡ false
+          → (list_any is_ldterm (map module_name ps) ≡ false → named_from place (suc from) (places_of (take n ps)) ≡ None) → named_from place from (place_of (kind_name q) ∷ places_of (take n ps)) ≡ None
+      by (OfLdterm l) none rest = absurd (cc)
+      by (OfPtem q) none rest = rest none
+      by (OfPckt q) none rest = rest none
 
   module _ (cells : Cells C) (name : QueueName) (turn : Turn) where
     -- a turn of a module's queue

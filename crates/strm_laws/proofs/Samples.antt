@@ -9,6 +9,8 @@ use Rattle.strm_types.specs.declared.modes.ReadMode.TheVariants.{ByteStream}
 use Rattle.strm_types.specs.declared.slots.Slot.TheVariants.{Free}
 use Rattle.strm_types.specs.Queue.{Queue, Flow}
 use Rattle.strm_types.specs.Heads.{Head}
+use Rattle.strm_types.specs.Ldterms.{Discipline, discipline, new_ldterm}
+use Rattle.strm_types.specs.Standings.{new_pair}
 
 -- an M_PROTO of band 2, an M_PCPROTO that names band 3, an M_SETOPTS of band 1 whose four bytes are no cells
 abbrev pub proto : Message ℕ
@@ -41,3 +43,8 @@ queue messages flows = record { messages = messages; flows = flows; want_read = 
 -- a head in the modes of a new one
 abbrev pub head_with : Queue ℕ → Bool → Head ℕ
 head_with q hung_up = record { queue = q; read_mode = ByteStream; control_mode = Refuse; tostop = false; group = 0; hung_up = hung_up; signals = []; ioctl = Free }
+
+-- an ldterm as it is pushed, with its queues
+module _ {C : Type 0} where
+  abbrev pub fresh : Discipline C
+  fresh = discipline new_ldterm new_pair

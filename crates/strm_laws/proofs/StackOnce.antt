@@ -9,7 +9,7 @@ use Rattle.strm_types.specs.Modules.{stands}
 use Rattle.strm_types.specs.Names.{same_module}
 use Rattle.strm_laws.specs.Pushes.{may_stand}
 use Rattle.strm_laws.specs.StackCosts.{EachOnce, times_there}
-use Rattle.strm_laws.specs.Stacked.{Module, module_name}
+use Rattle.strm_laws.specs.Stacked.{Standing, module_name}
 
 pub nothing-there : (name : ModuleName) (at : ℕ) → times_there name [] at ≡ 0
 nothing-there name zero = refl
@@ -37,7 +37,7 @@ neither true b is = absurd (cc)
 neither false true is = absurd (cc)
 
 module _ {C : Type 0} where
-  none-times : (name : ModuleName) (ps : List (Module C)) → stands module_name name ps ≡ false → (at : ℕ) → times_there name (map module_name ps) at ≡ 0
+  none-times : (name : ModuleName) (ps : List (Standing C)) → stands module_name name ps ≡ false → (at : ℕ) → times_there name (map module_name ps) at ≡ 0
   none-times name [] none at = nothing-there name at
   none-times name (p ∷ ps) none zero = refl
   none-times name (p ∷ ps) none (suc at) =
@@ -46,7 +46,7 @@ module _ {C : Type 0} where
       let first = ap (λ b. cond {A = ℕ} b 1 0) apart.0 in
       omega (arith, top-times name (module_name p) (map module_name ps) at, rest, first)
 
-  pub push-once : (p : Module C) (ps : List (Module C)) → may_stand (Some p) ps ≡ true → EachOnce (map module_name ps) → EachOnce (map module_name (p ∷ ps))
+  pub push-once : (p : Standing C) (ps : List (Standing C)) → may_stand (Some p) ps ≡ true → EachOnce (map module_name ps) → EachOnce (map module_name (p ∷ ps))
   push-once p ps may each = record { once = one }
     where
       alone : stands module_name (module_name p) ps ≡ false

@@ -28,7 +28,7 @@ use Rattle.strm_laws.specs.Puts.{booked, made_above, module_acted, passed_up, pu
 use Rattle.strm_types.specs.Flushing.{is_bare_flush}
 use Rattle.strm_laws.specs.Refusals.{in_range}
 use Rattle.strm_laws.specs.Spares.{module_packs, packet_most, spare, spare_behind}
-use Rattle.strm_laws.specs.Stacked.{Module, OfLdterm, OfPtem, OfPckt, module_name, module_puts}
+use Rattle.strm_laws.specs.Stacked.{Standing, OfLdterm, OfPtem, OfPckt, module_name, module_puts, Module}
 use Rattle.strm_laws.specs.State.{State, book, stream, with_book}
 use Rattle.strm_laws.proofs.Balances.{range-low, still-same}
 use Rattle.strm_laws.proofs.ModulePuts.{ldterm-none}
@@ -38,6 +38,8 @@ use Rattle.strm_types.proofs.PtemPuts.{puts-gone}
 use Rattle.strm_laws.proofs.PutsBook.{SameBooks, head-same}
 use Rattle.strm_laws.proofs.TurnOrder.{made-all}
 use Rattle.strm_types.specs.declared.both.Both.{Both}
+use Rattle.strm_types.specs.Standings.{stood}
+use Rattle.strm_types.specs.LdtermStands.{disciplined}
 
 -- a packet takes one unit at most
 spare-falls : (made more : ℕ) → more ≤ packet_most → spare_behind made ≤ spare_behind (made + more) + 1
@@ -103,7 +105,7 @@ module _ {C : Type 0} where
 
   -- a put at a module
   module _ (cells : Cells C) (made : ℕ) (here : Spot) (m : Message C) (small : length m.plain ≤ 16777216) where
-    units-one : (q : Module C) → module_packs here m q ≤ 1
+    units-one : (q : Standing C) → module_packs here m q ≤ 1
     units-one q = makes-one (module_name q) here.way (shape_of m)
 
     plain-few : length (plain_packed m) ≤ 16777216
@@ -124,17 +126,20 @@ module _ {C : Type 0} where
         at Up = up (is_packed m.kind)
         at Down = omega arith
 
-    module-makes : (q : Module C) → made_of (module_puts cells made here m q).gone ≤ module_packs here m q * packet_most
-    module-makes (OfLdterm l) = omega (arith, made-all (ldterm_puts here m l).gone, ldterm-none (λ direction c. true) here m l)
-    module-makes (OfPtem l) = omega (arith, ap made_of (puts-gone here m l))
-    module-makes (OfPckt l) = subst (λ (n : ℕ). made_of (pckt_puts cells made here m).gone ≤ n * packet_most) (sym (pckt-makes here m)) packs-fit
+    module-makes : (q : Standing C) → made_of (module_puts cells made here m q).gone ≤ module_packs here m q * packet_most
+    module-makes q = by q.part
+      where
+        by : (p : Module C) → made_of (module_puts cells made here m (stood p q.queues)).gone ≤ module_packs here m (stood p q.queues) * packet_most
+        by (OfLdterm l) = let d = disciplined l q.queues in omega (arith, made-all (ldterm_puts here m d).gone, ldterm-none (λ direction c. true) here m d)
+        by (OfPtem l) = omega (arith, ap made_of (puts-gone here m l))
+        by (OfPckt l) = subst (λ (n : ℕ). made_of (pckt_puts cells made here m).gone ≤ n * packet_most) (sym (pckt-makes here m)) packs-fit
 
-    pub among-makes : (i : ℕ) (ps : List (Module C)) → made_of (put_among (module_puts cells made) i here m ps).gone ≤ slice_index_or (map (module_packs here m) ps) i 0 * packet_most
+    pub among-makes : (i : ℕ) (ps : List (Standing C)) → made_of (put_among (module_puts cells made) i here m ps).gone ≤ slice_index_or (map (module_packs here m) ps) i 0 * packet_most
     among-makes i [] = omega arith
     among-makes zero (q ∷ ps) = module-makes q
     among-makes (suc i) (q ∷ ps) = among-makes i ps
 
-    pub among-one : (i : ℕ) (ps : List (Module C)) → slice_index_or (map (module_packs here m) ps) i 0 ≤ 1
+    pub among-one : (i : ℕ) (ps : List (Standing C)) → slice_index_or (map (module_packs here m) ps) i 0 ≤ 1
     among-one i [] = omega arith
     among-one zero (q ∷ ps) = units-one q
     among-one (suc i) (q ∷ ps) = among-one i ps
@@ -144,7 +149,7 @@ module _ {C : Type 0} where
   same-spare s t same = ap (λ (b : Both Book). min (spare_behind b.master.made) (spare_behind b.slave.made)) same
 
   -- a module that acts makes so many at most
-  pub acted-falls : (here : Spot) (t : Acted C (List (Module C))) (s : State C) (units : ℕ) → made_of t.gone ≤ units * packet_most → spare s ≤ spare (module_acted here t s).state + units
+  pub acted-falls : (here : Spot) (t : Acted C (List (Standing C))) (s : State C) (units : ℕ) → made_of t.gone ≤ units * packet_most → spare s ≤ spare (module_acted here t s).state + units
   acted-falls here t s units makes = booked-falls t.gone (module_acted here (record t { gone = [] }) s).state units makes
 
   pub stack-falls : (cells : Cells C) (here : Spot) (m : Message C) (s : State C) → length m.plain ≤ 16777216

@@ -11,62 +11,64 @@ use Rattle.strm_types.specs.Books.{with_made}
 use Rattle.strm_types.specs.Cells.{Cells}
 use Rattle.strm_types.specs.Deliver.{Acted}
 use Rattle.strm_types.specs.Message.{Message}
-use Rattle.strm_types.specs.ModuleQueues.{place_past, queue_changed, waits_at, waits_past, with_waiting}
+use Rattle.strm_types.specs.ModuleQueues.{place_past, waits_at, waits_past, with_waiting}
+use Rattle.strm_types.specs.Standings.{queue_changed, stood}
 use Rattle.strm_types.specs.Modules.{act_among, change_among, put_among}
 use Rattle.strm_types.specs.Names.{is_open}
 use Rattle.strm_laws.specs.Puts.{made_above, put_at_driver, put_at_head, put_at_module, put_in}
 use Rattle.strm_types.specs.Queue.{Queue}
 use Rattle.strm_laws.specs.StackCosts.{Stands, stands_of}
-use Rattle.strm_laws.specs.Stacked.{Module, OfLdterm, OfPtem, OfPckt, module_name, module_puts, module_queue, module_serves, with_module_queue}
+use Rattle.strm_laws.specs.Stacked.{Standing, OfLdterm, OfPtem, OfPckt, module_name, module_puts, module_serves, kind_name, Module}
 use Rattle.strm_laws.specs.State.{State, Stream, book, stream, with_book, with_stream, with_driver_queue}
 use Rattle.strm_types.proofs.DeliveryHolds.{PutHolds}
 use Rattle.strm_laws.proofs.PutParts.{acted-holds, either-holds, parts-hold}
 
 module _ {C : Type 0} where
   -- where one module acts, or changes, and keeps its name, all keep theirs
-  module _ (change : Module C → Module C) (same : (p : Module C) → module_name (change p) ≡ module_name p) where
-    change-names : (i : ℕ) (ps : List (Module C)) → map module_name (change_among change i ps) ≡ map module_name ps
+  module _ (change : Standing C → Standing C) (same : (p : Standing C) → module_name (change p) ≡ module_name p) where
+    change-names : (i : ℕ) (ps : List (Standing C)) → map module_name (change_among change i ps) ≡ map module_name ps
     change-names i [] = refl
     change-names zero (p ∷ ps) = ap (λ n. n ∷ map module_name ps) (same p)
     change-names (suc i) (p ∷ ps) = ap (λ ns. module_name p ∷ ns) (change-names i ps)
 
-  module _ (acts : Module C → Acted C (Module C)) (same : (p : Module C) → module_name (acts p).state ≡ module_name p) where
-    act-names : (i : ℕ) (ps : List (Module C)) → map module_name (act_among acts i ps).state ≡ map module_name ps
+  module _ (acts : Standing C → Acted C (Standing C)) (same : (p : Standing C) → module_name (acts p).state ≡ module_name p) where
+    act-names : (i : ℕ) (ps : List (Standing C)) → map module_name (act_among acts i ps).state ≡ map module_name ps
     act-names i [] = refl
     act-names zero (p ∷ ps) = ap (λ n. n ∷ map module_name ps) (same p)
     act-names (suc i) (p ∷ ps) = ap (λ ns. module_name p ∷ ns) (act-names i ps)
 
   -- a put, and a call of a service procedure
-  keeps-name : (cells : Cells C) (made : ℕ) (here : Spot) (m : Message C) (p : Module C) → module_name (module_puts cells made here m p).state ≡ module_name p
-  keeps-name cells made here m (OfLdterm l) = refl
-  keeps-name cells made here m (OfPtem l) = refl
-  keeps-name cells made here m (OfPckt l) = refl
+  keeps-name : (cells : Cells C) (made : ℕ) (here : Spot) (m : Message C) (p : Standing C) → module_name (module_puts cells made here m p).state ≡ module_name p
+  keeps-name cells made here m p = by p.part
+    where
+      by : (q : Module C) → module_name (module_puts cells made here m (stood q p.queues)).state ≡ kind_name q
+      by (OfLdterm l) = refl
+      by (OfPtem l) = refl
+      by (OfPckt l) = refl
 
-  pub keep-names : (cells : Cells C) (made i : ℕ) (here : Spot) (m : Message C) (ps : List (Module C)) → map module_name (put_among (module_puts cells made) i here m ps).state ≡ map module_name ps
+  pub keep-names : (cells : Cells C) (made i : ℕ) (here : Spot) (m : Message C) (ps : List (Standing C)) → map module_name (put_among (module_puts cells made) i here m ps).state ≡ map module_name ps
   keep-names cells made i here m ps = act-names (module_puts cells made here m) (keeps-name cells made here m) i ps
 
-  serves-name : (cells : Cells C) (here : Spot) (made : ℕ) (again : Bool) (stop : Option ℕ) (p : Module C) → module_name (module_serves cells here made again stop p).acted.state ≡ module_name p
-  serves-name cells here made again stop (OfLdterm l) = refl
-  serves-name cells here made again stop (OfPtem l) = refl
-  serves-name cells here made again stop (OfPckt l) = refl
+  serves-name : (cells : Cells C) (here : Spot) (made : ℕ) (again : Bool) (stop : Option ℕ) (p : Standing C) → module_name (module_serves cells here made again stop p).acted.state ≡ module_name p
+  serves-name cells here made again stop p = by p.part
+    where
+      by : (q : Module C) → module_name (module_serves cells here made again stop (stood q p.queues)).acted.state ≡ kind_name q
+      by (OfLdterm l) = refl
+      by (OfPtem l) = refl
+      by (OfPckt l) = refl
 
-  pub serve-names : (cells : Cells C) (here : Spot) (made : ℕ) (again : Bool) (stop : Option ℕ) (i : ℕ) (ps : List (Module C))
+  pub serve-names : (cells : Cells C) (here : Spot) (made : ℕ) (again : Bool) (stop : Option ℕ) (i : ℕ) (ps : List (Standing C))
       → map module_name (act_among (λ p. (module_serves cells here made again stop p).acted) i ps).state ≡ map module_name ps
   serve-names cells here made again stop i ps = act-names (λ p. (module_serves cells here made again stop p).acted) (serves-name cells here made again stop) i ps
 
   -- a queue of one changes, or a writer waits at one
-  queue-name : (way : Way) (change : Queue C → Queue C) (p : Module C) → module_name (queue_changed module_queue with_module_queue way change p) ≡ module_name p
-  queue-name way change (OfLdterm l) = refl
-  queue-name way change (OfPtem l) = refl
-  queue-name way change (OfPckt l) = refl
+  pub queue-names : (way : Way) (change : Queue C → Queue C) (i : ℕ) (ps : List (Standing C)) → map module_name (change_among (queue_changed way change) i ps) ≡ map module_name ps
+  queue-names way change i ps = change-names (queue_changed way change) (λ p. refl) i ps
 
-  pub queue-names : (way : Way) (change : Queue C → Queue C) (i : ℕ) (ps : List (Module C)) → map module_name (change_among (queue_changed module_queue with_module_queue way change) i ps) ≡ map module_name ps
-  queue-names way change i ps = change-names (queue_changed module_queue with_module_queue way change) (queue-name way change) i ps
-
-  pub waits-names : (way : Way) (band at : ℕ) (ps : List (Module C)) → map module_name (waits_past module_queue with_module_queue way band at ps) ≡ map module_name ps
-  waits-names way band at ps = by (place_past module_queue way at ps)
+  pub waits-names : (way : Way) (band at : ℕ) (ps : List (Standing C)) → map module_name (waits_past way band at ps) ≡ map module_name ps
+  waits-names way band at ps = by (place_past way at ps)
     where
-      by : (place : Option ℕ) → map module_name (waits_at module_queue with_module_queue way band ps place) ≡ map module_name ps
+      by : (place : Option ℕ) → map module_name (waits_at way band ps place) ≡ map module_name ps
       by None = refl
       by (Some place) = queue-names way (with_waiting band) (place - 1) ps
 

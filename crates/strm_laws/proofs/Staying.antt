@@ -12,23 +12,25 @@ use Rattle.strm_types.specs.declared.spots.Across.{Across}
 use Rattle.strm_types.specs.declared.spots.Spot.{Spot}
 use Rattle.strm_types.specs.Cells.{plain}
 use Rattle.strm_types.specs.Commands.{is_ioctl}
-use Rattle.strm_types.specs.Deliver.{Acted, Parcel, Took}
+use Rattle.strm_types.specs.Deliver.{Acted, Parcel, Took, onward}
 use Rattle.strm_types.specs.Drivers.{crosses, driver_put, put_across, put_down, taken_in}
 use Rattle.strm_types.specs.Flushing.{asked_by, is_flush}
 use Rattle.strm_types.specs.Heads.{Head, is_doubled, obeyed, waits_for_readers}
 use Rattle.strm_types.specs.Ioctls.{read_ioc}
 use Rattle.strm_types.specs.LdtermPuts.{goes_behind, ldterm_puts, passes_on_way}
-use Rattle.strm_types.specs.Ldterms.{Ldterm, flush_passes, onward, queued_at, waits_there}
+use Rattle.strm_types.specs.Ldterms.{Discipline, flush_passes, queued_at, waits_there}
 use Rattle.strm_types.specs.Message.{Message, has_parts, is_held}
 use Rattle.strm_types.specs.Modules.{act_among}
 use Rattle.strm_types.specs.Names.{is_closed, is_open}
 use Rattle.strm_types.specs.Pckts.{is_flush_passed, is_packed, packet, pckt_on_way, pckt_packs, pckt_passes, writers_flush}
 use Rattle.strm_types.specs.Ptems.{Ptem, asked_by_header, ptem_passes, ptem_puts}
 use Rattle.strm_types.specs.Queue.{Queue}
+use Rattle.strm_types.specs.Standings.{stood}
+use Rattle.strm_types.specs.LdtermStands.{disciplined}
 use Rattle.strm_laws.specs.Earlier.{driver_place, modules_on}
 use Rattle.strm_laws.specs.Pair.{IsKeptAhead}
 use Rattle.strm_laws.specs.Puts.{SameButMade, across_of, made_above, passed_up, put_at_driver, put_at_head, put_at_module, put_behind, put_below, put_in}
-use Rattle.strm_laws.specs.Stacked.{Module, OfLdterm, OfPtem, OfPckt, module_puts}
+use Rattle.strm_laws.specs.Stacked.{Standing, OfLdterm, OfPtem, OfPckt, module_puts, Module}
 use Rattle.strm_laws.specs.State.{State, stream}
 use Rattle.strm_laws.proofs.PutParts.{puts-hold}
 use Rattle.strm_laws.proofs.PutsKeep.{same-itself, same-stays}
@@ -130,10 +132,10 @@ module _ (to : Spot) (m : Message ℕ) (held : is_held m.kind ≡ true) where
   passes-on Up is n held = (held, refl, sym is, λ down. absurd (cc))
   passes-on Down is n held = (held, refl, sym is, λ down. omega arith)
 
-  at-ldterm : (l : Ldterm ℕ) → SentOn to (ldterm_puts to m l).sent
+  at-ldterm : (l : Discipline ℕ) → SentOn to (ldterm_puts to m l).sent
   at-ldterm l =
       let there = ap (λ b. b || goes_behind to.way m) (waits m.kind held) in
-      subst (λ b. SentOn to (cond {A = Acted ℕ (Ldterm ℕ)} b (queued_at to.way m l) (cond (is_flush m.kind) (flush_passes to m l) (passes_on_way to.way to m l))).sent) (sym there) tt
+      subst (λ b. SentOn to (cond {A = Acted ℕ (Discipline ℕ)} b (queued_at to.way m l) (cond (is_flush m.kind) (flush_passes to m l) (passes_on_way to.way to m l))).sent) (sym there) tt
 
   at-ptem : (p : Ptem) → SentOn to (ptem_puts to m p).sent
   at-ptem p =
@@ -150,12 +152,15 @@ module _ (to : Spot) (m : Message ℕ) (held : is_held m.kind ≡ true) where
       let one = subst (λ b. SentOn to (onward Up to (packet plain made to m) ∷ cond b (writers_flush to (asked_by m.plain) ∷ []) [])) (sym (none-behind m.kind m.plain held)) (passes-on Up is (packet plain made to m) proto-held) in
       subst (λ b. SentOn to (cond b (pckt_packs plain made to m) (pckt_passes to m)).sent) (sym (packed m.kind held)) one
 
-  at-module : (made : ℕ) (p : Module ℕ) → SentOn to (module_puts plain made to m p).sent
-  at-module made (OfLdterm l) = at-ldterm l
-  at-module made (OfPtem p) = at-ptem p
-  at-module made (OfPckt p) = at-pckt made to.way refl
+  at-module : (made : ℕ) (p : Standing ℕ) → SentOn to (module_puts plain made to m p).sent
+  at-module made p = by p.part
+    where
+      by : (q : Module ℕ) → SentOn to (module_puts plain made to m (stood q p.queues)).sent
+      by (OfLdterm l) = at-ldterm (disciplined l p.queues)
+      by (OfPtem q) = at-ptem q
+      by (OfPckt q) = at-pckt made to.way refl
 
-  at-modules : (made i : ℕ) (ps : List (Module ℕ)) → SentOn to (act_among (module_puts plain made to m) i ps).sent
+  at-modules : (made i : ℕ) (ps : List (Standing ℕ)) → SentOn to (act_among (module_puts plain made to m) i ps).sent
   at-modules made i [] = tt
   at-modules made zero (p ∷ ps) = at-module made p
   at-modules made (suc i) (p ∷ ps) = at-modules made i ps

@@ -22,7 +22,7 @@ use Rattle.strm_types.specs.Names.{is_open, other, without}
 use Rattle.strm_laws.specs.Past.{has_room_past, writer_waits}
 use Rattle.strm_laws.specs.Puts.{delivered, put_in}
 use Rattle.strm_types.specs.Queue.{Queue, left_with}
-use Rattle.strm_laws.specs.Stacked.{Module, module_asks, module_rests, module_serves}
+use Rattle.strm_laws.specs.Stacked.{Standing, module_asks, module_rests, module_serves}
 use Rattle.strm_laws.specs.State.{State, stream}
 use Rattle.strm_laws.specs.TurnOutcomes.{TurnOutcome, stayed_put}
 use Rattle.strm_laws.specs.Turns.{blocked_across, driver_serves, held_back, is_stopped_across, moved_across, turn_ended, turned, turned_at, up_across, with_driver}
@@ -40,7 +40,7 @@ module _ {C : Type 0} (cells : Cells C) where
   Books s told t = BooksMade cells s told t
 
   module _ (here : Spot) where
-    acts-order : (made : ℕ) (again : Bool) (left : ℕ) (i : ℕ) (ps : List (Module C)) → TurnOrder cells here.side made (act_among (λ q. (module_serves cells here made again (Some left) q).acted) i ps).gone
+    acts-order : (made : ℕ) (again : Bool) (left : ℕ) (i : ℕ) (ps : List (Standing C)) → TurnOrder cells here.side made (act_among (λ q. (module_serves cells here made again (Some left) q).acted) i ps).gone
     acts-order made again left i [] = order-none cells here.side made [] refl
     acts-order made again left zero (q ∷ ps) = module-order cells here again made (Some left) q
     acts-order made again left (suc i) (q ∷ ps) = acts-order made again left i ps

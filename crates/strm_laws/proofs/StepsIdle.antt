@@ -6,7 +6,7 @@ use Rattle.strm_types.specs.declared.names.Side.{Side}
 use Rattle.strm_types.specs.Cells.{Cells}
 use Rattle.strm_types.specs.Journal.{PlainEntry}
 use Rattle.strm_laws.specs.Kept.{AreIdle}
-use Rattle.strm_laws.specs.Stacked.{Module}
+use Rattle.strm_laws.specs.Stacked.{Standing}
 use Rattle.strm_laws.specs.State.{State, Stream, opening}
 use Rattle.strm_laws.specs.Step.{IsLegal, Step, after, replay}
 use Rattle.strm_laws.proofs.TurnHolds.{Turns, turn-holds}
@@ -21,7 +21,7 @@ module _ {C : Type 0} where
   abbrev Idle : Side → Stream C → Type 0
   Idle side t = AllIdle t.modules
 
-  new-idle : (name : ModuleName) (ps : List (Module C)) → AllIdle ps → AllIdle (module_named name ∷ ps)
+  new-idle : (name : ModuleName) (ps : List (Standing C)) → AllIdle ps → AllIdle (module_named name ∷ ps)
   new-idle names.Ldterm ps idle = ((refl, refl, refl, refl), idle)
   new-idle names.Ptem ps idle = (tt, idle)
   new-idle names.Pckt ps idle = (tt, idle)

@@ -19,7 +19,6 @@ use Rattle.strm_types.specs.Names.{is_open, other, without}
 use Rattle.strm_laws.specs.Past.{writer_waits}
 use Rattle.strm_laws.specs.Puts.{delivered}
 use Rattle.strm_types.specs.Queue.{Queue, left_with}
-use Rattle.strm_laws.specs.Stacked.{module_queue}
 use Rattle.strm_laws.specs.State.{State, stream}
 use Rattle.strm_laws.specs.TurnOutcomes.{TurnOutcome}
 use Rattle.strm_laws.specs.Turns.{driver_serves, held_back, is_stopped_across, moved_across, turned, turned_at, up_across, with_driver}
@@ -39,7 +38,7 @@ turns-stay P drivers stays = record {
   drivers = drivers;
   named = stays.names;
   given = delivered-holds P stays;
-  waits = λ side way at band s holds. past-holds P stays side way band (place_past module_queue way at (stream side s).modules) s holds;
+  waits = λ side way at band s holds. past-holds P stays side way band (place_past way at (stream side s).modules) s holds;
   modules = λ cells name turn s holds. module_turned-holds P stays cells name turn s holds;
 }
 

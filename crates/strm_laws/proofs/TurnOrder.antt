@@ -19,7 +19,7 @@ use Rattle.strm_types.specs.Deliver.{Acted, Fate, Goes, Comes}
 use Rattle.strm_types.specs.Input.{begins_next, cells_left, input_begins, is_data, made_of, next_stage, passes, stage_at, stages, stages_done, then_on, to_treat, treats, with_left}
 use Rattle.strm_types.specs.Keys.{carriage_return, restarts}
 use Rattle.strm_types.specs.LdtermServes.{ldterm_serves}
-use Rattle.strm_types.specs.Ldterms.{Ldterm, Stage, Between, Begun, Answered}
+use Rattle.strm_types.specs.Ldterms.{Discipline, Stage, Between, Begun, Answered}
 use Rattle.strm_types.specs.Lines.{ErasesByte, ErasesWord, edited, has_room}
 use Rattle.strm_types.specs.Message.{Message, cells_of}
 use Rattle.strm_types.specs.Names.{direction_at}
@@ -27,9 +27,11 @@ use Rattle.strm_types.specs.Output.{made_for, post, posts, space, told_for}
 use Rattle.strm_types.specs.OutputTurns.{output_dir, output_serves, posted, unchanged}
 use Rattle.strm_laws.specs.Places.{weight_made}
 use Rattle.strm_types.specs.Queue.{is_full, is_none_left, left_with}
-use Rattle.strm_laws.specs.Stacked.{Module, OfLdterm, OfPtem, OfPckt, module_serves}
+use Rattle.strm_laws.specs.Stacked.{Standing, OfLdterm, OfPtem, OfPckt, module_serves, Module}
 use Rattle.strm_types.specs.Termios.{icanon, imaxbel, noflsh, opost}
 use Rattle.strm_types.specs.Typing.{added, both_ways, begins, echo_dir, echo_grows, echo_lost, echo_stands, echoed, is_blank_cell, lost, sigint, signals, sigquit, sigtstp, is_lnext, strikes, stroke_at, struck, up_alone}
+use Rattle.strm_types.specs.Standings.{stood}
+use Rattle.strm_types.specs.LdtermStands.{disciplined}
 use Rattle.strm_laws.proofs.DeliveryKeeps.{made-append}
 use Rattle.strm_laws.proofs.InOrder.{InOrder, none-ordered, order-append}
 use Rattle.strm_laws.proofs.LdtermKeeps.{lost-made}
@@ -97,10 +99,10 @@ module _ {C : Type 0} (cells : Cells C) (here : Spot) where
   abbrev Ordered : ℕ → List (Fate C) → Type 0
   Ordered made told = TurnOrder cells here.side made told
 
-  abbrev none_by : (Acted C (Ldterm C)) → Type 0
+  abbrev none_by : (Acted C (Discipline C)) → Type 0
   none_by t = all_made t.gone ≡ 0
 
-  either : (b : Bool) (one another : Acted C (Ldterm C)) → none_by one → none_by another → none_by (cond b one another)
+  either : (b : Bool) (one another : Acted C (Discipline C)) → none_by one → none_by another → none_by (cond b one another)
   either true one another first second = first
   either false one another first second = second
 
@@ -110,16 +112,16 @@ module _ {C : Type 0} (cells : Cells C) (here : Spot) where
   two-none : (one two : List (Fate C)) → all_made one ≡ 0 → all_made two ≡ 0 → all_made (one ++ two) ≡ 0
   two-none one two first second = omega (arith, made-append (λ direction c. true) one two, first, second)
 
-  edits-none : (left : List C) (rule : Rule) (c : C) (l : Ldterm C) → all_made (lost cells here rule (drop (length left) l.line) ++ lost cells here EraseKey (c ∷ [])) ≡ 0
+  edits-none : (left : List C) (rule : Rule) (c : C) (l : Discipline C) → all_made (lost cells here rule (drop (length left) l.line) ++ lost cells here EraseKey (c ∷ [])) ≡ 0
   edits-none left rule c l = two-none (lost cells here rule (drop (length left) l.line)) (lost cells here EraseKey (c ∷ [])) (lost-none rule (drop (length left) l.line)) (lost-none EraseKey (c ∷ []))
 
-  signals-none : (asked : FlushAsked) (signal : ℕ) (c : C) (l : Ldterm C) → none_by (signals cells here asked signal c l)
+  signals-none : (asked : FlushAsked) (signal : ℕ) (c : C) (l : Discipline C) → none_by (signals cells here asked signal c l)
   signals-none asked signal c l = either (noflsh l.termios) _ _ refl (two-none (lost cells here Flushed l.line) (lost cells here SignalKey (c ∷ [])) (lost-none Flushed l.line) refl)
 
-  added-none : (c : C) (l : Ldterm C) → none_by (added cells here c l)
+  added-none : (c : C) (l : Discipline C) → none_by (added cells here c l)
   added-none c l = either (not (icanon l.termios)) _ _ refl (either (has_room l.line) _ _ refl (either (imaxbel l.termios) _ _ refl (lost-none LineOver (l.line ++ c ∷ []))))
 
-  strikes-none : (key : Key) (c : C) (l : Ldterm C) → none_by (strikes cells here key c l)
+  strikes-none : (key : Key) (c : C) (l : Discipline C) → none_by (strikes cells here key c l)
   strikes-none Stop c l = refl
   strikes-none Start c l = refl
   strikes-none Intr c l = signals-none both_ways sigint c l
@@ -135,14 +137,14 @@ module _ {C : Type 0} (cells : Cells C) (here : Spot) where
   strikes-none Delimiter c l = refl
   strikes-none Ordinary c l = added-none c l
 
-  begins-none : (c : C) (l : Ldterm C) → none_by (begins cells here c l)
+  begins-none : (c : C) (l : Discipline C) → none_by (begins cells here c l)
   begins-none c l = either (l.stopped && restarts l.termios (stroke_at cells here c l)) _ _ refl refl
 
-  next-none : (xs : List C) (l : Ldterm C) → none_by (begins_next cells here xs l)
+  next-none : (xs : List C) (l : Discipline C) → none_by (begins_next cells here xs l)
   next-none [] l = refl
   next-none (c ∷ rest) l = begins-none c (with_left rest l)
 
-  echoed-order : (made : ℕ) (echo : List ℕ) (l : Ldterm C) → Ordered made (echoed cells here made echo l).gone
+  echoed-order : (made : ℕ) (echo : List ℕ) (l : Discipline C) → Ordered made (echoed cells here made echo l).gone
   echoed-order made [] l = order-none cells here.side made [] refl
   echoed-order made (b ∷ bytes) l = at (is_full 0 l.write_queue) l.echoing
     where
@@ -154,7 +156,7 @@ module _ {C : Type 0} (cells : Cells C) (here : Spot) where
       at false true = order-next cells here.side made (b ∷ bytes) [] refl
       at false false = order-next cells here.side made (b ∷ bytes) [] refl
 
-  next-order : (made : ℕ) (l : Ldterm C) → Ordered made (next_stage cells here made l).gone
+  next-order : (made : ℕ) (l : Discipline C) → Ordered made (next_stage cells here made l).gone
   next-order made l = at l.stage
     where
       at : (stage : Stage C) → Ordered made (stage_at cells here stage made l).gone
@@ -162,26 +164,26 @@ module _ {C : Type 0} (cells : Cells C) (here : Spot) where
       at (Begun started c) = order-none cells here.side made (struck cells here started c l).gone (strikes-none (stroke_at cells here c l).key (cells.mapped (stroke_at cells here c l).byte c) (record l { after_lnext = is_lnext (stroke_at cells here c l).key }))
       at (Answered echo) = echoed-order made echo _
 
-  then-order : (made : ℕ) (t : Acted C (Ldterm C)) (next : ℕ → Ldterm C → Acted C (Ldterm C)) → Ordered made t.gone → Ordered (made + made_of t.gone) (next (made + made_of t.gone) t.state).gone → Ordered made (then_on made t next).gone
+  then-order : (made : ℕ) (t : Acted C (Discipline C)) (next : ℕ → Discipline C → Acted C (Discipline C)) → Ordered made t.gone → Ordered (made + made_of t.gone) (next (made + made_of t.gone) t.state).gone → Ordered made (then_on made t next).gone
   then-order made t next first second = at (is_none_left t.sent)
     where
       at : (none : Bool) → (let u = next (made + made_of t.gone) t.state in Ordered made (cond none (record { state = u.state; notes = t.notes ++ u.notes; sent = u.sent; gone = t.gone ++ u.gone }) t).gone)
       at true = order-both cells here.side made t.gone (next (made + made_of t.gone) t.state).gone first second
       at false = first
 
-  stages-order : (n made : ℕ) (l : Ldterm C) → Ordered made (stages cells here n made l).gone
+  stages-order : (n made : ℕ) (l : Discipline C) → Ordered made (stages cells here n made l).gone
   stages-order zero made l = order-none cells here.side made _ refl
   stages-order (suc more) made l =
       let t = next_stage cells here made l in
       then-order made t (stages cells here more) (next-order made l) (stages-order more (made + made_of t.gone) t.state)
 
-  input-order : (stop : Option ℕ) (made : ℕ) (ms : List (Message C)) (l : Ldterm C) → Ordered made (input_begins cells here stop made ms l).acted.gone
+  input-order : (stop : Option ℕ) (made : ℕ) (ms : List (Message C)) (l : Discipline C) → Ordered made (input_begins cells here stop made ms l).acted.gone
   input-order stop made [] l = order-none cells here.side made [] refl
   input-order stop made (m ∷ rest) l = at (is_data m.kind)
     where
       at : (treated : Bool) → Ordered made (cond treated (treats cells here (unwrap_or stop (length (cells_of m))) made (record l { read_queue = left_with rest l.read_queue; in_work = Some m })) (passes cells here Up m rest l)).acted.gone
       at true =
-          let begun : Ldterm C = record l { read_queue = left_with rest l.read_queue; in_work = Some m } in
+          let begun : Discipline C = record l { read_queue = left_with rest l.read_queue; in_work = Some m } in
           stages-order (3 * unwrap_or stop (length (cells_of m)) - stages_done begun.stage) made begun
       at false = order-none cells here.side made [] refl
 
@@ -211,11 +213,11 @@ module _ {C : Type 0} (cells : Cells C) (here : Spot) where
       order-both cells here.side made told _ (told-order first.given made c)
       (subst (λ n. Ordered (made + n) (posts cells (output_dir cells here) (made + made_for first.given) t first.column rest).told) (sym (told-long first.given made c)) more)
 
-  posted-order : (stop : Option ℕ) (made : ℕ) (xs : List C) (m : Message C) (l : Ldterm C) → Ordered made (posted cells here stop made xs m l).told
+  posted-order : (stop : Option ℕ) (made : ℕ) (xs : List C) (m : Message C) (l : Discipline C) → Ordered made (posted cells here stop made xs m l).told
   posted-order stop made [] m l = order-none cells here.side made [] refl
   posted-order stop made (c ∷ rest) m l = posts-order made l.termios l.column (take (unwrap_or stop (length (c ∷ rest))) (c ∷ rest))
 
-  output-order : (stop : Option ℕ) (made : ℕ) (ms : List (Message C)) (l : Ldterm C) → Ordered made (output_serves cells here stop made ms l).acted.gone
+  output-order : (stop : Option ℕ) (made : ℕ) (ms : List (Message C)) (l : Discipline C) → Ordered made (output_serves cells here stop made ms l).acted.gone
   output-order stop made [] l = order-none cells here.side made [] refl
   output-order stop made (m ∷ rest) l = at (is_data m.kind && opost l.termios)
     where
@@ -224,13 +226,16 @@ module _ {C : Type 0} (cells : Cells C) (here : Spot) where
       at false = order-none cells here.side made [] refl
 
 module _ {C : Type 0} (cells : Cells C) where
-  serves-at : (way : Way) (here : Spot) (again : Bool) (made : ℕ) (stop : Option ℕ) (l : Ldterm C) → TurnOrder cells here.side made (ldterm_serves cells (record here { way = way }) made again stop l).acted.gone
+  serves-at : (way : Way) (here : Spot) (again : Bool) (made : ℕ) (stop : Option ℕ) (l : Discipline C) → TurnOrder cells here.side made (ldterm_serves cells (record here { way = way }) made again stop l).acted.gone
   serves-at Down here again made stop l = output-order cells (record here { way = Down }) stop made l.write_queue.messages l
   serves-at Up here false made stop l = input-order cells (record here { way = Up }) stop made l.read_queue.messages l
   serves-at Up here true made stop l = stages-order cells (record here { way = Up }) (3 * unwrap_or stop (to_treat l) - stages_done l.stage) made l
 
   -- a call of any module's
-  pub module-order : (here : Spot) (again : Bool) (made : ℕ) (stop : Option ℕ) (q : Module C) → TurnOrder cells here.side made (module_serves cells here made again stop q).acted.gone
-  module-order here again made stop (OfLdterm l) = serves-at here.way here again made stop l
-  module-order here again made stop (OfPtem q) = order-none cells here.side made [] refl
-  module-order here again made stop (OfPckt q) = order-none cells here.side made [] refl
+  pub module-order : (here : Spot) (again : Bool) (made : ℕ) (stop : Option ℕ) (q : Standing C) → TurnOrder cells here.side made (module_serves cells here made again stop q).acted.gone
+  module-order here again made stop q = by q.part
+    where
+      by : (p : Module C) → TurnOrder cells here.side made (module_serves cells here made again stop (stood p q.queues)).acted.gone
+      by (OfLdterm l) = serves-at here.way here again made stop (disciplined l q.queues)
+      by (OfPtem p) = order-none cells here.side made [] refl
+      by (OfPckt p) = order-none cells here.side made [] refl

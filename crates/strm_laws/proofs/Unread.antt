@@ -10,7 +10,7 @@ use Rattle.strm_types.specs.Message.{Message}
 use Rattle.strm_types.specs.Names.{is_open}
 use Rattle.strm_laws.specs.Kept.{NothingUnread}
 use Rattle.strm_laws.specs.Puts.{delivered}
-use Rattle.strm_laws.specs.Stacked.{Module}
+use Rattle.strm_laws.specs.Stacked.{Standing}
 use Rattle.strm_laws.specs.State.{State, Stream, opening}
 use Rattle.strm_laws.specs.Step.{IsLegal, Step, after, replay}
 use Rattle.strm_laws.specs.Turns.{turned}
@@ -23,7 +23,7 @@ module _ {C : Type 0} where
   abbrev Unread : Side → Stream C → Type 0
   Unread side t = is_open t.opened ≡ false → t.head.queue.messages ≡ []
 
-  abbrev Any : List (Module C) → Type 0
+  abbrev Any : List (Standing C) → Type 0
   Any ps = Unit {0}
 
   changes : Changes Unread Any

@@ -7,7 +7,7 @@ use Rattle.strm_types.specs.Cells.{Cells}
 use Rattle.strm_types.specs.Journal.{PlainEntry}
 use Rattle.strm_types.specs.Message.{Message}
 use Rattle.strm_laws.specs.Puts.{delivered}
-use Rattle.strm_laws.specs.Stacked.{Module}
+use Rattle.strm_laws.specs.Stacked.{Standing}
 use Rattle.strm_laws.specs.State.{State, Stream, opening}
 use Rattle.strm_types.specs.Heads.{new_head}
 use Rattle.strm_laws.specs.Step.{Step}
@@ -22,7 +22,7 @@ module _ {C : Type 0} where
   abbrev Within : Side → Stream C → Type 0
   Within side t = IsWithin t.head
 
-  abbrev Any : List (Module C) → Type 0
+  abbrev Any : List (Standing C) → Type 0
   Any ps = Unit {0}
 
   -- a new head keeps nothing

@@ -12,7 +12,8 @@ use Rattle.strm_types.specs.Ldterms.{Ldterm, Between}
 use Rattle.strm_types.specs.Message.{Message, part, weight_of}
 use Rattle.strm_types.specs.Names.{direction_at}
 use Rattle.strm_types.specs.Queue.{Queue, weight}
-use Rattle.strm_laws.specs.Stacked.{Module, OfLdterm, OfPtem, OfPckt}
+use Rattle.strm_types.specs.Standings.{QueuePair, messages_at}
+use Rattle.strm_laws.specs.Stacked.{Module, OfLdterm, OfPtem, OfPckt, Standing, module_line}
 use Rattle.strm_laws.specs.State.{State, Stream}
 
 module _ {C : Type 0} where
@@ -21,11 +22,9 @@ module _ {C : Type 0} where
   cells_in ms = weight (λ c. true) ms
 
   -- how many a module has that go a way: those of an unfinished line go up
-  abbrev pub held_by : Way → Module C → ℕ
-  held_by Up (OfLdterm l) = length l.line + cells_in l.read_queue.messages
-  held_by Down (OfLdterm l) = cells_in l.write_queue.messages
-  held_by way (OfPtem p) = 0
-  held_by way (OfPckt p) = 0
+  abbrev pub held_by : Way → Standing C → ℕ
+  held_by Up x = length (module_line x) + cells_in (messages_at Up x)
+  held_by Down x = cells_in (messages_at Down x)
 
   -- and how many a stream has
   abbrev pub held_in : Way → Stream C → ℕ
@@ -57,28 +56,38 @@ module _ (dir : Dir) where
 
 -- What a side's stream has is numbered from one number on for what goes up, and from another one on for what goes down.
 module _ (side : Side) where
-  -- Of an ldterm first the line, then the read queue and the write queue. Between turns it has nothing else.
-  abbrev pub number_ldterm : ℕ → ℕ → Ldterm ℕ → Ldterm Tagged
-  number_ldterm up down l = record {
+  -- Of a module first the line, then the read queue and the write queue. Between turns it has nothing else.
+  abbrev pub number_ldterm : ℕ → Ldterm ℕ → Ldterm Tagged
+  number_ldterm up l = record {
     termios = l.termios;
     stopped = l.stopped;
     after_lnext = l.after_lnext;
     column = l.column;
     line = number (direction_at Up side) up l.line;
-    read_queue = number_queue (direction_at Up side) (up + length l.line) l.read_queue;
-    write_queue = number_queue (direction_at Down side) down l.write_queue;
     in_work = None;
     gathered = [];
     echoing = l.echoing;
     stage = Between;
   }
 
-  abbrev pub number_module : ℕ → ℕ → Module ℕ → Module Tagged
-  number_module up down (OfLdterm l) = OfLdterm (number_ldterm up down l)
-  number_module up down (OfPtem p) = OfPtem p
-  number_module up down (OfPckt p) = OfPckt p
+  abbrev pub number_kind : ℕ → Module ℕ → Module Tagged
+  number_kind up (OfLdterm l) = OfLdterm (number_ldterm up l)
+  number_kind up (OfPtem p) = OfPtem p
+  number_kind up (OfPckt p) = OfPckt p
 
-  abbrev pub number_modules : ℕ → ℕ → List (Module ℕ) → List (Module Tagged)
+  abbrev pub number_pair : ℕ → ℕ → QueuePair ℕ → QueuePair Tagged
+  number_pair up down pair = record {
+    read = number_queue (direction_at Up side) up pair.read;
+    write = number_queue (direction_at Down side) down pair.write;
+  }
+
+  abbrev pub number_module : ℕ → ℕ → Standing ℕ → Standing Tagged
+  number_module up down x = record {
+    part = number_kind up x.part;
+    queues = option_map (number_pair (up + length (module_line x)) down) x.queues;
+  }
+
+  abbrev pub number_modules : ℕ → ℕ → List (Standing ℕ) → List (Standing Tagged)
   number_modules up down [] = []
   number_modules up down (p ∷ ps) = number_module up down p ∷ number_modules (up + held_by Up p) (down + held_by Down p) ps
 

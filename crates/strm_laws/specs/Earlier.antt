@@ -10,7 +10,7 @@ use Rattle.strm_types.specs.declared.names.Way.TheVariants.{Up, Down}
 use Rattle.strm_types.specs.Both.{AllSides}
 use Rattle.strm_types.specs.ModuleQueues.{place_before}
 use Rattle.strm_types.specs.Names.{driver_of, other, place_of}
-use Rattle.strm_laws.specs.Stacked.{Module, module_name, module_queue}
+use Rattle.strm_laws.specs.Stacked.{Standing, module_name}
 use Rattle.strm_laws.specs.State.{State, stream}
 
 -- the queue of a way at a place of a side's stream, where it has queues
@@ -31,12 +31,12 @@ before_by side way at places (Some place) = queue_named side way (slice_index_or
 
 module _ {C : Type 0} where
   -- the queues' places of modules, from the top
-  abbrev pub places_of : List (Module C) → List (Option Place)
+  abbrev pub places_of : List (Standing C) → List (Option Place)
   places_of ps = map (λ p. place_of (module_name p)) ps
 
   -- the nearest earlier queue with service, before a place as messages of a way go, on a stream with these modules
-  abbrev pub before_among : Side → Way → ℕ → List (Module C) → Option QueueName
-  before_among side way at ps = before_by side way at (places_of ps) (place_before module_queue way at ps)
+  abbrev pub before_among : Side → Way → ℕ → List (Standing C) → Option QueueName
+  before_among side way at ps = before_by side way at (places_of ps) (place_before way at ps)
 
   -- on a side's stream
   abbrev pub before_at : Side → Way → ℕ → State C → Option QueueName

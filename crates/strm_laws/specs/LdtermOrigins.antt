@@ -1,10 +1,10 @@
 -- ldterm over other cells, as where the origins of cells are forgotten.
 use Rattle.std.specs.Prelude.{map, option_map}
-use Rattle.strm_types.specs.Ldterms.{Ldterm, Stage, Between, Begun, Answered}
+use Rattle.strm_types.specs.Ldterms.{Discipline, Ldterm, Stage, Between, Begun, Answered, by_itself, discipline, pair_of}
 use Rattle.strm_types.specs.Message.{map_message}
 use Rattle.strm_types.specs.Origins.{map_acted}
-use Rattle.strm_types.specs.Queue.{map_queue}
 use Rattle.strm_types.specs.Service.{Serving}
+use Rattle.strm_types.specs.Standings.{map_pair}
 
 module _ {C D : Type 0} (f : C → D) where
   abbrev pub map_stage : Stage C → Stage D
@@ -12,20 +12,22 @@ module _ {C D : Type 0} (f : C → D) where
   map_stage (Begun started c) = Begun started (f c)
   map_stage (Answered echo) = Answered echo
 
-  abbrev pub map_ldterm : Ldterm C → Ldterm D
-  map_ldterm l = record {
+  -- what is its own, and the module with its queues
+  abbrev pub map_own : Ldterm C → Ldterm D
+  map_own l = record {
     termios = l.termios;
     stopped = l.stopped;
     after_lnext = l.after_lnext;
     column = l.column;
     line = map f l.line;
-    read_queue = map_queue f l.read_queue;
-    write_queue = map_queue f l.write_queue;
     in_work = option_map (map_message f) l.in_work;
     gathered = map f l.gathered;
     echoing = l.echoing;
     stage = map_stage l.stage;
   }
+
+  abbrev pub map_ldterm : Discipline C → Discipline D
+  map_ldterm p = discipline (map_own (by_itself p)) (map_pair f (pair_of p))
 
   -- what a call of a service procedure does
   abbrev pub map_serving : {S T : Type 0} → (S → T) → Serving C S → Serving D T

@@ -4,7 +4,7 @@ use Rattle.std.specs.List.{list_any}
 use Rattle.strm_types.specs.declared.names.Way.{Way}
 use Rattle.strm_types.specs.declared.names.Way.TheVariants.{Up}
 use Rattle.strm_types.specs.Input.{is_data}
-use Rattle.strm_types.specs.Ldterms.{Ldterm, Between, is_between}
+use Rattle.strm_types.specs.Ldterms.{Discipline, Ldterm, Between, is_between}
 use Rattle.strm_types.specs.Message.{Message}
 use Rattle.strm_types.specs.Queue.{is_none_left}
 
@@ -14,12 +14,12 @@ is_echo m = is_data m.kind && (m.band == 0)
 
 -- While a turn's echo grows, such a message stands on the write queue. Where no message is in work, no byte is under way, nothing
 -- waits to go up, and no echo grows.
-pub record IsOrderly {C : Type 0} (l : Ldterm C) : Type 0 where
+pub record IsOrderly {C : Type 0} (l : Discipline C) : Type 0 where
   pub echo : l.echoing ≡ true → list_any is_echo l.write_queue.messages ≡ true
   pub idle : l.in_work ≡ None → (l.stage ≡ Between) × (l.gathered ≡ []) × (l.echoing ≡ false)
 
 -- A turn of the read queue goes on alone: no other one begins while a message is in work.
-abbrev pub IsItsTurn : {C : Type 0} → Way → Bool → Ldterm C → Type 0
+abbrev pub IsItsTurn : {C : Type 0} → Way → Bool → Discipline C → Type 0
 IsItsTurn Up true l = Unit {0}
 IsItsTurn way again l = l.in_work ≡ None
 

@@ -1,5 +1,5 @@
 -- Where the cells are that ldterm holds: on its queues and in its unfinished line, and in a turn of its read queue also in the
--- message in work, as the byte that has begun, and among those that wait to go up together.
+-- message in work, as the byte that has begun, and among those that wait to go up together. Those on its queues are its stream's.
 use Rattle.std.specs.Prelude.{ℕ, ◌≡◌, ◌+◌, ◌*◌, ◌≤◌, Bool, true, false, [], ◌∷◌, count_by, Option, None, Some, unwrap_or}
 use Rattle.strm_types.specs.declared.names.Dir.{Dir}
 use Rattle.strm_types.specs.declared.names.Side.{Side}
@@ -8,7 +8,7 @@ use Rattle.strm_types.specs.declared.names.Way.TheVariants.{Up, Down}
 use Rattle.strm_types.specs.Cells.{Cells}
 use Rattle.strm_types.specs.Deliver.{Acted}
 use Rattle.strm_types.specs.Input.{stages_done, to_treat}
-use Rattle.strm_types.specs.Ldterms.{Ldterm, Stage, Between, Begun, Answered}
+use Rattle.strm_types.specs.Ldterms.{Discipline, Ldterm, Stage, Between, Begun, Answered}
 use Rattle.strm_types.specs.Message.{Message, weight_of}
 use Rattle.strm_types.specs.Names.{direction_at}
 use Rattle.strm_laws.specs.Places.{weight_sent, weight_gone, weight_made}
@@ -30,17 +30,21 @@ module _ {C : Type 0} (p : Dir → C → Bool) (side : Side) where
   weight_begun (Begun started c) = count_by up_test (c ∷ [])
   weight_begun (Answered echo) = 0
 
-  -- of all others
-  abbrev pub weight_beside : Ldterm C → ℕ
+  -- how many of those that are its own
+  abbrev pub own_weight : Ldterm C → ℕ
+  own_weight l = weight_begun l.stage + (count_by up_test l.line + (count_by up_test l.gathered + weight_in_work up_test l.in_work))
+
+  -- of all but the byte that has begun
+  abbrev pub weight_beside : Discipline C → ℕ
   weight_beside l =
       weight up_test l.read_queue.messages
       + (count_by up_test l.line + (count_by up_test l.gathered + (weight_in_work up_test l.in_work + weight (p (direction_at Down side)) l.write_queue.messages)))
 
-  abbrev pub ldterm_weight : Ldterm C → ℕ
+  abbrev pub ldterm_weight : Discipline C → ℕ
   ldterm_weight l = weight_begun l.stage + weight_beside l
 
   -- What ldterm does where it holds so many cells, with those that come to it, loses none, and makes none but those that it tells.
-  abbrev pub ActedKeeps : Acted C (Ldterm C) → ℕ → Type 0
+  abbrev pub ActedKeeps : Acted C (Discipline C) → ℕ → Type 0
   ActedKeeps t n = ldterm_weight t.state + (weight_sent p t.sent + weight_gone p t.gone) ≡ n + weight_made p t.gone
 
 -- tests that say the same of a cell with another byte
@@ -49,12 +53,12 @@ IgnoresMapping {C} cells p = (direction : Dir) (b : ℕ) (c : C) → p direction
 
 module _ {C : Type 0} where
   -- the turn's echo is a message of the write queue
-  abbrev pub EchoStands : Ldterm C → Type 0
+  abbrev pub EchoStands : Discipline C → Type 0
   EchoStands l = l.echoing ≡ true → is_none_left l.write_queue.messages ≡ false
 
   -- A call of the service procedure of a queue: where a turn of the read queue begins, no message is in work and no byte has begun.
   -- Where it goes on, the byte that has begun is among those that it may treat.
-  abbrev pub MayServe : Way → Bool → Option ℕ → Ldterm C → Type 0
+  abbrev pub MayServe : Way → Bool → Option ℕ → Discipline C → Type 0
   MayServe Down again stop l = Unit {0}
   MayServe Up false stop l = (l.in_work ≡ None) × (l.stage ≡ Between)
   MayServe Up true stop l = stages_done l.stage ≤ 3 * unwrap_or stop (to_treat l)

@@ -15,12 +15,13 @@ use Rattle.strm_types.specs.declared.spots.Spot.{Spot}
 use Rattle.strm_types.specs.Cells.{Cells}
 use Rattle.strm_types.specs.Deliver.{Acted, Fate, Took, carried, in_turn}
 use Rattle.strm_laws.specs.Earlier.{places_of}
-use Rattle.strm_types.specs.ModuleQueues.{at_place, messages_at, queue_changed}
+use Rattle.strm_types.specs.ModuleQueues.{at_place}
+use Rattle.strm_types.specs.Standings.{messages_at, queue_changed}
 use Rattle.strm_types.specs.Modules.{act_among, change_among}
 use Rattle.strm_types.specs.Names.{direction_at, enable_if, enable_some, same_place}
 use Rattle.strm_laws.specs.Puts.{earlier_at, module_acted, put_in}
 use Rattle.strm_types.specs.Service.{end_relieves, has_more, turn_ended}
-use Rattle.strm_laws.specs.Stacked.{Module, module_asks, module_queue, module_rests, module_serves, with_module_queue}
+use Rattle.strm_laws.specs.Stacked.{Standing, module_asks, module_rests, module_serves}
 use Rattle.strm_laws.specs.State.{State, Stream, book, stream, with_stream}
 use Rattle.strm_laws.specs.TurnOutcomes.{TurnOutcome, stayed_put}
 use Rattle.strm_types.specs.Queue.{first_size}
@@ -48,13 +49,13 @@ named_from place at (Some other ∷ places) = if same_place other place then Som
 
 module _ {C : Type 0} where
   -- the place of the module whose queues have a name, among those of a stream that have places
-  abbrev pub place_named : Place → List (Module C) → Option ℕ
+  abbrev pub place_named : Place → List (Standing C) → Option ℕ
   place_named place ps = named_from place 1 (places_of (take MODULES ps))
 
   -- the queue of the module at a place once a turn of it ends, of which bytes were taken or not
   abbrev pub queue_ended : Spot → Bool → Stream C → Stream C
   queue_ended here took on =
-      record on { modules = change_among (queue_changed module_queue with_module_queue here.way (turn_ended took)) (here.at - 1) on.modules }
+      record on { modules = change_among (queue_changed here.way (turn_ended took)) (here.at - 1) on.modules }
 
   -- a turn that treated nothing: the queue wants to be read where it is empty, and else it doesn't
   abbrev pub stayed_at : Turn → Spot → State C → TurnOutcome C
@@ -70,8 +71,8 @@ module _ {C : Type 0} where
   module_turn_ended name here took s =
       let on = stream here.side s in
       record (with_stream here.side (queue_ended here took on) s) {
-        enabled = enable_if (at_place (has_more module_queue here.way) false here.at on.modules) name
-            (enable_some (at_place (end_relieves module_queue took here.way) false here.at on.modules) (earlier_at here.side here.at s here.way) s.enabled);
+        enabled = enable_if (at_place (has_more here.way) false here.at on.modules) name
+            (enable_some (at_place (end_relieves took here.way) false here.at on.modules) (earlier_at here.side here.at s here.way) s.enabled);
       }
 
   -- how many cells were made so far in the direction of what a side's stream carries down
@@ -81,13 +82,13 @@ module _ {C : Type 0} where
   module _ (cells : Cells C) (here : Spot) where
     -- One call of the service procedure of the module at a place, which goes as far as so many bytes: what it does, how many bytes
     -- it treated, and whether it is to be called again.
-    abbrev pub call_at : ℕ → Bool → ℕ → List (Module C) → Acted C (List (Module C))
+    abbrev pub call_at : ℕ → Bool → ℕ → List (Standing C) → Acted C (List (Standing C))
     call_at made again left ps = act_among (λ p. (module_serves cells here made again (Some left) p).acted) (here.at - 1) ps
 
-    abbrev pub bytes_at : ℕ → Bool → ℕ → List (Module C) → ℕ
+    abbrev pub bytes_at : ℕ → Bool → ℕ → List (Standing C) → ℕ
     bytes_at made again left ps = at_place (λ p. (module_serves cells here made again (Some left) p).bytes) 0 here.at ps
 
-    abbrev pub again_at : ℕ → Bool → ℕ → List (Module C) → Bool
+    abbrev pub again_at : ℕ → Bool → ℕ → List (Standing C) → Bool
     again_at made again left ps = at_place (λ p. (module_serves cells here made again (Some left) p).again) false here.at ps
 
     abbrev pub module_called : Bool → ℕ → State C → Took C (State C)
@@ -121,7 +122,7 @@ module _ {C : Type 0} where
     -- something and leaves all as it was.
     abbrev pub moved_within : QueueName → Turn → State C → TurnOutcome C
     moved_within name turn s =
-        moved_on name (min (moved_by turn) (at_place (λ p. first_size (messages_at module_queue here.way p)) 0 here.at (stream here.side s).modules)) s
+        moved_on name (min (moved_by turn) (at_place (λ p. first_size (messages_at here.way p)) 0 here.at (stream here.side s).modules)) s
 
     -- By what the first message asks. No turn begins while another one is under way in the module.
     abbrev pub asked_turn : Asks → QueueName → Turn → State C → TurnOutcome C
@@ -152,4 +153,4 @@ module _ {C : Type 0} where
     where
       by : Option ℕ → Turn
       by None = Idle
-      by (Some at) = Moved (at_place (λ p. first_size (messages_at module_queue way p)) 0 at on.modules)
+      by (Some at) = Moved (at_place (λ p. first_size (messages_at way p)) 0 at on.modules)

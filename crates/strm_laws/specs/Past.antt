@@ -6,7 +6,6 @@ use Rattle.strm_types.specs.declared.names.Way.{Way}
 use Rattle.strm_types.specs.declared.names.Way.TheVariants.{Up, Down}
 use Rattle.strm_types.specs.ModuleQueues.{can_pass, place_past, waits_at, with_waiting}
 use Rattle.strm_types.specs.Queue.{Queue, is_full}
-use Rattle.strm_laws.specs.Stacked.{module_queue, with_module_queue}
 use Rattle.strm_laws.specs.State.{State, Stream, stream, with_stream, with_head_queue, with_driver_queue}
 
 module _ {C : Type 0} where
@@ -21,7 +20,7 @@ module _ {C : Type 0} where
 
   -- whether a message of a band may go on past a place of a stream
   abbrev pub may_pass : Way → ℕ → ℕ → Stream C → Bool
-  may_pass way at band t = unwrap_or (can_pass module_queue way band at t.modules) (not (is_full band (end_queue way t)))
+  may_pass way at band t = unwrap_or (can_pass way band at t.modules) (not (is_full band (end_queue way t)))
 
   abbrev pub has_room_past : Side → Way → ℕ → ℕ → State C → Bool
   has_room_past side way at band s = may_pass way at band (stream side s)
@@ -29,10 +28,10 @@ module _ {C : Type 0} where
   -- a writer of a band waits at a module's place, or at the stream's end
   abbrev pub waits_on : Way → ℕ → Option ℕ → Stream C → Stream C
   waits_on way band None t = with_end_queue way (with_waiting band (end_queue way t)) t
-  waits_on way band (Some place) t = record t { modules = waits_at module_queue with_module_queue way band t.modules (Some place) }
+  waits_on way band (Some place) t = record t { modules = waits_at way band t.modules (Some place) }
 
   -- it waits at the nearest queue past a place
   abbrev pub writer_waits : Side → Way → ℕ → ℕ → State C → State C
   writer_waits side way at band s =
       let t = stream side s in
-      with_stream side (waits_on way band (place_past module_queue way at t.modules) t) s
+      with_stream side (waits_on way band (place_past way at t.modules) t) s

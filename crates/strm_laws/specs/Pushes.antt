@@ -1,6 +1,6 @@
 -- Modules that are pushed on a side's stream and taken off it: what is told the head, which queue is let come, and what goes with a
 -- module (streamio(7I): I_PUSH, I_POP, I_LOOK; STREAMS Programming Guide, "Modules"; ldterm(7M)).
-use Rattle.std.specs.Prelude.{Bool, true, false, not, if◌then◌else◌, List, [], ◌∷◌, ◌++◌, flat_map, Option, None, Some}
+use Rattle.std.specs.Prelude.{Bool, true, false, not, if◌then◌else◌, List, [], ◌∷◌, ◌++◌, flat_map, Option, None, Some, is_some}
 use Rattle.strm_types.specs.declared.modes.ReadMode.{ReadMode}
 use Rattle.strm_types.specs.declared.modes.ReadMode.TheVariants.{ByteStream, MessageKeep}
 use Rattle.strm_types.specs.declared.names.ModuleName.{ModuleName}
@@ -19,16 +19,16 @@ use Rattle.strm_types.specs.Dropped.{slot_dropped}
 use Rattle.strm_laws.specs.Earlier.{before_at}
 use Rattle.strm_types.specs.Ldterms.{new_ldterm}
 use Rattle.strm_types.specs.Message.{Message}
-use Rattle.strm_types.specs.ModuleQueues.{has_queue, messages_at}
 use Rattle.strm_types.specs.Modules.{may_push, top_name, without_module}
-use Rattle.strm_types.specs.Names.{enable_if, place_of, same_place}
+use Rattle.strm_types.specs.Names.{enable_if, place_of}
 use Rattle.strm_types.specs.Options.{mode_message}
 use Rattle.strm_types.specs.Pckts.{new_pckt}
 use Rattle.strm_types.specs.Ptems.{new_ptem}
 use Rattle.strm_laws.specs.Puts.{earlier_at, noted, put_at_head}
 use Rattle.strm_types.specs.Queue.{is_none_left}
 use Rattle.strm_types.specs.Service.{cleared}
-use Rattle.strm_laws.specs.Stacked.{Module, OfLdterm, OfPtem, OfPckt, module_line, module_name, module_queue, with_module_queue, without_module_line}
+use Rattle.strm_types.specs.Standings.{QueuePair, has_queues, messages_at, new_pair}
+use Rattle.strm_laws.specs.Stacked.{Module, Standing, OfLdterm, OfPtem, OfPckt, module_name, without_kind_line, kind_line}
 use Rattle.strm_laws.specs.State.{State, Stream, stream, with_ioctl, with_stream}
 
 -- the read mode that a head is given where a module is pushed below it, and where one is taken off: ldterm makes lines
@@ -51,24 +51,25 @@ mode_behind (Some name) = mode_on_pop name
 abbrev pub head_above : Side → Spot
 head_above side = record { side = side; at = 0; way = Up }
 
--- a place of queues is this one
-abbrev pub is_there : Place → Option Place → Bool
-is_there place None = false
-is_there place (Some there) = same_place there place
-
 module _ {C : Type 0} where
-  -- the module that a name makes, as it is pushed
-  abbrev pub module_named : ModuleName → Module C
-  module_named names.Ldterm = OfLdterm new_ldterm
-  module_named names.Ptem = OfPtem new_ptem
-  module_named names.Pckt = OfPckt new_pckt
+  -- the module that a name makes, as it is pushed, with the queues that it is given then, where modules of its name have any
+  abbrev pub kind_named : ModuleName → Module C
+  kind_named names.Ldterm = OfLdterm new_ldterm
+  kind_named names.Ptem = OfPtem new_ptem
+  kind_named names.Pckt = OfPckt new_pckt
 
-  abbrev pub named_by : Option ModuleName → Option (Module C)
+  abbrev pub queues_named : ModuleName → Option (QueuePair C)
+  queues_named name = if is_some (place_of name) then Some new_pair else None
+
+  abbrev pub module_named : ModuleName → Standing C
+  module_named name = record { part = kind_named name; queues = queues_named name }
+
+  abbrev pub named_by : Option ModuleName → Option (Standing C)
   named_by None = None
   named_by (Some name) = Some (module_named name)
 
   -- a module may be pushed on these: there is room, and none of its name stands there
-  abbrev pub may_stand : Option (Module C) → List (Module C) → Bool
+  abbrev pub may_stand : Option (Standing C) → List (Standing C) → Bool
   may_stand None ps = false
   may_stand (Some p) ps = may_push module_name p ps
 
@@ -79,14 +80,14 @@ module _ {C : Type 0} where
       let t = put_at_head side (head_above side) (mode_message mode false) s in
       record { state = t.state; gone = t.gone }
 
-  abbrev pub with_modules : Side → List (Module C) → State C → State C
+  abbrev pub with_modules : Side → List (Standing C) → State C → State C
   with_modules side ps s = with_stream side (record (stream side s) { modules = ps }) s
 
   -- what stands on a queue of a stream, by its place
   abbrev pub messages_there : Place → Way → Stream C → List (Message C)
   messages_there Head way t = t.head.queue.messages
   messages_there Driver way t = t.driver.queue.messages
-  messages_there Ldterm way t = flat_map (λ p. if is_there Ldterm (place_of (module_name p)) then messages_at module_queue way p else []) t.modules
+  messages_there Ldterm way t = flat_map (messages_at way) t.modules
 
   abbrev pub messages_on : QueueName → State C → List (Message C)
   messages_on name s = messages_there name.place name.way (stream name.side s)
@@ -102,30 +103,30 @@ module _ {C : Type 0} where
   let_come true side s = record s { enabled = enable_waiting (before_at side Up 1 s) s }
 
   -- A module is pushed: it stands on top, the head is told its read mode, and what waits for a read queue of it may come.
-  abbrev pub pushed : Side → Module C → State C → Carried C (State C)
+  abbrev pub pushed : Side → Standing C → State C → Carried C (State C)
   pushed side p s =
       let t = mode_put side (mode_on_push (module_name p)) (with_modules side (p ∷ (stream side s).modules) s) in
-      record { state = let_come (has_queue module_queue Up p) side t.state; gone = t.gone }
+      record { state = let_come (has_queues p) side t.state; gone = t.gone }
 
-  abbrev pub pushed_named : Side → Option (Module C) → State C → Carried C (State C)
+  abbrev pub pushed_named : Side → Option (Standing C) → State C → Carried C (State C)
   pushed_named side None s = record { state = s; gone = [] }
   pushed_named side (Some p) s = pushed side p s
 
   -- a side's stream with these modules, where one of this name was taken off from above them
-  abbrev pub without_top : Side → ModuleName → List (Module C) → Acted C (Module C) → State C → Carried C (State C)
+  abbrev pub without_top : Side → ModuleName → List (Standing C) → Acted C (Standing C) → State C → Carried C (State C)
   without_top side name ps t s = record {
     state = record (with_modules side ps s) { enabled = without_module side name (noted side (place_of name) (earlier_at side 1 s) t.notes s.enabled) };
     gone = t.gone;
   }
 
   -- The module on top is taken off: what it has goes by a rule, and queues before its own have room again where that lets a writer go.
-  abbrev pub top_taken : Rule → Side → List (Module C) → State C → Carried C (State C)
+  abbrev pub top_taken : Rule → Side → List (Standing C) → State C → Carried C (State C)
   top_taken rule side [] s = record { state = s; gone = [] }
   top_taken rule side (p ∷ ps) s =
-      without_top side (module_name p) ps (cleared module_queue with_module_queue module_line without_module_line side rule p) s
+      without_top side (module_name p) ps (cleared kind_line without_kind_line side rule p) s
 
   -- all modules, from the top
-  abbrev pub all_taken : Rule → Side → List (Module C) → State C → Carried C (State C)
+  abbrev pub all_taken : Rule → Side → List (Standing C) → State C → Carried C (State C)
   all_taken rule side [] s = record { state = s; gone = [] }
   all_taken rule side (p ∷ ps) s =
       let t = top_taken rule side (p ∷ ps) s in
@@ -140,9 +141,9 @@ module _ {C : Type 0} where
   top_on side s = top_name module_name (stream side s).modules
 
   -- what stands on the write queue of the module on top
-  abbrev pub below_top : List (Module C) → List (Message C)
+  abbrev pub below_top : List (Standing C) → List (Message C)
   below_top [] = []
-  below_top (p ∷ ps) = messages_at module_queue Down p
+  below_top (p ∷ ps) = messages_at Down p
 
   -- a side's head, once these messages have gone
   abbrev pub ioctl_dropped : Side → List (Message C) → State C → State C

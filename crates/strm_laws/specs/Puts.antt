@@ -27,7 +27,7 @@ use Rattle.strm_types.specs.Message.{Message, cells_of}
 use Rattle.strm_laws.specs.Earlier.{before_at, driver_place, modules_on, places_of, queue_named}
 use Rattle.strm_types.specs.Modules.{put_among}
 use Rattle.strm_types.specs.Names.{other, is_open, is_closed, direction_at, enable_found}
-use Rattle.strm_laws.specs.Stacked.{Module, module_puts}
+use Rattle.strm_laws.specs.Stacked.{Standing, module_puts}
 use Rattle.strm_laws.specs.State.{State, book, stream, with_book, with_stream, with_driver_queue}
 
 -- the enabled queues behind what a put says of the queues of a place, one after the other, with the nearest earlier queues of that place
@@ -64,7 +64,7 @@ module _ {C : Type 0} where
   booked (Comes dir cells ∷ told) s = booked told (with_book dir (with_made (length cells) (book dir s)) s)
 
   -- a module that has acted: its queues are noted as enabled or with room, and what was made is booked
-  abbrev pub module_acted : Spot → Acted C (List (Module C)) → State C → Took C (State C)
+  abbrev pub module_acted : Spot → Acted C (List (Standing C)) → State C → Took C (State C)
   module_acted here t s =
       let on = stream here.side s in
       record {

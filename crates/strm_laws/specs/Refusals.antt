@@ -31,8 +31,8 @@ use Rattle.strm_types.specs.Events.{Request}
 use Rattle.strm_types.specs.Needs.{needs}
 use Rattle.strm_types.specs.Journal.{PlainEntry, room_used}
 use Rattle.strm_laws.specs.Writes.{is_full_below}
-use Rattle.strm_laws.specs.Stacked.{Module, module_queue}
-use Rattle.strm_types.specs.ModuleQueues.{messages_at}
+use Rattle.strm_laws.specs.Stacked.{Standing}
+use Rattle.strm_types.specs.Standings.{messages_at}
 use Rattle.strm_types.specs.declared.names.Way.TheVariants.{Up}
 use Rattle.strm_types.specs.Refused.{or_else, unless, has_no_data}
 
@@ -72,8 +72,8 @@ module _ {C : Type 0} where
   goes_down side s = is_open (stream side s).opened && not (stream side s).head.hung_up
 
   -- nor on the read queues of modules
-  abbrev pub none_waits_up : List (Module C) → Bool
-  none_waits_up ps = not (list_any (λ p. not (has_no_data (messages_at module_queue Up p))) ps)
+  abbrev pub none_waits_up : List (Standing C) → Bool
+  none_waits_up ps = not (list_any (λ p. not (has_no_data (messages_at Up p))) ps)
 
   -- The end of input at a side's head, where nothing is to be read there: the other end is gone, or the slave was closed and
   -- no M_DATA or M_PROTO of it stands anywhere.

@@ -11,13 +11,14 @@ use Rattle.strm_types.specs.declared.names.QueueName.{QueueName}
 use Rattle.strm_types.specs.declared.names.Side.{Side}
 use Rattle.strm_types.specs.declared.names.Side.TheVariants.{Master, Slave}
 use Rattle.strm_types.specs.declared.names.Way.TheVariants.{Up, Down}
-use Rattle.strm_types.specs.LdtermCalls.{echo_most}
-use Rattle.strm_types.specs.Ldterms.{Ldterm as TheLdterm, Stage, Between, Begun, Answered}
+use Rattle.strm_types.specs.LdtermStands.{disciplined}
+use Rattle.strm_types.specs.Ldterms.{Discipline, Stage, Between, Begun, Answered}
 use Rattle.strm_types.specs.Message.{Message, cells_of}
 use Rattle.strm_types.specs.Names.{is_enabled, other}
+use Rattle.strm_types.specs.Service.{echo_most}
 use Rattle.strm_laws.specs.Restorable.{is_ldterm}
 use Rattle.strm_laws.specs.StackCosts.{Stands, stands_of, stands_on}
-use Rattle.strm_laws.specs.Stacked.{Module, OfLdterm, OfPtem, OfPckt}
+use Rattle.strm_laws.specs.Stacked.{Module, OfLdterm, OfPtem, OfPckt, Standing}
 use Rattle.strm_laws.specs.State.{State, Stream, stream}
 
 -- whether an ldterm is among the modules of a side's stream
@@ -67,13 +68,16 @@ module _ {C : Type 0} where
   moves_in_work (Some m) = 1 + byte_moves * length (cells_of m)
 
   -- of all that stands at a module
-  abbrev pub ldterm_moves : TheLdterm C → ℕ
+  abbrev pub ldterm_moves : Discipline C → ℕ
   ldterm_moves l = sum_by moves_in l.read_queue.messages + (sum_by moves_out l.write_queue.messages + (moves_in_work l.in_work + moves_begun l.stage))
 
-  abbrev pub module_moves : Module C → ℕ
-  module_moves (OfLdterm l) = ldterm_moves l
-  module_moves (OfPtem p) = 0
-  module_moves (OfPckt p) = 0
+  abbrev pub module_moves : Standing C → ℕ
+  module_moves x = by x.part
+    where
+      by : Module C → ℕ
+      by (OfLdterm l) = ldterm_moves (disciplined l x.queues)
+      by (OfPtem p) = 0
+      by (OfPckt p) = 0
 
   -- of all that stands on a stream; what a head has is for readers, and moves no more
   abbrev pub stream_moves : Bool → Stream C → ℕ

@@ -1,6 +1,6 @@
 -- What an image of a pair may hold. A checkpoint is refused for what no pair can have: each field here is one such reason turned round. What is
 -- said of the message in work and of options isn't stored: by it calls and turns keep the rest.
-use Rattle.std.specs.Prelude.{◌≡◌, ◌≤◌, ◌<◌, ◌+◌, ◌^◌, ◌||◌, Bool, true, false, List, [], map, length, Option, None, Some}
+use Rattle.std.specs.Prelude.{◌≡◌, ◌≤◌, ◌<◌, ◌+◌, ◌^◌, ◌||◌, Bool, true, false, List, [], map, length, Option, None, Some, is_some}
 use Rattle.std.specs.List.{AllByRecursion, list_any}
 use Rattle.strm_types.specs.declared.events.Event.TheVariants.{Put}
 use Rattle.strm_types.specs.declared.entries.Entry.TheVariants.{Called, Turned}
@@ -31,13 +31,14 @@ use Rattle.strm_types.specs.Kinds.{is_control_kind, is_body_kind}
 use Rattle.strm_types.specs.Commands.{is_ioctl}
 use Rattle.strm_types.specs.Ldterms.{Ldterm as TheLdterm, waits_there}
 use Rattle.strm_types.specs.Message.{Message, is_part, is_high_priority}
-use Rattle.strm_types.specs.Names.{IsOnce, is_master, is_open}
+use Rattle.strm_types.specs.Names.{IsOnce, is_master, is_open, place_of}
 use Rattle.strm_types.specs.Options.{options_in}
 use Rattle.strm_types.specs.Queue.{Flow, IsOrdered, Queue}
 use Rattle.strm_laws.specs.Kept.{AreIdle}
 use Rattle.strm_laws.specs.StackCosts.{EachOnce, Stands, stands_of, stands_on}
 use Rattle.strm_laws.specs.Within.{AreWithin}
-use Rattle.strm_laws.specs.Stacked.{Module, OfLdterm, OfPtem, OfPckt, module_name}
+use Rattle.strm_types.specs.Standings.{QueuePair, has_queues}
+use Rattle.strm_laws.specs.Stacked.{Module, OfLdterm, OfPtem, OfPckt, Standing, module_name}
 use Rattle.strm_laws.specs.State.{State, Stream}
 
 -- the kinds that have parts: M_DATA, M_PROTO and M_PCPROTO (STREAMS Programming Guide, "Message Types")
@@ -123,23 +124,32 @@ module _ {C : Type 0} where
   IsWork None = Unit {0}
   IsWork (Some m) = StandsOn is_data m
 
-  -- ldterm: columns up to 65,535, a line of 255 bytes at most, and what stands on its queues (ldterm(7M); termio(7I))
+  -- ldterm: columns up to 65,535, and a line of 255 bytes at most (ldterm(7M); termio(7I))
   pub record GoodLdterm (l : TheLdterm C) : Type 0 where
     pub termios : IsWhole l.termios
     pub column : l.column ≤ COLUMN_MAX
     pub line : length l.line ≤ LINE_MAX
-    pub read_queue : GoodQueue waits_there l.read_queue
-    pub write_queue : GoodQueue goes_out l.write_queue
     pub work : IsWork l.in_work
 
   -- ptem has a termios too, and pckt nothing
-  abbrev pub GoodModule : Module C → Type 0
-  GoodModule (OfLdterm l) = GoodLdterm l
-  GoodModule (OfPtem p) = IsWhole p.termios
-  GoodModule (OfPckt p) = Unit {0}
+  abbrev pub GoodKind : Module C → Type 0
+  GoodKind (OfLdterm l) = GoodLdterm l
+  GoodKind (OfPtem p) = IsWhole p.termios
+  GoodKind (OfPckt p) = Unit {0}
+
+  -- what stands on the queues of a module
+  abbrev pub GoodPair : Option (QueuePair C) → Type 0
+  GoodPair None = Unit {0}
+  GoodPair (Some pair) = GoodQueue waits_there pair.read × GoodQueue goes_out pair.write
+
+  -- a module, which has queues where those of its name have
+  pub record GoodModule (x : Standing C) : Type 0 where
+    pub kind : GoodKind x.part
+    pub queues : GoodPair x.queues
+    pub has : has_queues x ≡ is_some (place_of (module_name x))
 
   -- three modules at most, and none twice (streamio(7I): I_PUSH)
-  pub record GoodModules (ps : List (Module C)) : Type 0 where
+  pub record GoodModules (ps : List (Standing C)) : Type 0 where
     pub each : AllByRecursion GoodModule ps
     pub few : length ps ≤ MODULES
     pub once : EachOnce (map module_name ps)

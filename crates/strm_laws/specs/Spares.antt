@@ -6,7 +6,7 @@ use Rattle.strm_types.specs.declared.spots.Spot.{Spot}
 use Rattle.strm_types.specs.Message.{Message}
 use Rattle.strm_types.specs.Shapes.{shape_of}
 use Rattle.strm_types.specs.Tables.{name_does}
-use Rattle.strm_laws.specs.Stacked.{Module, module_name}
+use Rattle.strm_laws.specs.Stacked.{Standing, module_name}
 use Rattle.strm_laws.specs.State.{State, book}
 
 abbrev pub packet_most : ℕ
@@ -20,5 +20,5 @@ abbrev pub spare : {C : Type 0} → State C → ℕ
 spare s = min (spare_behind (book MasterToSlave s).made) (spare_behind (book SlaveToMaster s).made)
 
 -- how many of them a put at a module makes at most, by its table
-abbrev pub module_packs : {C : Type 0} → Spot → Message C → Module C → ℕ
+abbrev pub module_packs : {C : Type 0} → Spot → Message C → Standing C → ℕ
 module_packs here m p = (name_does (module_name p) here.way (shape_of m)).makes

@@ -9,7 +9,7 @@ use Rattle.strm_types.specs.Budgets.{own_at}
 use Rattle.strm_types.specs.Message.{Message}
 use Rattle.strm_types.specs.Names.{same_module}
 use Rattle.strm_types.specs.Tables.{name_does}
-use Rattle.strm_laws.specs.Stacked.{Module, module_name}
+use Rattle.strm_laws.specs.Stacked.{Standing, module_name}
 use Rattle.strm_laws.specs.State.{State}
 
 -- the names of the modules of both streams, from the top
@@ -39,5 +39,5 @@ abbrev pub StandOnce : Stands → Type 0
 StandOnce all = AllSides (λ side on. EachOnce on) all
 
 -- what a module takes at most of a message that is put at it, by its table
-abbrev pub module_takes : {C : Type 0} → Spot → Message C → Module C → ℕ
+abbrev pub module_takes : {C : Type 0} → Spot → Message C → Standing C → ℕ
 module_takes here m p = own_at (name_does (module_name p)) here m

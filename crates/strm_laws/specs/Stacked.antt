@@ -1,122 +1,152 @@
 -- What a module is to the stream on which it stands: its name, its queues, its unfinished line, and what it does (streamio(7I): I_PUSH;
--- STREAMS Programming Guide, "Modules"). There are three kinds of modules: ldterm has two queues,
--- and ptem and pckt have none.
-use Rattle.std.specs.Prelude.{ℕ, Bool, true, List, [], ◌∷◌, sum_by, flat_map, Option, None, Some}
+-- STREAMS Programming Guide, "Modules"). There are three kinds of modules. Of what is said here only what a module does differs by its kind; its queues are
+-- the stream's, and what is said of them is said once for all kinds.
+use Rattle.std.specs.Prelude.{ℕ, ◌+◌, Bool, true, List, [], ◌∷◌, sum_by, flat_map, Option, None, Some}
 use Rattle.strm_types.specs.declared.names.ModuleName.{ModuleName}
 use Rattle.strm_types.specs.declared.names.ModuleName.TheVariants as names
 use Rattle.strm_types.specs.declared.names.Dir.{Dir}
 use Rattle.strm_types.specs.declared.names.Side.{Side}
 use Rattle.strm_types.specs.declared.names.Way.{Way}
+use Rattle.strm_types.specs.declared.names.Way.TheVariants.{Up, Down}
 use Rattle.strm_types.specs.declared.spots.Asks.{Asks}
 use Rattle.strm_types.specs.declared.spots.Asks.TheVariants.{Empty}
 use Rattle.strm_types.specs.declared.spots.Spot.{Spot}
-use Rattle.strm_types.specs.Asking.{ldterm_asks}
 use Rattle.strm_types.specs.Cells.{Cells}
 use Rattle.strm_types.specs.Deliver.{Acted}
-use Rattle.strm_laws.specs.LdtermOrigins.{map_ldterm}
-use Rattle.strm_types.specs.LdtermPuts.{ldterm_puts}
-use Rattle.strm_types.specs.LdtermServes.{ldterm_serves}
-use Rattle.strm_laws.specs.LdtermTurns.{ldterm_rests}
-use Rattle.strm_laws.specs.LdtermWeights.{ldterm_weight}
-use Rattle.strm_types.specs.Ldterms.{Ldterm, IsIdle, queue_at, with_queue_at, without_line}
+use Rattle.strm_types.specs.LdtermStands.{as_stands, asks_there, puts_there, serves_there}
+use Rattle.strm_types.specs.Ldterms.{Discipline, Ldterm, Rests, lineless}
 use Rattle.strm_types.specs.Message.{Message}
+use Rattle.strm_types.specs.Names.{direction_at}
 use Rattle.strm_types.specs.Pckts.{Pckt, pckt_puts}
 use Rattle.strm_types.specs.Ptems.{Ptem, ptem_puts}
-use Rattle.strm_types.specs.Queue.{Queue}
-use Rattle.strm_types.specs.Service.{Serving, unserved}
+use Rattle.strm_types.specs.Queue.{Queue, weight}
+use Rattle.strm_types.specs.Service.{Serving, acts_alone, done_by, served_by, unserved}
+use Rattle.strm_types.specs.Standings as standings
+use Rattle.strm_types.specs.Standings.{QueuePair, map_standing}
+use Rattle.strm_laws.specs.LdtermOrigins.{map_own}
+use Rattle.strm_laws.specs.LdtermTurns.{ldterm_rests}
+use Rattle.strm_laws.specs.LdtermWeights.{own_weight}
 
--- a module, as it stands on a stream
+-- a module by itself
 pub data Module (C : Type 0) : Type 0 where
   OfLdterm : Ldterm C → Module C
   OfPtem : Ptem → Module C
   OfPckt : Pckt → Module C
 
+-- and as it stands on a stream
+abbrev pub Standing : Type 0 → Type 0
+Standing C = standings.Standing (Module C) C
+
 -- the same module of other cells
-abbrev pub map_module : {C D : Type 0} → (C → D) → Module C → Module D
-map_module f (OfLdterm l) = OfLdterm (map_ldterm f l)
-map_module f (OfPtem p) = OfPtem p
-map_module f (OfPckt p) = OfPckt p
+abbrev pub map_kind : {C D : Type 0} → (C → D) → Module C → Module D
+map_kind f (OfLdterm l) = OfLdterm (map_own f l)
+map_kind f (OfPtem p) = OfPtem p
+map_kind f (OfPckt p) = OfPckt p
 
--- what a module of one kind does, as a module of any kind does it
-abbrev pub done_by : {C P Q : Type 0} → (P → Q) → Acted C P → Acted C Q
-done_by made t = record { state = made t.state; notes = t.notes; sent = t.sent; gone = t.gone }
+abbrev pub map_module : {C D : Type 0} → (C → D) → Standing C → Standing D
+map_module f x = map_standing (map_kind f) f x
 
-abbrev pub served_by : {C P Q : Type 0} → (P → Q) → Serving C P → Serving C Q
-served_by made t = record { acted = done_by made t.acted; bytes = t.bytes; again = t.again }
+-- the name of a kind
+abbrev pub kind_name : {C : Type 0} → Module C → ModuleName
+kind_name (OfLdterm l) = names.Ldterm
+kind_name (OfPtem p) = names.Ptem
+kind_name (OfPckt p) = names.Pckt
+
+-- its unfinished line, and the same module without it
+abbrev pub kind_line : {C : Type 0} → Module C → List C
+kind_line (OfLdterm l) = l.line
+kind_line (OfPtem p) = []
+kind_line (OfPckt p) = []
+
+abbrev pub without_kind_line : {C : Type 0} → Module C → Module C
+without_kind_line (OfLdterm l) = OfLdterm (lineless l)
+without_kind_line (OfPtem p) = OfPtem p
+without_kind_line (OfPckt p) = OfPckt p
+
+-- what stands as a module of one kind, as one of any kind
+abbrev pub of_kind : {C P : Type 0} → (P → Module C) → standings.Standing P C → Standing C
+of_kind made x = record { part = made x.part; queues = x.queues }
+
+-- a line discipline, as it stands
+abbrev pub ldterm_stands : {C : Type 0} → Discipline C → Standing C
+ldterm_stands p = of_kind OfLdterm (as_stands p)
 
 module _ {C : Type 0} where
-  abbrev pub module_name : Module C → ModuleName
-  module_name (OfLdterm l) = names.Ldterm
-  module_name (OfPtem p) = names.Ptem
-  module_name (OfPckt p) = names.Pckt
+  abbrev pub module_name : Standing C → ModuleName
+  module_name x = kind_name x.part
 
   -- its queues: the read queue, then the write queue
-  abbrev pub module_queues : Module C → List (Queue C)
-  module_queues (OfLdterm l) = l.read_queue ∷ l.write_queue ∷ []
-  module_queues (OfPtem p) = []
-  module_queues (OfPckt p) = []
+  abbrev pub module_queues : Standing C → List (Queue C)
+  module_queues x = by x.queues
+    where
+      by : Option (QueuePair C) → List (Queue C)
+      by None = []
+      by (Some pair) = pair.read ∷ pair.write ∷ []
 
-  -- its queue of a way, where it has one
-  abbrev pub module_queue : Way → Module C → Option (Queue C)
-  module_queue way (OfLdterm l) = Some (queue_at way l)
-  module_queue way (OfPtem p) = None
-  module_queue way (OfPckt p) = None
+  abbrev pub module_line : Standing C → List C
+  module_line x = kind_line x.part
 
-  abbrev pub with_module_queue : Way → Queue C → Module C → Module C
-  with_module_queue way q (OfLdterm l) = OfLdterm (with_queue_at way q l)
-  with_module_queue way q (OfPtem p) = OfPtem p
-  with_module_queue way q (OfPckt p) = OfPckt p
+  -- how many cells that stand on its queues on a side's stream pass the test of their direction, how many that it has itself, and how many in all
+  abbrev pub queues_weight : (Dir → C → Bool) → Side → Option (QueuePair C) → ℕ
+  queues_weight p side None = 0
+  queues_weight p side (Some pair) = weight (p (direction_at Up side)) pair.read.messages + weight (p (direction_at Down side)) pair.write.messages
 
-  -- its unfinished line
-  abbrev pub module_line : Module C → List C
-  module_line (OfLdterm l) = l.line
-  module_line (OfPtem p) = []
-  module_line (OfPckt p) = []
+  abbrev pub kind_weight : (Dir → C → Bool) → Side → Module C → ℕ
+  kind_weight p side (OfLdterm l) = own_weight p side l
+  kind_weight p side (OfPtem q) = 0
+  kind_weight p side (OfPckt q) = 0
 
-  abbrev pub without_module_line : Module C → Module C
-  without_module_line (OfLdterm l) = OfLdterm (without_line l)
-  without_module_line (OfPtem p) = OfPtem p
-  without_module_line (OfPckt p) = OfPckt p
-
-  -- how many cells that it holds on a side's stream pass the test of their direction
-  abbrev pub module_weight : (Dir → C → Bool) → Side → Module C → ℕ
-  module_weight p side (OfLdterm l) = ldterm_weight p side l
-  module_weight p side (OfPtem q) = 0
-  module_weight p side (OfPckt q) = 0
+  abbrev pub module_weight : (Dir → C → Bool) → Side → Standing C → ℕ
+  module_weight p side x = kind_weight p side x.part + queues_weight p side x.queues
 
   -- a message that is put at it, where so many cells were made before in the direction of what goes up; only pckt makes more
-  abbrev pub module_puts : Cells C → ℕ → Spot → Message C → Module C → Acted C (Module C)
-  module_puts cells made here m (OfLdterm l) = done_by OfLdterm (ldterm_puts here m l)
-  module_puts cells made here m (OfPtem p) = done_by OfPtem (ptem_puts here m p)
-  module_puts cells made here m (OfPckt p) = done_by OfPckt (pckt_puts cells made here m)
+  abbrev pub module_puts : Cells C → ℕ → Spot → Message C → Standing C → Acted C (Standing C)
+  module_puts cells made here m x = by x.part
+    where
+      by : Module C → Acted C (Standing C)
+      by (OfLdterm l) = done_by (of_kind OfLdterm) (puts_there here m (record { part = l; queues = x.queues }))
+      by (OfPtem p) = done_by (of_kind OfPtem) (acts_alone (ptem_puts here m) (record { part = p; queues = x.queues }))
+      by (OfPckt p) = done_by (of_kind OfPckt) (acts_alone (λ q. pckt_puts cells made here m) (record { part = p; queues = x.queues }))
 
-  -- what the first message of its queue of a way asks before it goes on, and whether nothing of a turn is under way in it
-  abbrev pub module_asks : Way → Module C → Asks
-  module_asks way (OfLdterm l) = ldterm_asks way l
-  module_asks way (OfPtem p) = Empty
-  module_asks way (OfPckt p) = Empty
+  -- what the first message of its queue of a way asks before it goes on
+  abbrev pub module_asks : Way → Standing C → Asks
+  module_asks way x = by x.part
+    where
+      by : Module C → Asks
+      by (OfLdterm l) = asks_there way (record { part = l; queues = x.queues })
+      by (OfPtem p) = Empty
+      by (OfPckt p) = Empty
 
-  abbrev pub module_rests : Module C → Bool
-  module_rests (OfLdterm l) = ldterm_rests l
-  module_rests (OfPtem p) = true
-  module_rests (OfPckt p) = true
+  -- whether nothing of a turn is under way in it
+  abbrev pub kind_rests : Module C → Bool
+  kind_rests (OfLdterm l) = ldterm_rests l
+  kind_rests (OfPtem p) = true
+  kind_rests (OfPckt p) = true
 
-  -- nothing of a turn is under way in it
-  abbrev pub IsAtRest : Module C → Type 0
-  IsAtRest (OfLdterm l) = IsIdle l
-  IsAtRest (OfPtem p) = Unit {0}
-  IsAtRest (OfPckt p) = Unit {0}
+  abbrev pub module_rests : Standing C → Bool
+  module_rests x = kind_rests x.part
+
+  abbrev pub KindRests : Module C → Type 0
+  KindRests (OfLdterm l) = Rests l
+  KindRests (OfPtem p) = Unit {0}
+  KindRests (OfPckt p) = Unit {0}
+
+  abbrev pub IsAtRest : Standing C → Type 0
+  IsAtRest x = KindRests x.part
 
   -- a call of the service procedure of its queue: so many cells were made before, the turn begins or goes on, and it stops or not
   -- when so many bytes are treated
-  abbrev pub module_serves : Cells C → Spot → ℕ → Bool → Option ℕ → Module C → Serving C (Module C)
-  module_serves cells here made again stop (OfLdterm l) = served_by OfLdterm (ldterm_serves cells here made again stop l)
-  module_serves cells here made again stop (OfPtem p) = unserved (OfPtem p)
-  module_serves cells here made again stop (OfPckt p) = unserved (OfPckt p)
+  abbrev pub module_serves : Cells C → Spot → ℕ → Bool → Option ℕ → Standing C → Serving C (Standing C)
+  module_serves cells here made again stop x = by x.part
+    where
+      by : Module C → Serving C (Standing C)
+      by (OfLdterm l) = served_by (of_kind OfLdterm) (serves_there cells here made again stop (record { part = l; queues = x.queues }))
+      by (OfPtem p) = unserved x
+      by (OfPckt p) = unserved x
 
   -- the same of all modules of a stream: their queues, and how many cells that they hold pass the test of their direction
-  abbrev pub queues_of_modules : List (Module C) → List (Queue C)
-  queues_of_modules ps = flat_map module_queues ps
+  abbrev pub queues_of_modules : List (Standing C) → List (Queue C)
+  queues_of_modules xs = flat_map module_queues xs
 
-  abbrev pub modules_weight : (Dir → C → Bool) → Side → List (Module C) → ℕ
-  modules_weight p side ps = sum_by (module_weight p side) ps
+  abbrev pub modules_weight : (Dir → C → Bool) → Side → List (Standing C) → ℕ
+  modules_weight p side xs = sum_by (module_weight p side) xs

@@ -15,7 +15,7 @@ use Rattle.strm_types.specs.Names.{side_from}
 use Rattle.strm_types.specs.Heads.{Head, new_head, map_head}
 use Rattle.strm_types.specs.Slots.{PlainSlot}
 use Rattle.strm_types.specs.Queue.{Queue, IsOrdered, new_queue, map_queue}
-use Rattle.strm_laws.specs.Stacked.{Module, map_module, queues_of_modules}
+use Rattle.strm_laws.specs.Stacked.{Standing, map_module, queues_of_modules}
 
 -- a driver: what it has for the other side
 pub record Driver (C : Type 0) : Type 0 where
@@ -25,7 +25,7 @@ pub record Driver (C : Type 0) : Type 0 where
 pub record Stream (C : Type 0) : Type 0 where
   pub opened : Openness
   pub head : Head C
-  pub modules : List (Module C)
+  pub modules : List (Standing C)
   pub driver : Driver C
 
 -- A pair: the stream of each side, whether the slave is locked, the enabled queues in order of enabling, the number that the next

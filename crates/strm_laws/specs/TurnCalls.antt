@@ -6,33 +6,43 @@ use Rattle.strm_types.specs.declared.spots.Spot.{Spot}
 use Rattle.strm_types.specs.Cells.{plain}
 use Rattle.strm_types.specs.Deliver.{Acted, Carried, carried, in_turn}
 use Rattle.strm_types.specs.LdtermCalls.{Ends}
-use Rattle.strm_types.specs.Ldterms.{Ldterm, new_ldterm}
+use Rattle.strm_types.specs.LdtermStands.{disciplined}
+use Rattle.strm_types.specs.Ldterms.{Discipline, Ldterm, new_ldterm}
 use Rattle.strm_types.specs.ModuleQueues.{at_place}
 use Rattle.strm_types.specs.Modules.{act_among}
+use Rattle.strm_types.specs.Standings.{new_pair}
 use Rattle.strm_laws.specs.Puts.{module_acted, put_in}
-use Rattle.strm_laws.specs.Stacked.{Module, OfLdterm, OfPtem, OfPckt, module_serves}
+use Rattle.strm_laws.specs.Stacked.{Module, OfLdterm, OfPtem, OfPckt, Standing, module_serves}
 use Rattle.strm_laws.specs.State.{State, stream}
 
--- The ldterm that a module is. In one of another kind nothing is ever under way, as in a new ldterm.
+-- The line discipline that a module is, beside its queues. In one of another kind nothing is ever under way, as in a new one.
 abbrev pub ldterm_of : Module ℕ → Ldterm ℕ
 ldterm_of (OfLdterm l) = l
 ldterm_of (OfPtem p) = new_ldterm
 ldterm_of (OfPckt p) = new_ldterm
 
+-- and with them
+abbrev pub discipline_of : Standing ℕ → Discipline ℕ
+discipline_of x = disciplined (ldterm_of x.part) x.queues
+
+-- what stands where no module does
+abbrev pub none_there : Standing ℕ
+none_there = record { part = OfLdterm new_ldterm; queues = Some new_pair }
+
 module _ (here : Spot) where
   -- the module at a place
-  abbrev pub module_at : State ℕ → Module ℕ
-  module_at s = slice_index_or (stream here.side s).modules (here.at - 1) (OfLdterm new_ldterm)
+  abbrev pub module_at : State ℕ → Standing ℕ
+  module_at s = slice_index_or (stream here.side s).modules (here.at - 1) none_there
 
   module _ (again : Bool) (stop : Option ℕ) where
     -- a call as a store makes it: what the modules do, how many bytes it treated, and whether it asks for another one
-    abbrev pub called : List (Module ℕ) → Acted ℕ (List (Module ℕ))
+    abbrev pub called : List (Standing ℕ) → Acted ℕ (List (Standing ℕ))
     called ps = act_among (λ p. (module_serves plain here 0 again stop p).acted) (here.at - 1) ps
 
-    abbrev pub treated : List (Module ℕ) → ℕ
+    abbrev pub treated : List (Standing ℕ) → ℕ
     treated ps = at_place (λ p. (module_serves plain here 0 again stop p).bytes) 0 here.at ps
 
-    abbrev pub asks_on : List (Module ℕ) → Bool
+    abbrev pub asks_on : List (Standing ℕ) → Bool
     asks_on ps = at_place (λ p. (module_serves plain here 0 again stop p).again) false here.at ps
 
     -- what it leads to, with what it sent
@@ -45,4 +55,4 @@ module _ (here : Spot) where
   -- Where a call stops, it did so at what it treated, and what had begun is among that.
   abbrev pub Stopped : Bool → State ℕ → Option ℕ → Type 0
   Stopped again s None = Unit {0}
-  Stopped again s (Some bytes) = (bytes ≡ treated again (Some bytes) (stream here.side s).modules) × Ends here.way again (ldterm_of (module_at s)) bytes
+  Stopped again s (Some bytes) = (bytes ≡ treated again (Some bytes) (stream here.side s).modules) × Ends here.way again (discipline_of (module_at s)) bytes

@@ -12,7 +12,8 @@ ghost use Rattle.strm_laws.specs.LdtermOrigins.{map_ldterm, map_serving};
 ghost use Rattle.strm_types.specs.LdtermPuts.{ldterm_puts};
 ghost use Rattle.strm_types.specs.LdtermServes.{ldterm_serves};
 ghost use Rattle.strm_laws.specs.LdtermTurns.{IsItsTurn, IsOrderly};
-ghost use Rattle.strm_types.specs.Ldterms.{Ldterm, new_ldterm};
+ghost use Rattle.strm_types.specs.Standings.{new_pair};
+ghost use Rattle.strm_types.specs.Ldterms.{Discipline, discipline, new_ldterm};
 ghost use Rattle.strm_types.specs.Lines.{Edit, ErasesByte, ErasesWord, ErasesAll, edited, line_of};
 ghost use Rattle.strm_types.specs.Message.{Message, map_message, weight_of};
 ghost use Rattle.strm_types.specs.Origins.{map_acted};
@@ -38,23 +39,25 @@ pub fn edits_leave_a_prefix<C>()
 /// with the end of the turn, which comes between two bytes; `serves` is a call of the service procedure. The turn's echo is there to grow,
 /// and stays there.
 pub fn ldterm_keeps_cells<C>()
-    ensures put { (p : Dir → C → Bool) (here : Spot) (m : Message C) (l : Ldterm C) → let t = ldterm_puts here m l in
+    ensures put { (p : Dir → C → Bool) (here : Spot) (m : Message C) (l : Discipline C) → let t = ldterm_puts here m l in
         ldterm_weight p here.side t.state + (weight_sent p t.sent + weight_gone p t.gone) ≡ ldterm_weight p here.side l + weight_of (p (direction_at here.way here.side)) m }
-    ensures stage { (p : Dir → C → Bool) (cells : Cells C) (here : Spot) (made : ℕ) (l : Ldterm C) → IgnoresMapping cells p → EchoStands l →
+    ensures stage { (p : Dir → C → Bool) (cells : Cells C) (here : Spot) (made : ℕ) (l : Discipline C) → IgnoresMapping cells p → EchoStands l →
         ActedKeeps p here.side (next_stage cells here made l) (ldterm_weight p here.side l) }
-    ensures echo { (cells : Cells C) (here : Spot) (made : ℕ) (l : Ldterm C) → EchoStands l → EchoStands (next_stage cells here made l).state }
-    ensures stages { (p : Dir → C → Bool) (cells : Cells C) (here : Spot) (n bytes made : ℕ) (l : Ldterm C) → IgnoresMapping cells p → EchoStands l →
+    ensures echo { (cells : Cells C) (here : Spot) (made : ℕ) (l : Discipline C) → EchoStands l → EchoStands (next_stage cells here made l).state }
+    ensures stages { (p : Dir → C → Bool) (cells : Cells C) (here : Spot) (n bytes made : ℕ) (l : Discipline C) → IgnoresMapping cells p →
+        EchoStands l →
         n + stages_done l.stage ≡ 3 * bytes → ActedKeeps p here.side (stages cells here n made l) (ldterm_weight p here.side l) }
-    ensures serves { (p : Dir → C → Bool) (cells : Cells C) (here : Spot) (made : ℕ) (again : Bool) (stop : Option ℕ) (l : Ldterm C) → IgnoresMapping cells p →
+    ensures serves { (p : Dir → C → Bool) (cells : Cells C) (here : Spot) (made : ℕ) (again : Bool) (stop : Option ℕ) (l : Discipline C) →
+        IgnoresMapping cells p →
         EchoStands l → MayServe here.way again stop l → ActedKeeps p here.side (ldterm_serves cells here made again stop l).acted (ldterm_weight p here.side l) }
 {}
 
 /// Forgetting the origins of bytes commutes with what ldterm does: with a put, whatever cells are mapped to, and with a call of its
 /// service procedure, whose cells have the bytes that they were given.
 pub fn ldterm_forgets<C, D>()
-    ensures put { (f : C → D) (here : Spot) (m : Message C) (l : Ldterm C) →
+    ensures put { (f : C → D) (here : Spot) (m : Message C) (l : Discipline C) →
         ldterm_puts here (map_message f m) (map_ldterm f l) ≡ map_acted f (map_ldterm f) (ldterm_puts here m l) }
-    ensures serves { (cells : Cells C) (here : Spot) (made : ℕ) (again : Bool) (stop : Option ℕ) (l : Ldterm C) → AreCells cells →
+    ensures serves { (cells : Cells C) (here : Spot) (made : ℕ) (again : Bool) (stop : Option ℕ) (l : Discipline C) → AreCells cells →
         ldterm_serves plain here made again stop (map_ldterm cells.byte l)
         ≡ map_serving cells.byte (map_ldterm cells.byte) (ldterm_serves cells here made again stop l) }
 {}
@@ -62,9 +65,9 @@ pub fn ldterm_forgets<C, D>()
 /// What holds of ldterm stays so. It holds of one as it is pushed, and behind each put and each call of its service procedure, as no
 /// other turn begins while a turn of its read queue goes on. So the turn's echo is there to grow.
 pub fn ldterm_stays_orderly<C>()
-    ensures new { IsOrderly (new_ldterm {C = C}) }
-    ensures put { (here : Spot) (m : Message C) (l : Ldterm C) → IsOrderly l → IsOrderly (ldterm_puts here m l).state }
-    ensures serves { (cells : Cells C) (here : Spot) (made : ℕ) (again : Bool) (stop : Option ℕ) (l : Ldterm C) → IsOrderly l →
+    ensures new { IsOrderly (discipline (new_ldterm {C = C}) new_pair) }
+    ensures put { (here : Spot) (m : Message C) (l : Discipline C) → IsOrderly l → IsOrderly (ldterm_puts here m l).state }
+    ensures serves { (cells : Cells C) (here : Spot) (made : ℕ) (again : Bool) (stop : Option ℕ) (l : Discipline C) → IsOrderly l →
         IsItsTurn here.way again l → IsOrderly (ldterm_serves cells here made again stop l).acted.state }
-    ensures echo { (l : Ldterm C) → IsOrderly l → EchoStands l }
+    ensures echo { (l : Discipline C) → IsOrderly l → EchoStands l }
 {}

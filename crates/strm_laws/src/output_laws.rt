@@ -1,7 +1,7 @@
 //! What follows from the definitions of output to a terminal (termio(7I): "Output Modes"; ldterm(7M)). Each law is the contract of a
 //! function that does nothing, and holds of bytes and of bytes with their origin alike.
 
-ghost use Rattle.std.specs.Prelude.{◌≡◌, ◌≤◌, ℕ, ◌+◌, ◌*◌, Bool, true, false, List, [], ◌∷◌, ◌++◌, length, map, count_by, None, Option};
+ghost use Rattle.std.specs.Prelude.{◌≡◌, ◌≤◌, ℕ, ◌+◌, ◌*◌, Bool, false, List, [], ◌∷◌, ◌++◌, length, map, count_by, None, Option};
 ghost use Rattle.strm_types.specs.declared.names.Dir.{Dir};
 ghost use Rattle.strm_types.specs.declared.output.TheConstants.{COLUMN_MAX};
 ghost use Rattle.strm_types.specs.declared.spots.Spot.{Spot};
@@ -11,7 +11,7 @@ ghost use Rattle.strm_types.specs.Input.{is_data, made_of, output_passes};
 ghost use Rattle.strm_laws.specs.LdtermOrigins.{map_ldterm, map_serving};
 ghost use Rattle.strm_laws.specs.LdtermTurns.{IsOrderly};
 ghost use Rattle.strm_laws.specs.LdtermWeights.{ActedKeeps, IgnoresMapping, ldterm_weight};
-ghost use Rattle.strm_types.specs.Ldterms.{Ldterm};
+ghost use Rattle.strm_types.specs.Ldterms.{Discipline};
 ghost use Rattle.strm_types.specs.Message.{Message};
 ghost use Rattle.strm_types.specs.Output.{given_for, map_output, post, posts, told_for};
 ghost use Rattle.strm_types.specs.OutputTurns.{output_serves};
@@ -21,9 +21,11 @@ ghost use Rattle.strm_types.specs.Termios.{opost};
 
 /// Without OPOST all that stands on the write queue goes down as it is, and what isn't M_DATA does so in any case; the column stays.
 pub fn output_passes_unposted<C>()
-    ensures unposted { (cells : Cells C) (here : Spot) (stop : Option ℕ) (made : ℕ) (ms : List (Message C)) (l : Ldterm C) → opost l.termios ≡ false →
+    ensures unposted { (cells : Cells C) (here : Spot) (stop : Option ℕ) (made : ℕ) (ms : List (Message C)) (l : Discipline C) →
+        opost l.termios ≡ false →
         output_serves cells here stop made ms l ≡ output_passes cells here ms l }
-    ensures others { (cells : Cells C) (here : Spot) (stop : Option ℕ) (made : ℕ) (m : Message C) (rest : List (Message C)) (l : Ldterm C) → is_data m.kind ≡ false →
+    ensures others { (cells : Cells C) (here : Spot) (stop : Option ℕ) (made : ℕ) (m : Message C) (rest : List (Message C)) (l : Discipline C) →
+        is_data m.kind ≡ false →
         output_serves cells here stop made (m ∷ rest) l ≡ output_passes cells here (m ∷ rest) l }
 {}
 
@@ -41,7 +43,7 @@ pub fn output_is_bytewise<C>()
 pub fn output_keeps_cells<C>()
     ensures posts { (p : Dir → C → Bool) (cells : Cells C) (dir : Dir) (made : ℕ) (t : Termios) (column : ℕ) (xs : List C) → IgnoresMapping cells p →
         let u = posts cells dir made t column xs in count_by (p dir) u.given + weight_gone p u.told ≡ count_by (p dir) xs + weight_made p u.told }
-    ensures serves { (p : Dir → C → Bool) (cells : Cells C) (here : Spot) (stop : Option ℕ) (made : ℕ) (l : Ldterm C) → IgnoresMapping cells p →
+    ensures serves { (p : Dir → C → Bool) (cells : Cells C) (here : Spot) (stop : Option ℕ) (made : ℕ) (l : Discipline C) → IgnoresMapping cells p →
         ActedKeeps p here.side (output_serves cells here stop made l.write_queue.messages l).acted (ldterm_weight p here.side l) }
 {}
 
@@ -59,13 +61,14 @@ pub fn output_is_bounded<C>()
 pub fn output_forgets<C>()
     ensures posts { (cells : Cells C) (dir : Dir) (made : ℕ) (t : Termios) (column : ℕ) (xs : List C) → AreCells cells →
         posts plain dir made t column (map cells.byte xs) ≡ map_output cells.byte (posts cells dir made t column xs) }
-    ensures serves { (cells : Cells C) (here : Spot) (stop : Option ℕ) (made : ℕ) (ms : List (Message C)) (l : Ldterm C) → AreCells cells →
+    ensures serves { (cells : Cells C) (here : Spot) (stop : Option ℕ) (made : ℕ) (ms : List (Message C)) (l : Discipline C) → AreCells cells →
         output_serves plain here stop made (map_messages cells.byte ms) (map_ldterm cells.byte l)
         ≡ map_serving cells.byte (map_ldterm cells.byte) (output_serves cells here stop made ms l) }
 {}
 
 /// What holds of ldterm stays so behind a turn of its write queue, while no message is in work.
 pub fn output_stays_orderly<C>()
-    ensures { (cells : Cells C) (here : Spot) (stop : Option ℕ) (made : ℕ) (ms : List (Message C)) (l : Ldterm C) → IsOrderly l → l.in_work ≡ None →
+    ensures { (cells : Cells C) (here : Spot) (stop : Option ℕ) (made : ℕ) (ms : List (Message C)) (l : Discipline C) → IsOrderly l →
+        l.in_work ≡ None →
         IsOrderly (output_serves cells here stop made ms l).acted.state }
 {}

@@ -6,12 +6,12 @@ use Rattle.strm_types.specs.declared.names.Way.TheVariants.{Down}
 use Rattle.strm_types.specs.declared.rules.Fates.{Fates}
 use Rattle.strm_types.specs.declared.spots.Spot.{Spot}
 use Rattle.strm_types.specs.Cells as cells
-use Rattle.strm_types.specs.Deliver.{Acted, toward}
+use Rattle.strm_types.specs.Deliver.{Acted, toward, onward}
 use Rattle.strm_types.specs.Flush.{is_data_kind}
 use Rattle.strm_types.specs.Input.{cells_left, left_of, with_left}
 use Rattle.strm_types.specs.Keys.{restarts}
 use Rattle.strm_types.specs.Ldterms as ldterms
-use Rattle.strm_types.specs.Ldterms.{sends, onward}
+use Rattle.strm_types.specs.Ldterms.{sends}
 use Rattle.strm_types.specs.Message.{Message, cells_of}
 use Rattle.strm_types.specs.Typing.{bare, begins, stroke_at}
 use Rattle.strm_blocks.specs.Blocks.{StoreValue, IsStore, token}
@@ -19,13 +19,12 @@ use Rattle.strm_msg.specs.Messages.{message_of}
 use Rattle.strm_frame.specs.declared.parcels.Sent.{Sent}
 use Rattle.strm_frame.specs.Hands.{once, AreIn, HasRoom, SameOwn}
 use Rattle.strm_frame.specs.Outboxes.{message_in, times_sent, parcels_in, AreChains}
-use Rattle.strm_ldterm.specs.declared.ldterm.Ldterm.{Ldterm}
 use Rattle.strm_ldterm.specs.declared.ldterm.Stage.TheVariants.{Begun}
 use Rattle.strm_ldterm.specs.Becoming.{Becomes}
 use Rattle.strm_ldterm.specs.Does.{Alters, Proceeds}
 use Rattle.strm_ldterm.specs.Frames.{ldterm-frame}
 use Rattle.strm_ldterm.specs.Sending.{MadeOne}
-use Rattle.strm_ldterm.specs.Stands.{ldterm_in, kept_in, times_kept, owns, keeps, EndsPlain, IsHeld}
+use Rattle.strm_ldterm.specs.Stands.{ldterm_in, kept_in, times_kept, owns, keeps, EndsPlain, IsHeld, Paired}
 use Rattle.strm_ldterm.proofs.Finished.{work-splits, work-shown, work-is, work-held}
 use Rattle.strm_ldterm.proofs.Flushed.{alters-none}
 use Rattle.strm_ldterm.proofs.Proceeding.{proceeds-alters}
@@ -34,7 +33,7 @@ use Rattle.strm_ldterm.proofs.Skipped.{left-all, left-none}
 use Rattle.strm_blocks.specs.declared.in_hand.InHand.{InHand}
 
 -- Another message has come for the one in work.
-module _ (s t : StoreValue) (x : Ldterm) (m r : InHand) (now : Message ℕ) (there : x.in_work ≡ Some m) (st : IsStore t) (held : IsHeld s x) (kept : AreIn s (λ _. 0) (keeps x)) (b : Becomes s t (token m) (token r) now) where
+module _ (s t : StoreValue) (x : Paired) (m r : InHand) (now : Message ℕ) (there : x.in_work ≡ Some m) (st : IsStore t) (held : IsHeld s x) (kept : AreIn s (λ _. 0) (keeps x)) (b : Becomes s t (token m) (token r) now) where
   rest-same : SameOwn s t (owns (record x { in_work = None })) (keeps (record x { in_work = None }))
   rest-same = record {
     lists = λ k some. ap (λ ls. slice_index_or ls k []) b.lists;
@@ -54,7 +53,7 @@ module _ (s t : StoreValue) (x : Ldterm) (m r : InHand) (now : Message ℕ) (the
   unfolding times_sent parcels_in AreChains
   work-comes f = record {
     state =
-        ap (λ (p : ldterms.Ldterm ℕ). record p { in_work = Some (message_in t (token r)) }) framed.0
+        ap (λ (p : ldterms.Discipline ℕ). record p { in_work = Some (message_in t (token r)) }) framed.0
         ∙ ap (λ (w : Message ℕ). record (ldterm_in s x) { in_work = Some w }) b.shows;
     noted = refl;
     parcels = refl;
@@ -80,7 +79,7 @@ module _ (s t : StoreValue) (x : Ldterm) (m r : InHand) (now : Message ℕ) (the
     pool = b.hands.pool;
   }
 
-module _ (s : StoreValue) (x : Ldterm) where
+module _ (s : StoreValue) (x : Paired) where
   -- nothing is in work
   pub idle-cells : x.in_work ≡ None → cells_left (ldterm_in s x) ≡ []
   idle-cells none = ap (λ o. cells_left (record (ldterm_in s x) { in_work = kept_in s o })) none
@@ -126,9 +125,9 @@ module _ (s : StoreValue) (x : Ldterm) where
     busy-byte (Some byte) held is = busy-cells ∙ is ∙ ap (λ c. byte ∷ drop 1 c) (sym busy-cells)
 
 -- A byte begins, and starts output or doesn't.
-module _ (s : StoreValue) (x : Ldterm) (here : Spot) (byte : ℕ) (v : Bool) (sent : List Sent) (f : Fates) (held : IsHeld s x)
+module _ (s : StoreValue) (x : Paired) (here : Spot) (byte : ℕ) (v : Bool) (sent : List Sent) (f : Fates) (held : IsHeld s x)
     (is : v ≡ (x.stopped && restarts x.termios (stroke_at cells.plain here byte (ldterm_in s x)))) where
-  by : Bool → Acted ℕ (ldterms.Ldterm ℕ)
+  by : Bool → Acted ℕ (ldterms.Discipline ℕ)
   by w = cond w
       (sends (onward Down here (bare Start []) ∷ []) (record (ldterm_in s x) { stopped = false; stage = ldterms.Begun true byte }))
       (sends [] (record (ldterm_in s x) { stage = ldterms.Begun false byte }))
@@ -152,7 +151,7 @@ module _ (s : StoreValue) (x : Ldterm) (here : Spot) (byte : ℕ) (v : Bool) (se
       (ap (λ w. record (ldterm_in s x) { stopped = false; stage = ldterms.Begun w byte }) starts) refl refl refl)
 
 -- more blocks may be taken than are
-pub takes-more : (s t : StoreValue) (x y : Ldterm) (n : ℕ) (sent : List Sent) (f f' : Fates) (is : Acted ℕ (ldterms.Ldterm ℕ)) → Proceeds s t x y n [] sent f f' is → Proceeds s t x y (n + 1) [] sent f f' is
+pub takes-more : (s t : StoreValue) (x y : Paired) (n : ℕ) (sent : List Sent) (f f' : Fates) (is : Acted ℕ (ldterms.Discipline ℕ)) → Proceeds s t x y n [] sent f f' is → Proceeds s t x y (n + 1) [] sent f f' is
 takes-more s t x y n sent f f' is did = record {
   state = did.state;
   noted = did.noted;
@@ -167,7 +166,7 @@ takes-more s t x y n sent f f' is did = record {
   pool = did.pool;
 }
 
-pub room-stays : (s t : StoreValue) (x y : Ldterm) (sent : List Sent) (f f' : Fates) (is : Acted ℕ (ldterms.Ldterm ℕ)) (n : ℕ) → Proceeds s t x y 0 [] sent f f' is → HasRoom s n → HasRoom t n
+pub room-stays : (s t : StoreValue) (x y : Paired) (sent : List Sent) (f f' : Fates) (is : Acted ℕ (ldterms.Discipline ℕ)) (n : ℕ) → Proceeds s t x y 0 [] sent f f' is → HasRoom s n → HasRoom t n
 room-stays s t x y sent f f' is n did room = record { mblks = (let a = did.mblks in let b = room.mblks in omega arith); dblks = (let a = did.dblks in let b = room.dblks in omega arith) }
 
 pub start-plain : is_data_kind Start ≡ false

@@ -9,10 +9,10 @@ use Rattle.strm_msg.specs.Messages.{message_of}
 use Rattle.strm_queue.specs.Stored.{queue_in, messages_on, Changes, FreesBlocks}
 use Rattle.strm_frame.specs.Hands.{once, CanPut, OnlyOwn, SameOwn}
 use Rattle.strm_frame.proofs.Handing.{once-self, once-apart}
-use Rattle.strm_ldterm.specs.declared.ldterm.Ldterm.{Ldterm}
-use Rattle.strm_ldterm.specs.Stands.{ldterm_in, owns, keeps, EndsPlain, IsHeld, IsData, IsGathered}
+use Rattle.strm_ldterm.specs.Stands.{ldterm_in, owns, keeps, EndsPlain, IsHeld, IsData, IsGathered, Paired}
 use Rattle.strm_ldterm.specs.Does.{Alters}
-use Rattle.strm_ldterm.specs.Frames.{kept-same, form-same, list-ready, each-same, data-same, gathered-same}
+use Rattle.strm_frame.specs.StandingLaws.{queue-ready}
+use Rattle.strm_ldterm.specs.Frames.{kept-same, form-same, each-same, data-same, gathered-same}
 
 -- a chain with a block is in hand
 times-some : (i : ℕ) (hand : List Held) → 0 < length (chain_in i hand) → 0 < times_in i hand
@@ -27,7 +27,7 @@ pub chain-in-hand : (s : StoreValue) (i : ℕ) → IsStore s → 0 < length (in_
 chain-in-hand s i st some = let few = st.apart i in let t = times-some i s.hand some in omega arith
 
 -- the turn's echo may end
-pub held-quieter : (s : StoreValue) (x : Ldterm) (v : Bool) → (v ≡ true → x.echoing ≡ true) → IsHeld s x → IsHeld s (record x { echoing = v })
+pub held-quieter : (s : StoreValue) (x : Paired) (v : Bool) → (v ≡ true → x.echoing ≡ true) → IsHeld s x → IsHeld s (record x { echoing = v })
 held-quieter s x v less held = record {
   read = held.read;
   write = held.write;
@@ -39,7 +39,7 @@ held-quieter s x v less held = record {
 }
 
 -- and then it may alter
-pub alters-quieter : (s t : StoreValue) (x z : Ldterm) (v : Bool) → Alters s t (record x { echoing = v }) z → Alters s t x z
+pub alters-quieter : (s t : StoreValue) (x z : Paired) (v : Bool) → Alters s t (record x { echoing = v }) z → Alters s t x z
 alters-quieter s t x z v a = record {
   held = a.held;
   own = record { lists = a.own.lists; owns_same = a.own.owns_same };
@@ -50,7 +50,7 @@ alters-quieter s t x z v a = record {
 }
 
 -- its read queue changed
-module _ (s t : StoreValue) (x : Ldterm) (q' : Queue) (held : IsHeld s x) (changes : Changes s t x.read_queue q') where
+module _ (s t : StoreValue) (x : Paired) (q' : Queue) (held : IsHeld s x) (changes : Changes s t x.read_queue q') where
   chains-up : (i : ℕ) → in_hand t i ≡ in_hand s i
   chains-up i = ap (λ h. chain_in i h) changes.hand
 
@@ -65,7 +65,7 @@ module _ (s t : StoreValue) (x : Ldterm) (q' : Queue) (held : IsHeld s x) (chang
   pub read-held : IsHeld t (record x { read_queue = q' })
   read-held = record {
     read = changes.ready;
-    write = list-ready s t x.write_queue writes-stay held.write;
+    write = queue-ready s t x.write_queue writes-stay held.write;
     apart = (let a = held.apart in let e = changes.list in omega arith);
     work = each-same s t IsData (data-same s t) x.in_work (λ i some. chains-up i) held.work;
     gathers = each-same s t IsGathered (gathered-same s t) x.gathered (λ i some. chains-up i) held.gathers;
@@ -90,7 +90,7 @@ module _ (s t : StoreValue) (x : Ldterm) (q' : Queue) (held : IsHeld s x) (chang
   }
 
 -- its write queue changed
-module _ (s t : StoreValue) (x : Ldterm) (q' : Queue) (held : IsHeld s x) (changes : Changes s t x.write_queue q') where
+module _ (s t : StoreValue) (x : Paired) (q' : Queue) (held : IsHeld s x) (changes : Changes s t x.write_queue q') where
   chains-down : (i : ℕ) → in_hand t i ≡ in_hand s i
   chains-down i = ap (λ h. chain_in i h) changes.hand
 
@@ -105,7 +105,7 @@ module _ (s t : StoreValue) (x : Ldterm) (q' : Queue) (held : IsHeld s x) (chang
   -- where the turn's echo stands last still
   pub write-held : (x.echoing ≡ true → is_some x.in_work ≡ true → EndsPlain (messages_on t q'.list)) → IsHeld t (record x { write_queue = q' })
   write-held ends = record {
-    read = list-ready s t x.read_queue reads-stay held.read;
+    read = queue-ready s t x.read_queue reads-stay held.read;
     write = changes.ready;
     apart = (let a = held.apart in let e = changes.list in omega arith);
     work = each-same s t IsData (data-same s t) x.in_work (λ i some. chains-down i) held.work;
@@ -131,7 +131,7 @@ module _ (s t : StoreValue) (x : Ldterm) (q' : Queue) (held : IsHeld s x) (chang
   }
 
 -- a message that it doesn't keep leaves the hand
-module _ (s : StoreValue) (x : Ldterm) (i : ℕ) (st : IsStore s) (can : CanPut s i (keeps x)) where
+module _ (s : StoreValue) (x : Paired) (i : ℕ) (st : IsStore s) (can : CanPut s i (keeps x)) where
   pub apart-kept : (j : ℕ) → 0 < keeps x j → i ≢ j
   apart-kept j some e = let a = can.apart j in let few = st.apart j in let one = once-self i in let o = ap (λ k. once i k) e in absurd (omega arith)
 

@@ -14,11 +14,10 @@ use Rattle.std.proofs.lemmas.Bool.Decides.{nat_tests}
 use Rattle.strm_frame.specs.declared.parcels.Sent.{Sent}
 use Rattle.strm_frame.specs.Hands.{HasRoom}
 use Rattle.strm_frame.specs.Serves.{least_free}
-use Rattle.strm_ldterm.specs.declared.ldterm.Ldterm.{Ldterm}
 use Rattle.strm_ldterm.specs.Called.{RunsInto}
 use Rattle.strm_ldterm.specs.Does.{Proceeds}
 use Rattle.strm_ldterm.specs.FreeBefore.{IsFreeBefore, all_free, blocks_grown}
-use Rattle.strm_ldterm.specs.Stands.{kept_in, ldterm_in, stage_in}
+use Rattle.strm_ldterm.specs.Stands.{kept_in, ldterm_in, stage_in, Paired}
 use Rattle.strm_ldterm.specs.Turns.{ahead, bytes_on, leaves, notes_left, stages_left, under_way}
 use Rattle.strm_ldterm.proofs.Counting.{ahead-reaches}
 use Rattle.strm_ldterm.proofs.FreeBefore.{each-more, free-next}
@@ -84,8 +83,8 @@ kept-some s None = refl
 kept-some s (Some m) = refl
 
 -- a message in work stays one
-pub still-works : (s t : StoreValue) (x x' : Ldterm) (p : ldterms.Ldterm ℕ) → ldterm_in t x' ≡ p → is_some p.in_work ≡ is_some (ldterm_in s x).in_work → is_some x.in_work ≡ true → is_some x'.in_work ≡ true
-still-works s t x x' p state same busy = sym (kept-some t x'.in_work) ∙ ap (λ (q : ldterms.Ldterm ℕ). is_some q.in_work) state ∙ same ∙ kept-some s x.in_work ∙ busy
+pub still-works : (s t : StoreValue) (x x' : Paired) (p : ldterms.Discipline ℕ) → ldterm_in t x' ≡ p → is_some p.in_work ≡ is_some (ldterm_in s x).in_work → is_some x.in_work ≡ true → is_some x'.in_work ≡ true
+still-works s t x x' p state same busy = sym (kept-some t x'.in_work) ∙ ap (λ (q : ldterms.Discipline ℕ). is_some q.in_work) state ∙ same ∙ kept-some s x.in_work ∙ busy
 
 pub left-none : (stage : ldterms.Stage ℕ) → stages_done stage ≡ 0 → stages_left stage ≡ 0
 left-none Between e = refl
@@ -93,10 +92,10 @@ left-none (Begun started c) e = absurd (omega arith)
 left-none (Answered echo) e = absurd (omega arith)
 
 -- between two bytes all that is left of the message is to be treated
-pub all-left : (p : ldterms.Ldterm ℕ) → stages_left p.stage ≡ 0 → to_treat p ≡ length (cells_left p)
+pub all-left : (p : ldterms.Discipline ℕ) → stages_left p.stage ≡ 0 → to_treat p ≡ length (cells_left p)
 all-left p none = (let z : to_treat (record p { stage = Between }) ≡ length (cells_left p) = omega arith in ap (λ (st : ldterms.Stage ℕ). to_treat (record p { stage = st })) (none-under-way p.stage none) ∙ z)
 
-pub one-more-left : (p : ldterms.Ldterm ℕ) → 0 < stages_left p.stage → to_treat p ≡ length (cells_left p) + 1
+pub one-more-left : (p : ldterms.Discipline ℕ) → 0 < stages_left p.stage → to_treat p ≡ length (cells_left p) + 1
 one-more-left p some = at p.stage refl some
   where
     at : (st : ldterms.Stage ℕ) → p.stage ≡ st → 0 < stages_left st → to_treat p ≡ length (cells_left p) + 1
@@ -104,7 +103,7 @@ one-more-left p some = at p.stage refl some
     at (Begun started c) is some = ap (λ (st : ldterms.Stage ℕ). to_treat (record p { stage = st })) is
     at (Answered echo) is some = ap (λ (st : ldterms.Stage ℕ). to_treat (record p { stage = st })) is
 
-notes-two : (p : ldterms.Ldterm ℕ) → notes_left p ≤ 2
+notes-two : (p : ldterms.Discipline ℕ) → notes_left p ≤ 2
 notes-two p = at p.stage p.echoing
   where
     at : (st : ldterms.Stage ℕ) (v : Bool) → notes_left (record p { stage = st; echoing = v }) ≤ 2
@@ -119,10 +118,10 @@ notes-two p = at p.stage p.echoing
 
 module _ (here : Spot) where
   -- no call notes more than twice
-  pub ahead-short : (n : ℕ) (p : ldterms.Ldterm ℕ) → n + stages_done p.stage ≤ 3 * to_treat p → length (ahead here n p).notes ≤ 2
+  pub ahead-short : (n : ℕ) (p : ldterms.Discipline ℕ) → n + stages_done p.stage ≤ 3 * to_treat p → length (ahead here n p).notes ≤ 2
   ahead-short n p room = let r = (ahead-reaches here n p room).counts.few in let two = notes-two p in omega arith
 
-  module _ (p : ldterms.Ldterm ℕ) (n : ℕ) (between : stages_left p.stage ≡ 0) (within : n ≤ length (cells_left p)) where
+  module _ (p : ldterms.Discipline ℕ) (n : ℕ) (between : stages_left p.stage ≡ 0) (within : n ≤ length (cells_left p)) where
     fits : 3 * n + stages_done p.stage ≤ 3 * to_treat p
     fits = let z = none-done p.stage between in let t = all-left p between in omega arith
 
@@ -142,7 +141,7 @@ module _ (here : Spot) where
         (stage, omega arith)
 
   -- a byte that has sent something is to be treated still
-  pub treat-after : (p : ldterms.Ldterm ℕ) → stages_left p.stage ≡ 0 → 0 < length (cells_left p) → is_none_left (ahead here 3 p).sent ≡ false → 0 < stages_left (ahead here 3 p).state.stage → to_treat (ahead here 3 p).state ≡ length (cells_left p)
+  pub treat-after : (p : ldterms.Discipline ℕ) → stages_left p.stage ≡ 0 → 0 < length (cells_left p) → is_none_left (ahead here 3 p).sent ≡ false → 0 < stages_left (ahead here 3 p).state.stage → to_treat (ahead here 3 p).state ≡ length (cells_left p)
   treat-after p between some sent under =
       let z = none-done p.stage between in
       let t = all-left p between in
@@ -156,11 +155,11 @@ module _ (here : Spot) where
       omega arith
 
   -- the message in work stays one
-  pub work-after : (n : ℕ) (p : ldterms.Ldterm ℕ) → n + stages_done p.stage ≤ 3 * to_treat p → is_some (ahead here n p).state.in_work ≡ is_some p.in_work
+  pub work-after : (n : ℕ) (p : ldterms.Discipline ℕ) → n + stages_done p.stage ≤ 3 * to_treat p → is_some (ahead here n p).state.in_work ≡ is_some p.in_work
   work-after n p room = (ahead-reaches here n p room).counts.work
 
 -- all that is free may be said to be taken
-pub takes-any : (s0 s : StoreValue) (x0 x : Ldterm) (k : ℕ) (notes : List Note) (sent : List Sent) (t0 t : Fates) (is : Acts) → Proceeds s0 s x0 x k notes sent t0 t is → Proceeds s0 s x0 x (all_free s0) notes sent t0 t is
+pub takes-any : (s0 s : StoreValue) (x0 x : Paired) (k : ℕ) (notes : List Note) (sent : List Sent) (t0 t : Fates) (is : Acts) → Proceeds s0 s x0 x k notes sent t0 t is → Proceeds s0 s x0 x (all_free s0) notes sent t0 t is
 takes-any s0 s x0 x k notes sent t0 t is a = record {
   state = a.state;
   noted = a.noted;
@@ -176,7 +175,7 @@ takes-any s0 s x0 x k notes sent t0 t is a = record {
 }
 
 -- Of so many bytes some were treated, and nothing was sent.
-pub record Ran (s0 s : StoreValue) (here : Spot) (x0 x : Ldterm) (bytes left : ℕ) (notes : List Note) (t0 t : Fates) : Type 0 where
+pub record Ran (s0 s : StoreValue) (here : Spot) (x0 x : Paired) (bytes left : ℕ) (notes : List Note) (t0 t : Fates) : Type 0 where
   pub fewer : left ≤ bytes
   pub does : Proceeds s0 s x0 x (all_free s0) notes [] t0 t (ahead here (3 * (bytes - left)) (ldterm_in s0 x0))
   pub begun : (byte : ℕ) → byte < bytes - left → IsFreeBefore s0 x0 t0 (bytes_on here) (ldterm_in s0 x0) byte
@@ -184,7 +183,7 @@ pub record Ran (s0 s : StoreValue) (here : Spot) (x0 x : Ldterm) (bytes left : �
   pub some : (left < bytes) ⊎ (HasRoom s0 STOP_BLOCKS → HasRoom s STOP_BLOCKS)
 
 -- none was treated yet
-pub ran-none : (s0 : StoreValue) (here : Spot) (x0 : Ldterm) (bytes : ℕ) (t0 : Fates) → Proceeds s0 s0 x0 x0 0 [] [] t0 t0 (ldterms.sends [] (ldterm_in s0 x0)) → HasRoom s0 1 → Ran s0 s0 here x0 x0 bytes bytes [] t0 t0
+pub ran-none : (s0 : StoreValue) (here : Spot) (x0 : Paired) (bytes : ℕ) (t0 : Fates) → Proceeds s0 s0 x0 x0 0 [] [] t0 t0 (ldterms.sends [] (ldterm_in s0 x0)) → HasRoom s0 1 → Ran s0 s0 here x0 x0 bytes bytes [] t0 t0
 ran-none s0 here x0 bytes t0 still room = record {
   room = room;
   some = inr (λ many. many);
@@ -193,12 +192,12 @@ ran-none s0 here x0 bytes t0 still room = record {
   does = (let zero : 0 ≡ 3 * (bytes - bytes) = omega arith in takes-any s0 s0 x0 x0 0 [] [] t0 t0 (ahead here (3 * (bytes - bytes)) (ldterm_in s0 x0)) (subst (λ n. Proceeds s0 s0 x0 x0 0 [] [] t0 t0 (ahead here n (ldterm_in s0 x0))) zero still));
 }
 
-module _ (s0 s : StoreValue) (x0 x : Ldterm) (here : Spot) (bytes left : ℕ) (notes : List Note) (t0 t : Fates) (stage : stages_left (stage_in x0.stage) ≡ 0)
+module _ (s0 s : StoreValue) (x0 x : Paired) (here : Spot) (bytes left : ℕ) (notes : List Note) (t0 t : Fates) (stage : stages_left (stage_in x0.stage) ≡ 0)
     (size : bytes ≡ length (cells_left (ldterm_in s0 x0))) (r : Ran s0 s here x0 x bytes left notes t0 t) where
-  abbrev p0 : ldterms.Ldterm ℕ
+  abbrev p0 : ldterms.Discipline ℕ
   p0 = ldterm_in s0 x0
 
-  abbrev p : ldterms.Ldterm ℕ
+  abbrev p : ldterms.Discipline ℕ
   p = ldterm_in s x
 
   abbrev n : ℕ
@@ -211,11 +210,11 @@ module _ (s0 s : StoreValue) (x0 x : Ldterm) (here : Spot) (bytes left : ℕ) (n
   within = let z = size in omega arith
 
   pub ran-stage : stages_left (stage_in x.stage) ≡ 0
-  ran-stage = ap (λ (q : ldterms.Ldterm ℕ). stages_left q.stage) r.does.state ∙ (between-after here p0 n stage within none).0
+  ran-stage = ap (λ (q : ldterms.Discipline ℕ). stages_left q.stage) r.does.state ∙ (between-after here p0 n stage within none).0
 
   pub ran-left : length (cells_left p) ≡ left
   ran-left =
-      let same = ap (λ (q : ldterms.Ldterm ℕ). length (cells_left q)) r.does.state in
+      let same = ap (λ (q : ldterms.Discipline ℕ). length (cells_left q)) r.does.state in
       let after = (between-after here p0 n stage within none).1 in
       let z = size in
       let f = r.fewer in
@@ -246,7 +245,7 @@ module _ (s0 s : StoreValue) (x0 x : Ldterm) (here : Spot) (bytes left : ℕ) (n
   short = let f = fits here p0 n stage within in let a = ahead-short here (3 * n) p0 f in let e = ap length r.does.noted in omega arith
 
   -- and so many more, in blocks of which so many are taken
-  module _ (s' : StoreValue) (x' : Ldterm) (k j : ℕ) (notes' : List Note) (sent' : List Sent) (t' : Fates) (most : j ≤ left) (b : Proceeds s s' x x' k notes' sent' t t' (ahead here (3 * j) p)) where
+  module _ (s' : StoreValue) (x' : Paired) (k j : ℕ) (notes' : List Note) (sent' : List Sent) (t' : Fates) (most : j ≤ left) (b : Proceeds s s' x x' k notes' sent' t t' (ahead here (3 * j) p)) where
     more : 3 * j + stages_done p.stage ≤ 3 * to_treat p
     more = let z = none-done p.stage ran-stage in let a = all-left p ran-stage in let l = ran-left in omega arith
 
@@ -283,14 +282,14 @@ module _ (s0 s : StoreValue) (x0 x : Ldterm) (here : Spot) (bytes left : ℕ) (n
       }
 
   -- a run of so many, and all that is noted
-  pub ran-run : (s' : StoreValue) (x' : Ldterm) (j : ℕ) (notes' all : List Note) (t' : Fates) → IsStore s → j ≤ length (cells_left p) → all ≡ notes ++ notes' → Proceeds s s' x x' 2 notes' [] t t' (ahead here (3 * j) p)
+  pub ran-run : (s' : StoreValue) (x' : Paired) (j : ℕ) (notes' all : List Note) (t' : Fates) → IsStore s → j ≤ length (cells_left p) → all ≡ notes ++ notes' → Proceeds s s' x x' 2 notes' [] t t' (ahead here (3 * j) p)
       → HasRoom s STOP_BLOCKS → ((byte : ℕ) → byte < j → HasRoom s (STOP_BLOCKS + blocks_grown p (bytes_on here byte p).state)) → (HasRoom s STOP_BLOCKS → HasRoom s' STOP_BLOCKS)
       → Ran s0 s' here x0 x' bytes (left - j) all t0 t'
   ran-run s' x' j notes' all t' st within joined b many begins stays =
       subst (λ ns. Ran s0 s' here x0 x' bytes (left - j) ns t0 t') (sym joined) (ran-next s' x' 2 j notes' [] t' (let l = ran-left in omega arith) b st refl many (omega arith) begins (inr stays))
 
   -- or one that has sent something
-  pub runs-into : (s' : StoreValue) (x' : Ldterm) (notes' : List Note) (sent' : List Sent) (t' : Fates) → 0 < left → HasRoom s STOP_BLOCKS → Proceeds s s' x x' 27 notes' sent' t t' (ahead here 3 p) → IsStore s
+  pub runs-into : (s' : StoreValue) (x' : Paired) (notes' : List Note) (sent' : List Sent) (t' : Fates) → 0 < left → HasRoom s STOP_BLOCKS → Proceeds s s' x x' 27 notes' sent' t t' (ahead here 3 p) → IsStore s
       → is_none_left sent' ≡ false → HasRoom s' (leaves (stage_in x'.stage)) × (0 < stages_left (stage_in x'.stage)) → RunsInto s0 s' here x0 x' bytes left (notes ++ notes') sent' t0 t'
   runs-into s' x' notes' sent' t' some many b st sent behind = record {
     begun = λ byte within. begun-on 1 (begun-one many) byte (omega arith);
@@ -303,7 +302,7 @@ module _ (s0 s : StoreValue) (x0 x : Ldterm) (here : Spot) (bytes left : ℕ) (n
     treat =
         (let q = (ahead here 3 p).state in
         let out : is_none_left (ahead here 3 p).sent ≡ false = sym (ap is_none_left b.parcels) ∙ parcels-none s' sent' ∙ sent in
-        let under : 0 < stages_left q.stage = (let e = ap (λ (v : ldterms.Ldterm ℕ). stages_left v.stage) b.state in let u = behind.1 in omega arith) in
+        let under : 0 < stages_left q.stage = (let e = ap (λ (v : ldterms.Discipline ℕ). stages_left v.stage) b.state in let u = behind.1 in omega arith) in
         let l = ran-left in
         ap to_treat b.state ∙ treat-after here p ran-stage (omega arith) out under ∙ l);
   }

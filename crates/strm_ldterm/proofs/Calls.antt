@@ -21,12 +21,11 @@ use Rattle.strm_frame.specs.declared.service.Served.{Served}
 use Rattle.strm_frame.specs.Hands.{HasRoom}
 use Rattle.strm_frame.specs.Outboxes.{sent_of}
 use Rattle.strm_frame.specs.Serves.{least_free, stop_at, stop_of}
-use Rattle.strm_ldterm.specs.declared.ldterm.Ldterm.{Ldterm}
 use Rattle.strm_ldterm.specs.Called.{EndsAt, RunsOut, RunsInto, TreatsAs, begun_in, treated_by}
 use Rattle.strm_ldterm.specs.Does.{Proceeds}
 use Rattle.strm_queue.specs.Stored.{FreesNone}
 use Rattle.strm_ldterm.specs.FreeBefore.{IsFreeBefore, all_free}
-use Rattle.strm_ldterm.specs.Stands.{ldterm_in, stage_in}
+use Rattle.strm_ldterm.specs.Stands.{ldterm_in, stage_in, Paired}
 use Rattle.strm_ldterm.specs.Turns.{ahead, bytes_on, leaves, one_after, stages_left, under_way}
 use Rattle.strm_ldterm.proofs.Bytes.{ahead-short, all-left, between-after, done-few, kept-some, leaves-one, left-few, left-none, lower, none-begun, none-done, one-begun, one-more-left, some-done, takes-any, work-after}
 use Rattle.strm_ldterm.proofs.Counting.{ahead-reaches}
@@ -35,8 +34,8 @@ use Rattle.strm_ldterm.proofs.Joining.{nothing-sent, parcels-none, proceeds-join
 use Rattle.strm_ldterm.proofs.Turning.{Acts, ahead-more, ends, ends-more}
 
 -- calls of the procedure
-module _ (here : Spot) (p : ldterms.Ldterm ℕ) where
-  abbrev served_with : ℕ → Acts → Serving ℕ (ldterms.Ldterm ℕ)
+module _ (here : Spot) (p : ldterms.Discipline ℕ) where
+  abbrev served_with : ℕ → Acts → Serving ℕ (ldterms.Discipline ℕ)
   served_with bytes t = record { acted = t; bytes = cond (is_some t.state.in_work) (to_treat p - to_treat t.state) bytes; again = is_some t.state.in_work }
 
   -- where something is sent
@@ -60,9 +59,9 @@ module _ (here : Spot) (p : ldterms.Ldterm ℕ) where
       ∙ ap (λ v. record { acted = one_after t (finished plain here); bytes = cond v (to_treat p - to_treat (one_after t (finished plain here)).state) bytes; again = v })
       (ap (λ v. is_some (cond {A = Acts} v (let u = finished plain here t.state in record { state = u.state; notes = t.notes ++ u.notes; sent = u.sent; gone = t.gone ++ u.gone }) t).state.in_work) none)
 
-module _ (s s' : StoreValue) (here : Spot) (x x' : Ldterm) (t t' : Fates) where
+module _ (s s' : StoreValue) (here : Spot) (x x' : Paired) (t t' : Fates) where
   -- what a call did, where the definition comes to this
-  pub treats-as : (served : Served) (v : Serving ℕ (ldterms.Ldterm ℕ)) → treated_by s s' here x x' (stop_of served) ≡ v
+  pub treats-as : (served : Served) (v : Serving ℕ (ldterms.Discipline ℕ)) → treated_by s s' here x x' (stop_of served) ≡ v
       → Proceeds s s' x x' (all_free s) served.acts.notes.items (sent_of served.acts.sent) t t' v.acted → served.bytes ≡ v.bytes → served.again ≡ v.again → (served.stopped ≡ true → (least_free s' < STOP_BLOCKS) × (served.again ≡ false))
       → ((byte : ℕ) → byte < begun_in served.bytes served.again (under_way (stage_in x.stage)) → IsFreeBefore s x t (bytes_on here) (ldterm_in s x) byte)
       → (served.stopped ≡ true → EndsAt s s' here x x' served.bytes) → to_treat (ldterm_in s' x') ≤ to_treat (ldterm_in s x) → HasRoom s' (leaves (stage_in x'.stage))
@@ -70,16 +69,16 @@ module _ (s s' : StoreValue) (here : Spot) (x x' : Ldterm) (t t' : Fates) where
   treats-as served v is does bytes again stops begun ends less room some = record {
     some = some;
     begun = begun;
-    does = subst (λ (w : Serving ℕ (ldterms.Ldterm ℕ)). Proceeds s s' x x' (all_free s) served.acts.notes.items (sent_of served.acts.sent) t t' w.acted) (sym is) does;
-    bytes = bytes ∙ sym (ap (λ (w : Serving ℕ (ldterms.Ldterm ℕ)). w.bytes) is);
-    again = again ∙ sym (ap (λ (w : Serving ℕ (ldterms.Ldterm ℕ)). w.again) is);
+    does = subst (λ (w : Serving ℕ (ldterms.Discipline ℕ)). Proceeds s s' x x' (all_free s) served.acts.notes.items (sent_of served.acts.sent) t t' w.acted) (sym is) does;
+    bytes = bytes ∙ sym (ap (λ (w : Serving ℕ (ldterms.Discipline ℕ)). w.bytes) is);
+    again = again ∙ sym (ap (λ (w : Serving ℕ (ldterms.Discipline ℕ)). w.again) is);
     stops = stops;
     ends = ends;
     less = less;
     room = room;
   }
 
-  abbrev from : ldterms.Ldterm ℕ
+  abbrev from : ldterms.Discipline ℕ
   from = ldterm_in s x
 
   -- from between two bytes on, where one has sent something
@@ -99,7 +98,7 @@ module _ (s s' : StoreValue) (here : Spot) (x x' : Ldterm) (t t' : Fates) where
       r.does (omega arith) refl (λ e. absurd (false≢true e)) (λ byte within. r.begun byte (let u = none-begun (stage_in x.stage) between in omega arith)) (λ e. absurd (false≢true e)) (omega arith) r.room (λ e. absurd (false≢true e))
 
   -- and where nothing was sent, to the end of the call
-  pub out-treats : (bytes left : ℕ) (notes : ArrayVec Note) (sent : Outbox) (s1 : StoreValue) (x1 : Ldterm) (t1 : Fates) → IsStore s1 → stages_left (stage_in x.stage) ≡ 0 → bytes ≡ length (cells_left from)
+  pub out-treats : (bytes left : ℕ) (notes : ArrayVec Note) (sent : Outbox) (s1 : StoreValue) (x1 : Paired) (t1 : Fates) → IsStore s1 → stages_left (stage_in x.stage) ≡ 0 → bytes ≡ length (cells_left from)
       → RunsOut s s1 here x x1 bytes left notes.items t t1 → Proceeds s1 s' x1 x' 0 [] (sent_of sent) t1 t' (finished plain here (ldterm_in s1 x1))
       → (0 < length (cells_left (ldterm_in s1 x1)) → FreesNone s1 s')
       → TreatsAs s s' here x x' (record { acts = record { notes = notes; sent = sent }; bytes = bytes - left; stopped = nat_lt 0 left; again = false }) t t'
@@ -112,9 +111,9 @@ module _ (s s' : StoreValue) (here : Spot) (x x' : Ldterm) (t t' : Fates) where
       let stop : unwrap_or (stop_at (nat_lt 0 left) (bytes - left)) (to_treat from) ≡ bytes - left = at (nat_lt 0 left) refl (r.fewer, (let z = none-done from.stage between in let a = all-left from between in omega arith)) in
       let all = takes-any s s' x x' (all_free s + 0) (notes.items ++ []) (sent_of sent) t t' _ (proceeds-joined s s1 x x1 (all_free s) notes.items t t1 (ahead here n from) st r.does s' x' 0 [] (sent_of sent) t' (finished plain here) e) in
       let over : to_treat (ldterm_in s' x') ≡ 0 = ap to_treat e.state in
-      let stage : leaves (stage_in x'.stage) ≡ 1 = ap (λ (q : ldterms.Ldterm ℕ). leaves q.stage) e.state in
+      let stage : leaves (stage_in x'.stage) ≡ 1 = ap (λ (q : ldterms.Discipline ℕ). leaves q.stage) e.state in
       let after = (between-after here from (bytes - left) between (omega arith) none).1 in
-      let same = ap (λ (q : ldterms.Ldterm ℕ). length (cells_left q)) r.does.state in
+      let same = ap (λ (q : ldterms.Discipline ℕ). length (cells_left q)) r.does.state in
       let few : 0 < left → least_free s' < STOP_BLOCKS = λ some. stays-few s1 s' STOP_BLOCKS (frees (omega arith)) (r.stops some) in
       treats-as (record { acts = record { notes = notes; sent = sent }; bytes = bytes - left; stopped = nat_lt 0 left; again = false }) _
       (ap (λ k. treats plain here k 0 from) stop ∙ treats-ended here from n (bytes - left) (omega arith) none)
@@ -156,7 +155,7 @@ module _ (s s' : StoreValue) (here : Spot) (x x' : Ldterm) (t t' : Fates) where
     resumed-short = let e = ap length a.noted in let two = ahead-short here (stages_left from.stage) from enough in omega arith
 
     pub resumed-work : is_some x.in_work ≡ true → is_some x'.in_work ≡ true
-    resumed-work work = sym (kept-some s' x'.in_work) ∙ ap (λ (q : ldterms.Ldterm ℕ). is_some q.in_work) a.state ∙ work-after here (stages_left from.stage) from enough ∙ kept-some s x.in_work ∙ work
+    resumed-work work = sym (kept-some s' x'.in_work) ∙ ap (λ (q : ldterms.Discipline ℕ). is_some q.in_work) a.state ∙ work-after here (stages_left from.stage) from enough ∙ kept-some s x.in_work ∙ work
 
     pub resumed-between : sent ≡ [] → stages_left (stage_in x'.stage) ≡ 0
     resumed-between quiet =
@@ -168,7 +167,7 @@ module _ (s s' : StoreValue) (here : Spot) (x x' : Ldterm) (t t' : Fates) where
         let d = some-done from.stage under in
         let two = done-few q.stage in
         let zero : stages_done q.stage ≡ 0 = omega arith in
-        ap (λ (v : ldterms.Ldterm ℕ). stages_left v.stage) a.state ∙ left-none q.stage zero
+        ap (λ (v : ldterms.Discipline ℕ). stages_left v.stage) a.state ∙ left-none q.stage zero
 
   -- from within a byte on, which has sent something
   pub resumed-sends : (acts : frame.Acts) → 0 < stages_left (stage_in x.stage) → is_some from.in_work ≡ true → is_none_left (sent_of acts.sent) ≡ false
@@ -185,7 +184,7 @@ module _ (s s' : StoreValue) (here : Spot) (x x' : Ldterm) (t t' : Fates) where
       let e = reach.counts.left in
       let w = reach.within in
       let o = reach.some out in
-      let stage : stages_left q.stage ≡ 1 = sym (ap (λ (v : ldterms.Ldterm ℕ). stages_left v.stage) a.state) ∙ behind.1 in
+      let stage : stages_left q.stage ≡ 1 = sym (ap (λ (v : ldterms.Discipline ℕ). stages_left v.stage) a.state) ∙ behind.1 in
       let k = some-done q.stage (omega arith) in
       let few = left-few from.stage in
       let same : to_treat q ≡ to_treat from = omega arith in
@@ -197,7 +196,7 @@ module _ (s s' : StoreValue) (here : Spot) (x x' : Ldterm) (t t' : Fates) where
       (treats-sent here from n (3 * (to_treat from - 1)) (to_treat from) (omega arith) out room work)
       (takes-any s s' x x' 26 acts.notes.items (sent_of acts.sent) t t' (ahead here n from) a) (omega arith) refl (λ v. absurd (false≢true v)) (λ byte within. absurd (let u = one-begun (stage_in x.stage) under in omega arith)) (λ v. absurd (false≢true v)) (omega arith) (record { mblks = omega arith; dblks = omega arith }) (λ v. absurd (false≢true v))
 
-module _ (s s1 s' : StoreValue) (here : Spot) (x x1 x' : Ldterm) (t t1 t' : Fates) where
+module _ (s s1 s' : StoreValue) (here : Spot) (x x1 x' : Paired) (t t1 t' : Fates) where
   -- before a byte that comes behind what was left of one
   begun-behind : (notes : List Note) (byte : ℕ) → IsStore s1 → Proceeds s s1 x x1 26 notes [] t t1 (ahead here (stages_left (stage_in x.stage)) (ldterm_in s x)) → stages_left (stage_in x1.stage) ≡ 0
       → IsFreeBefore s1 x1 t1 (bytes_on here) (ldterm_in s1 x1) byte → IsFreeBefore s x t (bytes_on here) (ldterm_in s x) byte
@@ -238,7 +237,7 @@ module _ (s s1 s' : StoreValue) (here : Spot) (x x1 x' : Ldterm) (t t1 t' : Fate
       let e = reach.counts.left in
       let two = done-few (ahead here n p).state.stage in
       let same = ap to_treat a.state in
-      let rest = ap (λ (q : ldterms.Ldterm ℕ). stages_done q.stage) a.state in
+      let rest = ap (λ (q : ldterms.Discipline ℕ). stages_done q.stage) a.state in
       let one : to_treat p ≡ to_treat p1 + 1 = omega arith in
       let zero : stages_done p1.stage ≡ 0 = omega arith in
       let k = unwrap_or (stop_of served) (to_treat p1) in
@@ -250,18 +249,18 @@ module _ (s s1 s' : StoreValue) (here : Spot) (x x1 x' : Ldterm) (t t1 t' : Fate
       ap (λ j. ends here j p) (let h : 3 * (k + 1) - stages_done p.stage ≡ n + 3 * k = omega arith in h)
       ∙ ends-more here n (3 * k) p
       ∙ ap (λ v. cond {A = Acts} v (next (ends here (3 * k) (ahead here n p).state)) (ahead here n p)) none
-      ∙ ap (λ (q : ldterms.Ldterm ℕ). next (ends here (3 * k) q)) (sym a.state) in
-      let does = subst (λ (v : Serving ℕ (ldterms.Ldterm ℕ)). Proceeds s1 s' x1 x' (all_free s1) served.acts.notes.items (sent_of served.acts.sent) t1 t' v.acted) rest-is b.does in
+      ∙ ap (λ (q : ldterms.Discipline ℕ). next (ends here (3 * k) q)) (sym a.state) in
+      let does = subst (λ (v : Serving ℕ (ldterms.Discipline ℕ)). Proceeds s1 s' x1 x' (all_free s1) served.acts.notes.items (sent_of served.acts.sent) t1 t' v.acted) rest-is b.does in
       let behind = ap to_treat does.state in
       let less = b.less in
-      let count : served.bytes ≡ cond (is_some u.state.in_work) (to_treat p1 - to_treat u.state) k = b.bytes ∙ ap (λ (v : Serving ℕ (ldterms.Ldterm ℕ)). v.bytes) rest-is in
-      let again : served.again ≡ is_some u.state.in_work = b.again ∙ ap (λ (v : Serving ℕ (ldterms.Ldterm ℕ)). v.again) rest-is in
+      let count : served.bytes ≡ cond (is_some u.state.in_work) (to_treat p1 - to_treat u.state) k = b.bytes ∙ ap (λ (v : Serving ℕ (ldterms.Discipline ℕ)). v.bytes) rest-is in
+      let again : served.again ≡ is_some u.state.in_work = b.again ∙ ap (λ (v : Serving ℕ (ldterms.Discipline ℕ)). v.again) rest-is in
       let joined = takes-any s s' x x' (26 + all_free s1) (notes ++ served.acts.notes.items) (sent_of served.acts.sent) t t' _ (proceeds-joined s s1 x x1 26 notes t t1 (ahead here n p) st a s' x' (all_free s1) served.acts.notes.items (sent_of served.acts.sent) t' (ends here (3 * k)) does) in
       treats-as s s' here x x' t t' (record { acts = record { notes = all; sent = served.acts.sent }; bytes = served.bytes + 1; stopped = served.stopped; again = served.again }) (served_with here p (k + 1) (next u))
       (ap (λ j. treats plain here j 0 p) more ∙ ap (served_with here p (k + 1)) going)
       (subst (λ ns. Proceeds s s' x x' (all_free s) ns (sent_of served.acts.sent) t t' (next u)) (sym noted)
       (subst (Proceeds s s' x x' (all_free s) (notes ++ served.acts.notes.items) (sent_of served.acts.sent) t t')
-      (ap (λ v. cond {A = Acts} v (next (ends here (3 * k) (ahead here n p).state)) (ahead here n p)) none ∙ ap (λ (q : ldterms.Ldterm ℕ). next (ends here (3 * k) q)) (sym a.state)) joined))
+      (ap (λ v. cond {A = Acts} v (next (ends here (3 * k) (ahead here n p).state)) (ahead here n p)) none ∙ ap (λ (q : ldterms.Discipline ℕ). next (ends here (3 * k) q)) (sym a.state)) joined))
       (ap (λ j. j + 1) count ∙ plus (is_some u.state.in_work) (to_treat u.state) (to_treat p1) (to_treat p) k (omega arith) one)
       again b.stops
       (λ byte within.

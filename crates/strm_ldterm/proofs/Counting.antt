@@ -11,7 +11,8 @@ use Rattle.strm_types.specs.declared.spots.Spot.{Spot}
 use Rattle.strm_types.specs.Cells.{plain, cells_made}
 use Rattle.strm_types.specs.Input.{begins_next, cells_left, next_stage, stage_at, stages_done, to_treat, with_left}
 use Rattle.strm_types.specs.Keys.{restarts}
-use Rattle.strm_types.specs.Ldterms.{Ldterm, Stage, Between, Begun, Answered, onward, sends}
+use Rattle.strm_types.specs.Deliver.{onward}
+use Rattle.strm_types.specs.Ldterms.{Discipline, Stage, Between, Begun, Answered, sends}
 use Rattle.strm_types.specs.Message.{Message, cells_of}
 use Rattle.strm_types.specs.Queue.{is_none_left, is_full, put_enables}
 use Rattle.strm_types.specs.Typing.{bare, begins, echoed, echo_dir, echo_grows, echo_lost, echo_stands, is_lnext, stroke_at, strikes, struck, wakes}
@@ -21,18 +22,18 @@ use Rattle.strm_ldterm.specs.Turns.{ahead, notes_left}
 use Rattle.strm_ldterm.proofs.Turning.{Acts}
 
 -- A stage leaves as much to treat as it has to, and tells of no more than it may.
-pub record Counts (n : ℕ) (p : Ldterm ℕ) (t : Acts) : Type 0 where
+pub record Counts (n : ℕ) (p : Discipline ℕ) (t : Acts) : Type 0 where
   pub work : is_some t.state.in_work ≡ is_some p.in_work
   pub left : 3 * to_treat t.state + (stages_done p.stage + n) ≡ 3 * to_treat p + stages_done t.state.stage
   pub few : length t.notes ≤ notes_left p
   pub more : is_none_left t.sent ≡ true → length t.notes + notes_left t.state ≤ notes_left p
 
-abbrev of_stage : Ldterm ℕ → Stage ℕ → Ldterm ℕ
+abbrev of_stage : Discipline ℕ → Stage ℕ → Discipline ℕ
 of_stage p stage = record p { stage = stage }
 
 module _ (here : Spot) where
   -- a byte that is taken off the message in work
-  left-one : (p : Ldterm ℕ) (c : ℕ) (rest : List ℕ) → cells_left p ≡ c ∷ rest → (length (cells_left (with_left rest p)) ≡ length rest) × (is_some (with_left rest p).in_work ≡ is_some p.in_work)
+  left-one : (p : Discipline ℕ) (c : ℕ) (rest : List ℕ) → cells_left p ≡ c ∷ rest → (length (cells_left (with_left rest p)) ≡ length rest) × (is_some (with_left rest p).in_work ≡ is_some p.in_work)
   unfolding cells_of
   left-one p c rest is = at p.in_work is
     where
@@ -41,7 +42,7 @@ module _ (here : Spot) where
       at None is = absurd (let none = ap length is in omega arith)
       at (Some m) is = (refl, refl)
 
-  begins-counts : (p : Ldterm ℕ) (c : ℕ) (rest : List ℕ) → p.stage ≡ Between → cells_left p ≡ c ∷ rest → Counts 1 p (begins plain here c (with_left rest p))
+  begins-counts : (p : Discipline ℕ) (c : ℕ) (rest : List ℕ) → p.stage ≡ Between → cells_left p ≡ c ∷ rest → Counts 1 p (begins plain here c (with_left rest p))
   begins-counts p c rest between is = at (p.stopped && restarts p.termios (stroke_at plain here c (with_left rest p)))
     where
       total : to_treat p ≡ length (c ∷ rest)
@@ -62,7 +63,7 @@ module _ (here : Spot) where
       at true = record { work = one.1; left = (let e = one.0 in let t = total in let z = none in omega arith); few = omega arith; more = λ e. absurd (false≢true e) }
       at false = record { work = one.1; left = (let e = one.0 in let t = total in let z = none in omega arith); few = omega arith; more = λ e. (let m = may in omega arith) }
 
-  wakes-few : (started : Bool) (c : ℕ) (p : Ldterm ℕ) → length (wakes plain here started p) + notes_left (of_stage p (Answered [])) ≤ notes_left (of_stage p (Begun started c))
+  wakes-few : (started : Bool) (c : ℕ) (p : Discipline ℕ) → length (wakes plain here started p) + notes_left (of_stage p (Answered [])) ≤ notes_left (of_stage p (Begun started c))
   wakes-few true c p = at (not (is_none_left p.write_queue.messages))
     where
       at : (some : Bool) → length (cond {A = List Note} some (Enable Down ∷ []) []) + notes_left (of_stage p (Answered [])) ≤ notes_left (of_stage p (Begun true c))
@@ -70,11 +71,11 @@ module _ (here : Spot) where
       at false = omega arith
   wakes-few false c p = omega arith
 
-  struck-counts : (p : Ldterm ℕ) (started : Bool) (c : ℕ) → p.stage ≡ Begun started c → Counts 1 p (struck plain here started c p)
+  struck-counts : (p : Discipline ℕ) (started : Bool) (c : ℕ) → p.stage ≡ Begun started c → Counts 1 p (struck plain here started c p)
   struck-counts p started c begun =
       let stroke = stroke_at plain here c p in
       let q = record p { after_lnext = is_lnext stroke.key } in
-      let stays = strikes-stay plain here (λ (l : Ldterm ℕ). (l.in_work ≡ p.in_work) × (l.echoing ≡ p.echoing)) (λ l stopped line gathered holds. holds) stroke.key (plain.mapped stroke.byte c) q (refl, refl) in
+      let stays = strikes-stay plain here (λ (l : Discipline ℕ). (l.in_work ≡ p.in_work) × (l.echoing ≡ p.echoing)) (λ l stopped line gathered holds. holds) stroke.key (plain.mapped stroke.byte c) q (refl, refl) in
       let t = strikes plain here stroke.key (plain.mapped stroke.byte c) q in
       let same : length (cells_left t.state) ≡ length (cells_left p) = ap (λ (w : Option (Message ℕ)). length (cells_left (record p { in_work = w }))) stays.0 in
       let total : to_treat p ≡ length (cells_left p) + 1 = ap (λ (s : Stage ℕ). to_treat (of_stage p s)) begun in
@@ -84,7 +85,7 @@ module _ (here : Spot) where
       let left : notes_left (of_stage t.state (Answered [])) ≡ notes_left (of_stage p (Answered [])) = ap (λ (v : Bool). notes_left (record (of_stage p (Answered [])) { echoing = v })) stays.1 in
       record { work = ap is_some stays.0; left = omega arith; few = omega arith; more = λ e. omega arith }
 
-  echoed-counts : (p : Ldterm ℕ) (echo : List ℕ) → p.stage ≡ Answered echo → Counts 1 p (echoed plain here 0 echo (of_stage p Between))
+  echoed-counts : (p : Discipline ℕ) (echo : List ℕ) → p.stage ≡ Answered echo → Counts 1 p (echoed plain here 0 echo (of_stage p Between))
   echoed-counts p echo answered = by echo
     where
       total : to_treat p ≡ length (cells_left p) + 1
@@ -113,7 +114,7 @@ module _ (here : Spot) where
       by [] = record { work = refl; left = (let t = total in let z = two in omega arith); few = omega arith; more = λ e. (let m = may in omega arith) }
       by (b ∷ bytes) = at (cells_made plain (echo_dir plain here) 0 (b ∷ bytes)) (is_full 0 p.write_queue) p.echoing refl
 
-  next-counts : (p : Ldterm ℕ) → 0 < to_treat p → Counts 1 p (next_stage plain here 0 p)
+  next-counts : (p : Discipline ℕ) → 0 < to_treat p → Counts 1 p (next_stage plain here 0 p)
   next-counts p some = at p.stage refl
     where
       left : (cells : List ℕ) → p.stage ≡ Between → cells_left p ≡ cells → Counts 1 p (begins_next plain here cells p)
@@ -126,14 +127,14 @@ module _ (here : Spot) where
       at (Answered echo) is = echoed-counts p echo is
 
   -- so many stages, of those that are left
-  pub record Reaches (n : ℕ) (p : Ldterm ℕ) (t : Acts) : Type 0 where
+  pub record Reaches (n : ℕ) (p : Discipline ℕ) (t : Acts) : Type 0 where
     pub count : ℕ
     pub within : count ≤ n
     pub some : is_none_left t.sent ≡ false → 0 < count
     pub all : is_none_left t.sent ≡ true → count ≡ n
     pub counts : Counts count p t
 
-  counts-joined : (k : ℕ) (p : Ldterm ℕ) (t u : Acts) → is_none_left t.sent ≡ true → Counts 1 p t → Counts k t.state u
+  counts-joined : (k : ℕ) (p : Discipline ℕ) (t u : Acts) → is_none_left t.sent ≡ true → Counts 1 p t → Counts k t.state u
       → Counts (suc k) p (record { state = u.state; notes = t.notes ++ u.notes; sent = u.sent; gone = t.gone ++ u.gone })
   counts-joined k p t u none c d =
       let l = length-append t.notes u.notes in
@@ -143,10 +144,10 @@ module _ (here : Spot) where
       let g = d.few in
       record { work = d.work ∙ c.work; left = omega arith; few = omega arith; more = λ is. (let h = d.more is in omega arith) }
 
-  abbrev one : Ldterm ℕ → Acts
+  abbrev one : Discipline ℕ → Acts
   one p = next_stage plain here 0 p
 
-  reaches-more : (n : ℕ) (p : Ldterm ℕ) → Counts 1 p (one p) → Reaches n (one p).state (ahead here n (one p).state) → Reaches (suc n) p (ahead here (suc n) p)
+  reaches-more : (n : ℕ) (p : Discipline ℕ) → Counts 1 p (one p) → Reaches n (one p).state (ahead here n (one p).state) → Reaches (suc n) p (ahead here (suc n) p)
   reaches-more n p c later = at (is_none_left (one p).sent) refl
     where
       at : (none : Bool) → is_none_left (one p).sent ≡ none
@@ -160,7 +161,7 @@ module _ (here : Spot) where
       }
       at false some = record { count = 1; within = omega arith; some = λ e. omega arith; all = λ e. absurd (false≢true (sym some ∙ e)); counts = c }
 
-  pub ahead-reaches : (n : ℕ) (p : Ldterm ℕ) → n + stages_done p.stage ≤ 3 * to_treat p → Reaches n p (ahead here n p)
+  pub ahead-reaches : (n : ℕ) (p : Discipline ℕ) → n + stages_done p.stage ≤ 3 * to_treat p → Reaches n p (ahead here n p)
   ahead-reaches zero p room = record { count = 0; within = omega arith; some = λ e. absurd (false≢true (sym e)); all = λ e. refl; counts = record { work = refl; left = omega arith; few = omega arith; more = λ e. omega arith } }
   ahead-reaches (suc n) p room =
       let c = next-counts p (omega arith) in

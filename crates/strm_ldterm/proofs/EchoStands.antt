@@ -24,10 +24,10 @@ use Rattle.strm_queue.specs.Stored.{queue_in, messages_on}
 use Rattle.strm_frame.specs.Hands.{once, AreIn, HasRoom}
 use Rattle.strm_frame.specs.Outboxes.{times_sent, parcels_in, AreChains}
 use Rattle.strm_frame.proofs.Handing.{once-apart}
-use Rattle.strm_ldterm.specs.declared.ldterm.Ldterm.{Ldterm}
-use Rattle.strm_ldterm.specs.Stands.{ldterm_in, keeps, EndsPlain, IsData, IsGathered, IsHeld}
+use Rattle.strm_ldterm.specs.Stands.{ldterm_in, keeps, EndsPlain, IsData, IsGathered, IsHeld, Paired}
 use Rattle.strm_ldterm.specs.Does.{Proceeds}
-use Rattle.strm_ldterm.specs.Frames.{data-same, each-same, form-same, gathered-same, kept-same, list-ready}
+use Rattle.strm_frame.specs.StandingLaws.{queue-ready}
+use Rattle.strm_ldterm.specs.Frames.{data-same, each-same, form-same, gathered-same, kept-same}
 use Rattle.strm_ldterm.specs.Grown.{BeginsLast, GrowsLast, Rewrites}
 
 -- the last message grows
@@ -42,7 +42,7 @@ unfolding band_of data_message is_high_priority
 data-enables bytes q = refl
 
 -- The write queue was rewritten, and the turn's echo stands last there.
-module _ (s t : StoreValue) (x : Ldterm) (q' : Queue) (n : ℕ) (held : IsHeld s x) (can : AreIn s (λ _. 0) (keeps x)) (is : Rewrites s t x.write_queue q' n) (ends : EndsPlain (messages_on t q'.list)) where
+module _ (s t : StoreValue) (x : Paired) (q' : Queue) (n : ℕ) (held : IsHeld s x) (can : AreIn s (λ _. 0) (keeps x)) (is : Rewrites s t x.write_queue q' n) (ends : EndsPlain (messages_on t q'.list)) where
   chains : (i : ℕ) → 0 < keeps x i → in_hand t i ≡ in_hand s i
   chains i some = let c = can.apart i in is.shifts.others i refl (omega arith)
 
@@ -56,7 +56,7 @@ module _ (s t : StoreValue) (x : Ldterm) (q' : Queue) (n : ℕ) (held : IsHeld s
 
   stood-held : (v : Bool) → IsHeld t (record x { write_queue = q'; echoing = v })
   stood-held v = record {
-    read = list-ready s t x.read_queue reads held.read;
+    read = queue-ready s t x.read_queue reads held.read;
     write = is.ready;
     apart = (let a = held.apart in let e = is.list in omega arith);
     work = each-same s t IsData (data-same s t) x.in_work (λ i some. chains i (omega arith)) held.work;
@@ -65,7 +65,7 @@ module _ (s t : StoreValue) (x : Ldterm) (q' : Queue) (n : ℕ) (held : IsHeld s
     once_each = held.once_each;
   }
 
-  stood : (v : Bool) (notes : List Note) (f : Fates) (a : Acted ℕ (ldterms.Ldterm ℕ)) → record (ldterm_in s x) { write_queue = queue_in t q'; echoing = v } ≡ a.state → notes ≡ a.notes → [] ≡ a.sent → [] ≡ a.gone
+  stood : (v : Bool) (notes : List Note) (f : Fates) (a : Acted ℕ (ldterms.Discipline ℕ)) → record (ldterm_in s x) { write_queue = queue_in t q'; echoing = v } ≡ a.state → notes ≡ a.notes → [] ≡ a.sent → [] ≡ a.gone
       → Proceeds s t x (record x { write_queue = q'; echoing = v }) n notes [] f f a
   unfolding parcels_in AreChains times_sent
   stood v notes f a state noted sent gone = record {
@@ -89,14 +89,14 @@ module _ (s t : StoreValue) (x : Ldterm) (q' : Queue) (n : ℕ) (held : IsHeld s
   }
 
 -- the echo grows
-pub grows-proceeds : (s t : StoreValue) (x : Ldterm) (q' : Queue) (bytes : List ℕ) (n : ℕ) → IsHeld s x → AreIn s (λ _. 0) (keeps x) → GrowsLast s t x.write_queue q' bytes n → (here : Spot) (f : Fates)
+pub grows-proceeds : (s t : StoreValue) (x : Paired) (q' : Queue) (bytes : List ℕ) (n : ℕ) → IsHeld s x → AreIn s (λ _. 0) (keeps x) → GrowsLast s t x.write_queue q' bytes n → (here : Spot) (f : Fates)
     → Proceeds s t x (record x { write_queue = q' }) n [] [] f f (record (echo_grows plain here bytes (ldterm_in s x)) { gone = [] })
 grows-proceeds s t x q' bytes n held can is here f =
     stood s t x q' n held can is.rewrites is.ends x.echoing [] f (record (echo_grows plain here bytes (ldterm_in s x)) { gone = [] })
     (ap (λ (w : queues.Queue ℕ). record (ldterm_in s x) { write_queue = w }) (is.queue here)) refl refl refl
 
 -- or it begins
-pub begins-proceeds : (s t : StoreValue) (x : Ldterm) (q' : Queue) (bytes : List ℕ) (n : ℕ) → IsHeld s x → AreIn s (λ _. 0) (keeps x) → BeginsLast s t x.write_queue q' bytes n → (here : Spot) (f : Fates) (v : Bool)
+pub begins-proceeds : (s t : StoreValue) (x : Paired) (q' : Queue) (bytes : List ℕ) (n : ℕ) → IsHeld s x → AreIn s (λ _. 0) (keeps x) → BeginsLast s t x.write_queue q' bytes n → (here : Spot) (f : Fates) (v : Bool)
     → v ≡ queues.put_enables (data_message bytes) (queue_in s x.write_queue)
     → Proceeds s t x (record x { write_queue = q'; echoing = true }) n (cond v (Enable Down ∷ []) []) [] f f (record (echo_stands plain here bytes (ldterm_in s x)) { gone = [] })
 begins-proceeds s t x q' bytes n held can is here f v enables =
@@ -105,7 +105,7 @@ begins-proceeds s t x q' bytes n held can is here f v enables =
     (ap (λ w. cond {A = List Note} w (Enable Down ∷ []) []) enables) refl refl
 
 -- what has gone is told
-pub proceeds-told : (s t : StoreValue) (x x' : Ldterm) (n : ℕ) (notes : List Note) (f f' : Fates) (is : Acted ℕ (ldterms.Ldterm ℕ)) → f' ≡ tallied is.gone f → Proceeds s t x x' n notes [] f f (record is { gone = [] }) → Proceeds s t x x' n notes [] f f' is
+pub proceeds-told : (s t : StoreValue) (x x' : Paired) (n : ℕ) (notes : List Note) (f f' : Fates) (is : Acted ℕ (ldterms.Discipline ℕ)) → f' ≡ tallied is.gone f → Proceeds s t x x' n notes [] f f (record is { gone = [] }) → Proceeds s t x x' n notes [] f f' is
 proceeds-told s t x x' n notes f f' is told did = record {
   state = did.state;
   noted = did.noted;
@@ -121,7 +121,7 @@ proceeds-told s t x x' n notes f f' is told did = record {
 }
 
 -- nothing is done but that something is told
-pub proceeds-still : (s : StoreValue) (x : Ldterm) (n : ℕ) (notes : List Note) (f f' : Fates) (gone : List (Fate ℕ)) (is : Acted ℕ (ldterms.Ldterm ℕ)) → IsHeld s x → notes ≡ [] → f' ≡ tallied gone f
+pub proceeds-still : (s : StoreValue) (x : Paired) (n : ℕ) (notes : List Note) (f f' : Fates) (gone : List (Fate ℕ)) (is : Acted ℕ (ldterms.Discipline ℕ)) → IsHeld s x → notes ≡ [] → f' ≡ tallied gone f
     → is ≡ record (sends [] (ldterm_in s x)) { gone = gone } → Proceeds s s x x n notes [] f f' is
 unfolding parcels_in AreChains times_sent
 proceeds-still s x n notes f f' gone is held none told same = subst (λ a. Proceeds s s x x n notes [] f f' a) (sym same) (record {
@@ -139,7 +139,7 @@ proceeds-still s x n notes f f' gone is held none told same = subst (λ a. Proce
 })
 
 -- it grows or it begins
-pub stands-by : (s t : StoreValue) (x x' : Ldterm) (n : ℕ) (notes notes' : List Note) (here : Spot) (f : Fates) (bytes : List ℕ) (v w : Bool) → w ≡ v → notes' ≡ notes
+pub stands-by : (s t : StoreValue) (x x' : Paired) (n : ℕ) (notes notes' : List Note) (here : Spot) (f : Fates) (bytes : List ℕ) (v w : Bool) → w ≡ v → notes' ≡ notes
     → Proceeds s t x x' n notes [] f f (record (cond v (echo_grows plain here bytes (ldterm_in s x)) (echo_stands plain here bytes (ldterm_in s x))) { gone = [] })
     → Proceeds s t x x' n notes' [] f f (record (cond w (echo_grows plain here bytes (ldterm_in s x)) (echo_stands plain here bytes (ldterm_in s x))) { gone = [] })
 stands-by s t x x' n notes notes' here f bytes v w is same did = rw (is, same) did
@@ -150,12 +150,12 @@ made-plain d n [] = refl
 made-plain d n (b ∷ bytes) = ap (λ xs. b ∷ xs) (made-plain d (suc n) bytes)
 
 -- the cases of an echo
-module _ (here : Spot) (p : ldterms.Ldterm ℕ) where
+module _ (here : Spot) (p : ldterms.Discipline ℕ) where
   pub echoed-none : (bytes : List ℕ) → length bytes ≡ 0 → echoed plain here 0 bytes p ≡ sends [] p
   echoed-none [] none = refl
   echoed-none (b ∷ bytes) none = absurd (omega arith)
 
-  abbrev by_case : List ℕ → Bool → Acted ℕ (ldterms.Ldterm ℕ)
+  abbrev by_case : List ℕ → Bool → Acted ℕ (ldterms.Discipline ℕ)
   by_case bytes full = cond full (echo_lost plain here bytes p) (cond p.echoing (echo_grows plain here bytes p) (echo_stands plain here bytes p))
 
   echoed-by : (bytes : List ℕ) → (length bytes ≡ 0 → ⊥) → echoed plain here 0 bytes p ≡ by_case bytes (queues.is_full 0 p.write_queue)

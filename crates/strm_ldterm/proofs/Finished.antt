@@ -6,9 +6,9 @@ use Rattle.strm_types.specs.declared.names.Way.TheVariants.{Up}
 use Rattle.strm_types.specs.declared.rules.Fates.{Fates}
 use Rattle.strm_types.specs.declared.spots.Spot.{Spot}
 use Rattle.strm_types.specs.Cells as cells
-use Rattle.strm_types.specs.Deliver.{toward}
+use Rattle.strm_types.specs.Deliver.{toward, onward}
 use Rattle.strm_types.specs.Input.{back_on, cells_left}
-use Rattle.strm_types.specs.Ldterms.{sends, onward}
+use Rattle.strm_types.specs.Ldterms.{sends}
 use Rattle.strm_types.specs.Message.{Message, cells_of, data_message}
 use Rattle.strm_types.specs.Queue as plain
 use Rattle.strm_types.specs.Queue.{is_none_left}
@@ -21,8 +21,7 @@ use Rattle.strm_frame.specs.declared.parcels.Sent.{Sent}
 use Rattle.strm_frame.specs.Hands.{once, AreIn, CanPut}
 use Rattle.strm_frame.specs.Outboxes.{message_in, times_sent}
 use Rattle.strm_frame.proofs.Handing.{one-parts, one-chains}
-use Rattle.strm_ldterm.specs.declared.ldterm.Ldterm.{Ldterm}
-use Rattle.strm_ldterm.specs.Stands.{ldterm_in, kept_in, cells_kept, times_kept, keeps, IsHeld, IsData, IsOrdinary, IsGathered}
+use Rattle.strm_ldterm.specs.Stands.{ldterm_in, kept_in, cells_kept, times_kept, keeps, IsHeld, IsData, IsOrdinary, IsGathered, Paired}
 use Rattle.strm_ldterm.specs.Does.{Alters, Proceeds}
 use Rattle.strm_ldterm.proofs.Flushed.{alters-none}
 use Rattle.strm_ldterm.proofs.Proceeding.{proceeds-alters}
@@ -61,7 +60,7 @@ pub up-some : (here : Spot) (l : List ℕ) → (length l ≡ 0 → ⊥) → gath
 up-some here [] some = absurd (some refl)
 up-some here (b ∷ l) some = refl
 
-module _ (s : StoreValue) (x : Ldterm) (m : InHand) where
+module _ (s : StoreValue) (x : Paired) (m : InHand) where
   -- the message in work
   module _ (there : x.in_work ≡ Some m) where
     pub work-splits : (j : ℕ) → keeps x j ≡ once (token m) j + keeps (record x { in_work = None }) j
@@ -140,8 +139,8 @@ module _ (s : StoreValue) (x : Ldterm) (m : InHand) where
           pool = record { mblks = refl; dblks = refl };
         }
 
-module _ (s : StoreValue) (x : Ldterm) (here : Spot) (f : Fates) where
-  quiet : (t : StoreValue) (y : Ldterm) → Alters s t x y → ldterm_in t y ≡ record (ldterm_in s x) { gathered = [] } → length (cells_kept (kept_in s x.gathered)) ≡ 0
+module _ (s : StoreValue) (x : Paired) (here : Spot) (f : Fates) where
+  quiet : (t : StoreValue) (y : Paired) → Alters s t x y → ldterm_in t y ≡ record (ldterm_in s x) { gathered = [] } → length (cells_kept (kept_in s x.gathered)) ≡ 0
       → Proceeds s t x y 0 [] [] f f (sends (gathered_up cells.plain here (cells_kept (kept_in s x.gathered))) (record (ldterm_in s x) { gathered = [] }))
   quiet t y alters is none =
       subst (λ ps. Proceeds s t x y 0 [] [] f f (sends ps (record (ldterm_in s x) { gathered = [] }))) (sym (up-none here (cells_kept (kept_in s x.gathered)) none))

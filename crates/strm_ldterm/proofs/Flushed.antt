@@ -20,8 +20,7 @@ use Rattle.strm_types.specs.Queue as plain
 use Rattle.strm_blocks.specs.Blocks.{StoreValue}
 use Rattle.strm_queue.specs.declared.queue.Queue.{Queue}
 use Rattle.strm_queue.specs.Stored.{queue_in, messages_on, Changes, FreesBlocks}
-use Rattle.strm_ldterm.specs.declared.ldterm.Ldterm.{Ldterm}
-use Rattle.strm_ldterm.specs.Stands.{ldterm_in, keeps, EndsPlain, IsHeld}
+use Rattle.strm_ldterm.specs.Stands.{ldterm_in, keeps, EndsPlain, IsHeld, Paired}
 use Rattle.strm_ldterm.specs.Does.{Alters, Flushes}
 use Rattle.strm_ldterm.proofs.Beside.{alters-quieter, read-plain, read-alters, write-plain, write-alters}
 use Rattle.strm_ldterm.proofs.Last.{ends-flushed}
@@ -35,7 +34,7 @@ behind-messages : (chosen : Choice) (q : plain.Queue ℕ) → (queue_behind chos
 behind-messages chosen q =
     elim (none_goes chosen q) as (λ v. (cond {A = plain.Queue ℕ} v (emptied chosen q) (plain.relieved (emptied chosen q))).messages ≡ stayed chosen q.messages) [ true ↦ refl | false ↦ refl ]
 
-pub alters-none : (s : StoreValue) (x : Ldterm) → IsHeld s x → Alters s s x x
+pub alters-none : (s : StoreValue) (x : Paired) → IsHeld s x → Alters s s x x
 alters-none s x held = record {
   held = held;
   own = record { lists = λ k none. refl; owns_same = λ k. refl };
@@ -45,7 +44,7 @@ alters-none s x held = record {
   pool = record { mblks = refl; dblks = refl };
 }
 
-pub alters-both : (s t u : StoreValue) (x y z : Ldterm) → Alters s t x y → Alters t u y z → Alters s u x z
+pub alters-both : (s t u : StoreValue) (x y z : Paired) → Alters s t x y → Alters t u y z → Alters s u x z
 alters-both s t u x y z first second = record {
   held = second.held;
   own = record {
@@ -64,11 +63,11 @@ alters-both s t u x y z first second = record {
 }
 
 -- nothing goes
-pub flushes-none : (s : StoreValue) (x : Ldterm) (notes : List Note) (f : Fates) → IsHeld s x → notes ≡ [] → Flushes s s x x notes f f (sends [] (ldterm_in s x))
+pub flushes-none : (s : StoreValue) (x : Paired) (notes : List Note) (f : Fates) → IsHeld s x → notes ≡ [] → Flushes s s x x notes f f (sends [] (ldterm_in s x))
 flushes-none s x notes f held none = record { state = refl; noted = none; told = refl; alters = alters-none s x held }
 
 -- one after the other
-pub flushes-both : (s t u : StoreValue) (x y z : Ldterm) (ns ms notes : List Note) (f f1 f2 : Fates) (a : Acted ℕ (ldterms.Ldterm ℕ)) (next : ldterms.Ldterm ℕ → Acted ℕ (ldterms.Ldterm ℕ))
+pub flushes-both : (s t u : StoreValue) (x y z : Paired) (ns ms notes : List Note) (f f1 f2 : Fates) (a : Acted ℕ (ldterms.Discipline ℕ)) (next : ldterms.Discipline ℕ → Acted ℕ (ldterms.Discipline ℕ))
     → Flushes s t x y ns f f1 a → Flushes t u y z ms f1 f2 (next (ldterm_in t y)) → notes ≡ ns ++ ms → Flushes s u x z notes f f2 (both a next)
 flushes-both s t u x y z ns ms notes f f1 f2 a next first second joined = record {
   state = second.state ∙ ap (λ p. (next p).state) first.state;
@@ -79,7 +78,7 @@ flushes-both s t u x y z ns ms notes f f1 f2 a next first second joined = record
   alters = alters-both s t u x y z first.alters second.alters;
 }
 
-module _ (s t : StoreValue) (x : Ldterm) (q' : Queue) (here : Spot) (band : Option Band) (room : Bool) (notes : List Note) (f f' : Fates) (held : IsHeld s x) (frees : FreesBlocks s t) where
+module _ (s t : StoreValue) (x : Paired) (q' : Queue) (here : Spot) (band : Option Band) (room : Bool) (notes : List Note) (f f' : Fates) (held : IsHeld s x) (frees : FreesBlocks s t) where
   pub flushes-up : Changes s t x.read_queue q' → queue_in t q' ≡ queue_behind (of_data band) (queue_in s x.read_queue) → room ≡ writer_goes (of_data band) (queue_in s x.read_queue)
       → f' ≡ counted_with (Goes (direction_at Up here.side) Flushed (cells_gone (of_data band) (messages_on s x.read_queue.list))) f → notes ≡ cond room (Room Up ∷ []) []
       → Flushes s t x (record x { read_queue = q' }) notes f f' (queue_flushed Up here band (ldterm_in s x))
@@ -106,7 +105,7 @@ module _ (s t : StoreValue) (x : Ldterm) (q' : Queue) (here : Spot) (band : Opti
       }
 
 -- the line goes after the queue
-pub line-after : (s t : StoreValue) (x y z : Ldterm) (here : Spot) (asked : FlushAsked) (notes : List Note) (f f1 f2 : Fates) → asked.for_read ≡ true
+pub line-after : (s t : StoreValue) (x y z : Paired) (here : Spot) (asked : FlushAsked) (notes : List Note) (f f1 f2 : Fates) → asked.for_read ≡ true
     → Flushes s t x y notes f f1 (queue_flushed Up here asked.band (ldterm_in s x)) → Flushes t t y z [] f1 f2 (line_flushed here asked.band (ldterm_in t y))
     → Flushes s t x z notes f f2 (read_flushed here asked (ldterm_in s x))
 line-after s t x y z here asked notes f f1 f2 reads first second =
@@ -116,7 +115,7 @@ line-after s t x y z here asked notes f f1 f2 reads first second =
     (flushes-both s t t x y z notes [] notes f f1 f2 (queue_flushed Up here asked.band p) (line_flushed here asked.band) first second (sym (append-nil notes)))
 
 -- FLUSHW, with the turn's echo where band 0 goes
-pub write-after : (s t : StoreValue) (x z : Ldterm) (here : Spot) (asked : FlushAsked) (notes : List Note) (f f2 : Fates) (v : Bool) → v ≡ (x.echoing && not (takes_band_0 asked.band)) → asked.for_write ≡ true
+pub write-after : (s t : StoreValue) (x z : Paired) (here : Spot) (asked : FlushAsked) (notes : List Note) (f f2 : Fates) (v : Bool) → v ≡ (x.echoing && not (takes_band_0 asked.band)) → asked.for_write ≡ true
     → Flushes s t (record x { echoing = v }) z notes f f2 (queue_flushed Down here asked.band (record (ldterm_in s x) { echoing = v })) → Flushes s t x z notes f f2 (write_flushed here asked (ldterm_in s x))
 write-after s t x z here asked notes f f2 v is writes done =
     let p = ldterm_in s x in
@@ -124,12 +123,12 @@ write-after s t x z here asked notes f f2 v is writes done =
     subst (λ w. Flushes s t x z notes f f2 (cond w (queue_flushed Down here asked.band (record p { echoing = x.echoing && not (takes_band_0 asked.band) })) (sends [] p))) (sym writes)
     (record { state = same.state; noted = same.noted; told = same.told; alters = alters-quieter s t x z v same.alters })
 
-pub write-none : (s : StoreValue) (x : Ldterm) (here : Spot) (asked : FlushAsked) (f : Fates) → IsHeld s x → asked.for_write ≡ false → Flushes s s x x [] f f (write_flushed here asked (ldterm_in s x))
+pub write-none : (s : StoreValue) (x : Paired) (here : Spot) (asked : FlushAsked) (f : Fates) → IsHeld s x → asked.for_write ≡ false → Flushes s s x x [] f f (write_flushed here asked (ldterm_in s x))
 write-none s x here asked f held writes =
     let p = ldterm_in s x in
     subst (λ w. Flushes s s x x [] f f (cond w (queue_flushed Down here asked.band (record p { echoing = x.echoing && not (takes_band_0 asked.band) })) (sends [] p))) (sym writes)
     (flushes-none s x [] f held refl)
 
 -- what it keeps is in hand still
-pub kept-still : (s u : StoreValue) (x y : Ldterm) → Alters s u x y → AreIn s (λ _. 0) (keeps x) → AreIn u (λ _. 0) (keeps y)
+pub kept-still : (s u : StoreValue) (x y : Paired) → Alters s u x y → AreIn s (λ _. 0) (keeps x) → AreIn u (λ _. 0) (keeps y)
 kept-still s u x y alters are = record { apart = λ j. let a = are.apart j in let c = alters.hands.counts j in omega arith }

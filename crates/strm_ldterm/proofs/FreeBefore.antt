@@ -5,7 +5,7 @@ use Rattle.std.specs.List.{AllByRecursion}
 use Rattle.std.specs.Prelude.{nat_lt}
 use Rattle.strm_types.specs.declared.limits.TheConstants.{STOP_BLOCKS}
 use Rattle.strm_types.specs.declared.spots.Spot.{Spot}
-use Rattle.strm_types.specs.Ldterms.{Ldterm}
+use Rattle.strm_types.specs.Ldterms.{Discipline}
 use Rattle.strm_types.specs.Message.{Message, cells_of}
 use Rattle.strm_blocks.specs.Blocks.{StoreValue}
 use Rattle.strm_frame.specs.Hands.{HasRoom}
@@ -31,10 +31,10 @@ last-size (k ∷ l ∷ ms) m = last-size (l ∷ ms) m
 one-more : (n m : ℕ) → m ≤ n + 256 → blocks_for m - blocks_for n ≤ 1
 one-more n m few = omega arith
 
-pub grown-none : (p : Ldterm ℕ) → blocks_grown p p ≡ 0
+pub grown-none : (p : Discipline ℕ) → blocks_grown p p ≡ 0
 grown-none p = omega arith
 
-pub grown-two : (p q : Ldterm ℕ) → length q.gathered ≤ length p.gathered + 256 → echo_size q ≤ echo_size p + 256 → blocks_grown p q ≤ 2
+pub grown-two : (p q : Discipline ℕ) → length q.gathered ≤ length p.gathered + 256 → echo_size q ≤ echo_size p + 256 → blocks_grown p q ≤ 2
 grown-two p q gathered echo = omega (arith, one-more (length p.gathered) (length q.gathered) gathered, one-more (echo_size p) (echo_size q) echo)
 
 -- where so many more are free than they take
@@ -55,7 +55,7 @@ each-more P n k first second i within = at (nat_lt i n) refl
         let same : n + (i - n) ≡ i = omega arith in
         subst P same (second (i - n) (omega arith))
 
-module _ (here : Spot) (s : StoreValue) (p : Ldterm ℕ) (between : stages_left p.stage ≡ 0) where
+module _ (here : Spot) (s : StoreValue) (p : Discipline ℕ) (between : stages_left p.stage ≡ 0) where
   -- between two bytes
   pub free-on : (n : ℕ) → HasRoom s (STOP_BLOCKS + blocks_grown p (ahead here (3 * n) p).state) → HasRoom s (STOP_BLOCKS + blocks_grown p (bytes_on here n p).state)
   free-on n room =

@@ -11,17 +11,16 @@ use Rattle.strm_blocks.specs.Blocks.{StoreValue, IsStore, token}
 use Rattle.strm_blocks.specs.declared.in_hand.InHand.{InHand}
 use Rattle.strm_frame.specs.Hands.{AreIn}
 use Rattle.strm_frame.specs.Outboxes.{message_in}
-use Rattle.strm_ldterm.specs.declared.ldterm.Ldterm.{Ldterm}
 use Rattle.strm_ldterm.specs.Becoming.{Becomes}
 use Rattle.strm_ldterm.specs.Does.{Proceeds}
-use Rattle.strm_ldterm.specs.Stands.{ldterm_in, keeps, IsHeld}
+use Rattle.strm_ldterm.specs.Stands.{ldterm_in, keeps, IsHeld, Paired}
 use Rattle.strm_ldterm.proofs.Begun.{busy-cells, busy-left, work-comes}
 use Rattle.strm_ldterm.proofs.FreeBefore.{take-front}
 use Rattle.strm_ldterm.proofs.Runs.{take-twice}
 use Rattle.strm_ldterm.proofs.Skipped.{becomes-both}
 
 -- so many were taken off its first block that has some
-module _ (s s1 s2 : StoreValue) (x : Ldterm) (m q r : InHand) (n : ℕ) (there : x.in_work ≡ Some m) (st1 : IsStore s1) (skipped : Becomes s s1 (token m) (token q) (message_in s (token m)))
+module _ (s s1 s2 : StoreValue) (x : Paired) (m q r : InHand) (n : ℕ) (there : x.in_work ≡ Some m) (st1 : IsStore s1) (skipped : Becomes s s1 (token m) (token q) (message_in s (token m)))
     (trimmed : Becomes s1 s2 (token q) (token r) (left_of (drop n (cells_of (message_in s1 (token q)))) (message_in s1 (token q)))) where
   abbrev work : Message ℕ
   work = message_in s (token m)
@@ -31,7 +30,7 @@ module _ (s s1 s2 : StoreValue) (x : Ldterm) (m q r : InHand) (n : ℕ) (there :
   front-went st2 held kept f =
       let left = left_of (drop n (cells_of work)) work in
       let both = becomes-both s s1 s2 (token m) (token q) (token r) work left st1 skipped (subst (λ (w : Message ℕ). Becomes s1 s2 (token q) (token r) (left_of (drop n (cells_of w)) w)) skipped.shows trimmed) in
-      subst (λ (p : ldterms.Ldterm ℕ). Proceeds s s2 x (record x { in_work = Some r }) 0 [] [] f f (sends [] p)) (sym (busy-left s x m there n))
+      subst (λ (p : ldterms.Discipline ℕ). Proceeds s s2 x (record x { in_work = Some r }) 0 [] [] f f (sends [] p)) (sym (busy-left s x m there n))
       (work-comes s s2 x m r left there st2 held kept both f)
 
   pub front-taken : (first : List ℕ) (most : ℕ) → n ≤ most → n ≤ length first → (let cells = cells_of (message_in s1 (token q)) in cells ≡ take n first ++ drop n cells)

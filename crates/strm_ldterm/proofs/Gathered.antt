@@ -13,8 +13,7 @@ use Rattle.strm_msg.proofs.Hands.{times-replaced}
 use Rattle.strm_frame.specs.Hands.{once, AreIn}
 use Rattle.strm_frame.specs.Outboxes.{message_in, times_sent, parcels_in, AreChains}
 use Rattle.strm_frame.proofs.Handing.{once-self}
-use Rattle.strm_ldterm.specs.declared.ldterm.Ldterm.{Ldterm}
-use Rattle.strm_ldterm.specs.Stands.{ldterm_in, times_kept, keeps, IsHeld, IsGathered}
+use Rattle.strm_ldterm.specs.Stands.{ldterm_in, times_kept, keeps, IsHeld, IsGathered, Paired}
 use Rattle.strm_ldterm.specs.Does.{Proceeds}
 use Rattle.strm_ldterm.specs.Frames.{ldterm-frame}
 use Rattle.strm_ldterm.specs.Grown.{Grown, Begins}
@@ -29,7 +28,7 @@ unfolding cells_of data_message
 data-cells m bytes is = ap cells_of is
 
 -- a new message
-module _ (s t : StoreValue) (x : Ldterm) (m : InHand) (bytes : List ℕ) (f : Fates) (st : IsStore t) (held : IsHeld s (record x { gathered = None })) (can : AreIn s (λ _. 0) (keeps (record x { gathered = None })))
+module _ (s t : StoreValue) (x : Paired) (m : InHand) (bytes : List ℕ) (f : Fates) (st : IsStore t) (held : IsHeld s (record x { gathered = None })) (can : AreIn s (λ _. 0) (keeps (record x { gathered = None })))
     (some : 0 < length bytes) (is : Begins s t (token m) bytes 1) where
   fresh-apart : (j : ℕ) → 0 < times_in j s.hand → token m ≢ j
   fresh-apart j some e = let w = ap (λ k. times_in k s.hand) e in let z = is.fresh in absurd (omega arith)
@@ -54,7 +53,7 @@ module _ (s t : StoreValue) (x : Ldterm) (m : InHand) (bytes : List ℕ) (f : Fa
       let p = ldterm_in s (record x { gathered = None }) in
       record {
         state =
-            ap (λ (q : ldterms.Ldterm ℕ). record q { gathered = cells_of (message_in t (token m)) }) new-framed.0
+            ap (λ (q : ldterms.Discipline ℕ). record q { gathered = cells_of (message_in t (token m)) }) new-framed.0
             ∙ ap (λ (cells : List ℕ). record p { gathered = cells }) (data-cells (message_in t (token m)) bytes is.shows);
         noted = refl;
         parcels = refl;
@@ -80,7 +79,7 @@ module _ (s t : StoreValue) (x : Ldterm) (m : InHand) (bytes : List ℕ) (f : Fa
       }
 
 -- one that grows, under another name that is the same
-module _ (s t : StoreValue) (x : Ldterm) (e r : InHand) (bytes : List ℕ) (f : Fates) (same : token r ≡ token e) (held : IsHeld s (record x { gathered = Some e })) (is : Grown s t (token e) bytes 1) where
+module _ (s t : StoreValue) (x : Paired) (e r : InHand) (bytes : List ℕ) (f : Fates) (same : token r ≡ token e) (held : IsHeld s (record x { gathered = Some e })) (is : Grown s t (token e) bytes 1) where
   without-held : IsHeld s (record x { gathered = None })
   unfolding times_kept
   without-held = record {
@@ -128,7 +127,7 @@ module _ (s t : StoreValue) (x : Ldterm) (e r : InHand) (bytes : List ℕ) (f : 
       let p = ldterm_in s (record x { gathered = None }) in
       record {
         state =
-            ap (λ (q : ldterms.Ldterm ℕ). record q { gathered = cells_of (message_in t (token r)) }) grown-framed.0
+            ap (λ (q : ldterms.Discipline ℕ). record q { gathered = cells_of (message_in t (token r)) }) grown-framed.0
             ∙ ap (λ (cells : List ℕ). record p { gathered = cells }) (ap (λ k. cells_of (message_in t k)) same ∙ is.cells);
         noted = refl;
         parcels = refl;

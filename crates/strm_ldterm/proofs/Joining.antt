@@ -9,9 +9,8 @@ use Rattle.strm_blocks.specs.Blocks.{StoreValue, IsStore}
 use Rattle.strm_frame.specs.declared.parcels.Sent.{Sent}
 use Rattle.strm_frame.specs.Hands.{AreIn}
 use Rattle.strm_frame.specs.Outboxes.{parcels_in, times_sent, AreChains}
-use Rattle.strm_ldterm.specs.declared.ldterm.Ldterm.{Ldterm}
 use Rattle.strm_ldterm.specs.declared.ldterm.Stage.{Stage}
-use Rattle.strm_ldterm.specs.Stands.{ldterm_in, keeps, stage_in, IsHeld}
+use Rattle.strm_ldterm.specs.Stands.{ldterm_in, keeps, stage_in, IsHeld, Paired}
 use Rattle.strm_ldterm.specs.Does.{Proceeds}
 use Rattle.strm_ldterm.specs.Turns.{one_after}
 use Rattle.strm_ldterm.proofs.Turning.{Acts}
@@ -26,7 +25,7 @@ parcels-none s [] = refl
 parcels-none s (x ∷ more) = refl
 
 -- more blocks may be said to be taken
-pub takes-more : (s0 s : StoreValue) (x0 x : Ldterm) (k n : ℕ) (notes : List Note) (sent : List Sent) (t0 t : Fates) (is : Acts) → k ≤ n → Proceeds s0 s x0 x k notes sent t0 t is → Proceeds s0 s x0 x n notes sent t0 t is
+pub takes-more : (s0 s : StoreValue) (x0 x : Paired) (k n : ℕ) (notes : List Note) (sent : List Sent) (t0 t : Fates) (is : Acts) → k ≤ n → Proceeds s0 s x0 x k notes sent t0 t is → Proceeds s0 s x0 x n notes sent t0 t is
 takes-more s0 s x0 x k n notes sent t0 t is few a = record {
   state = a.state;
   noted = a.noted;
@@ -41,9 +40,9 @@ takes-more s0 s x0 x k n notes sent t0 t is few a = record {
   pool = a.pool;
 }
 
-module _ (s0 s : StoreValue) (x0 x : Ldterm) (k : ℕ) (notes : List Note) (t0 t : Fates) (is : Acts) where
+module _ (s0 s : StoreValue) (x0 x : Paired) (k : ℕ) (notes : List Note) (t0 t : Fates) (is : Acts) where
   -- what is sent ends it
-  pub sent-ends : (sent : List Sent) (next : ldterms.Ldterm ℕ → Acts) → is_none_left sent ≡ false → Proceeds s0 s x0 x k notes sent t0 t is → Proceeds s0 s x0 x k notes sent t0 t (one_after is next)
+  pub sent-ends : (sent : List Sent) (next : ldterms.Discipline ℕ → Acts) → is_none_left sent ≡ false → Proceeds s0 s x0 x k notes sent t0 t is → Proceeds s0 s x0 x k notes sent t0 t (one_after is next)
   sent-ends sent next some a =
       let same : is ≡ one_after is next = ap (λ v. cond {A = Acts} v (let u = next is.state in record { state = u.state; notes = is.notes ++ u.notes; sent = u.sent; gone = is.gone ++ u.gone }) is)
       (sym (sym (ap is_none_left a.parcels) ∙ parcels-none s sent ∙ some)) in
@@ -58,7 +57,7 @@ module _ (s0 s : StoreValue) (x0 x : Ldterm) (k : ℕ) (notes : List Note) (t0 t
     unfolding times_sent
     still-kept can = record { apart = λ i. let c = a.hands.counts i in let b = can.apart i in omega arith }
 
-    pub proceeds-joined : (s' : StoreValue) (x' : Ldterm) (j : ℕ) (notes' : List Note) (sent' : List Sent) (t' : Fates) (next : ldterms.Ldterm ℕ → Acts)
+    pub proceeds-joined : (s' : StoreValue) (x' : Paired) (j : ℕ) (notes' : List Note) (sent' : List Sent) (t' : Fates) (next : ldterms.Discipline ℕ → Acts)
         → Proceeds s s' x x' j notes' sent' t t' (next (ldterm_in s x)) → Proceeds s0 s' x0 x' (k + j) (notes ++ notes') sent' t0 t' (one_after is next)
     unfolding times_sent
     proceeds-joined s' x' j notes' sent' t' next b =
@@ -87,7 +86,7 @@ module _ (s0 s : StoreValue) (x0 x : Ldterm) (k : ℕ) (notes : List Note) (t0 t
           pool = record { mblks = b.pool.mblks ∙ a.pool.mblks; dblks = b.pool.dblks ∙ a.pool.dblks };
         })
 
-module _ (s0 s : StoreValue) (x0 x : Ldterm) (k : ℕ) (notes : List Note) (sent : List Sent) (t0 t : Fates) (is : Acts) where
+module _ (s0 s : StoreValue) (x0 x : Paired) (k : ℕ) (notes : List Note) (sent : List Sent) (t0 t : Fates) (is : Acts) where
   -- It is of no matter at which stage it begins, and whether LNEXT stands before.
   pub from-other : (lnext : Bool) (stage : Stage) → Proceeds s0 s (record x0 { after_lnext = lnext; stage = stage }) x k notes sent t0 t is → Proceeds s0 s x0 x k notes sent t0 t is
   from-other lnext stage a = record {
@@ -107,7 +106,7 @@ module _ (s0 s : StoreValue) (x0 x : Ldterm) (k : ℕ) (notes : List Note) (sent
   -- and behind it the byte stands at another stage
   pub to-stage : (stage : Stage) → Proceeds s0 s x0 x k notes sent t0 t is → Proceeds s0 s x0 (record x { stage = stage }) k notes sent t0 t (record is { state = record is.state { stage = stage_in stage } })
   to-stage stage a = record {
-    state = ap (λ (p : ldterms.Ldterm ℕ). record p { stage = stage_in stage }) a.state;
+    state = ap (λ (p : ldterms.Discipline ℕ). record p { stage = stage_in stage }) a.state;
     noted = a.noted;
     parcels = a.parcels;
     told = a.told;
@@ -137,7 +136,7 @@ module _ (s0 s : StoreValue) (x0 x : Ldterm) (k : ℕ) (notes : List Note) (sent
   }
 
 -- nothing has happened
-pub stays-so : (s : StoreValue) (x : Ldterm) (t : Fates) → IsHeld s x → Proceeds s s x x 0 [] [] t t (ldterms.sends [] (ldterm_in s x))
+pub stays-so : (s : StoreValue) (x : Paired) (t : Fates) → IsHeld s x → Proceeds s s x x 0 [] [] t t (ldterms.sends [] (ldterm_in s x))
 unfolding times_sent parcels_in AreChains
 stays-so s x t held = record {
   state = refl;

@@ -34,7 +34,6 @@ pub mod Rebanded
 pub mod Skipped
 pub mod Begun
 pub mod Signals
-pub mod Cleared
 pub mod Struck
 pub mod Treated
 pub mod RunsDone
@@ -53,3 +52,4 @@ pub mod WholeOut
 pub mod Poured
 pub mod Outgone
 pub mod TakingUp
+mod Standing

@@ -10,9 +10,9 @@ use Rattle.strm_types.specs.declared.names.Way.TheVariants.{Up, Down}
 use Rattle.strm_types.specs.declared.rules.Rule.TheVariants.{Flushed, SignalKey, LineFull, LineOver}
 use Rattle.strm_types.specs.declared.spots.Spot.{Spot}
 use Rattle.strm_types.specs.Cells.{Cells}
-use Rattle.strm_types.specs.Deliver.{Acted, Parcel}
+use Rattle.strm_types.specs.Deliver.{Acted, Parcel, onward}
 use Rattle.strm_types.specs.Flushing.{flush_bytes, flush_message}
-use Rattle.strm_types.specs.Ldterms.{Ldterm, onward, sends}
+use Rattle.strm_types.specs.Ldterms.{Discipline, sends}
 use Rattle.strm_types.specs.Lines.{Types, edited, has_room}
 use Rattle.strm_types.specs.Message.{Message, data_message}
 use Rattle.strm_types.specs.Termios.{icanon, imaxbel, noflsh}
@@ -25,7 +25,7 @@ module _ {C : Type 0} (cells : Cells C) (here : Spot) (P : ℕ → List (Parcel 
   single way m = more way m 2 [] (none 2)
 
   -- a signal key sends up what was gathered, an M_FLUSH and the signal
-  signals-send : (asked : FlushAsked) (signal : ℕ) (c : C) (p : Ldterm C) → P 3 (signals cells here asked signal c p).sent
+  signals-send : (asked : FlushAsked) (signal : ℕ) (c : C) (p : Discipline C) → P 3 (signals cells here asked signal c p).sent
   signals-send asked signal c p = at p.gathered (noflsh p.termios)
     where
       key : Message C
@@ -35,7 +35,7 @@ module _ {C : Type 0} (cells : Cells C) (here : Spot) (P : ℕ → List (Parcel 
       flush = flush_message (flush_bytes asked)
 
       up : List (Parcel C) → List (Parcel C) → Bool → List (Parcel C)
-      up gathered after quiet = (cond {A = Acted C (Ldterm C)} quiet
+      up gathered after quiet = (cond {A = Acted C (Discipline C)} quiet
           (record { state = record p { gathered = [] }; notes = []; sent = gathered ++ onward Up here key ∷ []; gone = lost cells here SignalKey (c ∷ []) })
           (record { state = record p { gathered = []; line = [] }; notes = []; sent = gathered ++ after; gone = lost cells here Flushed p.line ++ lost cells here SignalKey (c ∷ []) })).sent
 
@@ -45,7 +45,7 @@ module _ {C : Type 0} (cells : Cells C) (here : Spot) (P : ℕ → List (Parcel 
       at (g ∷ rest) true = more Up (data_message (g ∷ rest)) 2 _ (more Up key 1 [] (none 1))
       at (g ∷ rest) false = more Up (data_message (g ∷ rest)) 2 _ (more Up flush 1 _ (more Up key 0 [] (none 0)))
 
-  added-sends : (c : C) (p : Ldterm C) → P 3 (added cells here c p).sent
+  added-sends : (c : C) (p : Discipline C) → P 3 (added cells here c p).sent
   added-sends c p = at (icanon p.termios) (has_room p.line) (imaxbel p.termios)
     where
       at : (canonical room bell : Bool) →
@@ -57,7 +57,7 @@ module _ {C : Type 0} (cells : Cells C) (here : Spot) (P : ℕ → List (Parcel 
       at true false true = none 3
       at true false false = none 3
 
-  strikes-send : (key : Key) (c : C) (p : Ldterm C) → P 3 (strikes cells here key c p).sent
+  strikes-send : (key : Key) (c : C) (p : Discipline C) → P 3 (strikes cells here key c p).sent
   strikes-send Stop c p = at p.stopped
     where
       at : (stopped : Bool) → P 3 (cond stopped [] (onward Down here (bare kinds.Stop []) ∷ []))
@@ -77,5 +77,5 @@ module _ {C : Type 0} (cells : Cells C) (here : Spot) (P : ℕ → List (Parcel 
   strikes-send Delimiter c p = single Up (data_message (p.line ++ c ∷ []))
   strikes-send Ordinary c p = added-sends c p
 
-  pub struck-sends : (started : Bool) (c : C) (p : Ldterm C) → P 3 (struck cells here started c p).sent
+  pub struck-sends : (started : Bool) (c : C) (p : Discipline C) → P 3 (struck cells here started c p).sent
   struck-sends started c p = let stroke = stroke_at cells here c p in strikes-send stroke.key (cells.mapped stroke.byte c) (record p { after_lnext = is_lnext stroke.key })

@@ -16,7 +16,7 @@ use Rattle.strm_ldterm.specs.Bounds.{goes_out}
 
 module _ (here : Spot) (stop : Option ℕ) where
   -- what passes whole
-  pub goes-whole : (m : Message ℕ) (rest : List (Message ℕ)) (p : ldterms.Ldterm ℕ) → goes_out p.termios m ≡ false → output_serves plain here stop 0 (m ∷ rest) p ≡ passes plain here Down m rest p
+  pub goes-whole : (m : Message ℕ) (rest : List (Message ℕ)) (p : ldterms.Discipline ℕ) → goes_out p.termios m ≡ false → output_serves plain here stop 0 (m ∷ rest) p ≡ passes plain here Down m rest p
   goes-whole m rest p is = at (is_data m.kind) (opost p.termios) (cells_of m) is
     where
       at : (treated output : Bool) (xs : List ℕ) → (treated && (output && not (is_none_left xs))) ≡ false

@@ -11,10 +11,10 @@ use Rattle.strm_types.specs.declared.rules.Fates.{Fates}
 use Rattle.strm_types.specs.declared.spots.Note.{Note}
 use Rattle.strm_types.specs.declared.spots.Spot.{Spot}
 use Rattle.strm_types.specs.Cells.{plain}
-use Rattle.strm_types.specs.Deliver.{Fate}
+use Rattle.strm_types.specs.Deliver.{Fate, onward}
 use Rattle.strm_types.specs.Input.{back_on, cells_left, is_data, left_of}
 use Rattle.strm_types.specs.Ldterms as ldterms
-use Rattle.strm_types.specs.Ldterms.{onward, sends}
+use Rattle.strm_types.specs.Ldterms.{sends}
 use Rattle.strm_types.specs.Message.{Message, cells_of, size_of}
 use Rattle.strm_types.specs.Output.{Output, posts}
 use Rattle.strm_types.specs.OutputTurns.{Outgoing, output_dir, output_serves, posted, unchanged, with_given}
@@ -29,7 +29,6 @@ use Rattle.strm_frame.specs.declared.service.Served.{Served}
 use Rattle.strm_frame.specs.Outboxes.{sent_of}
 use Rattle.strm_frame.specs.Hands.{HasRoom}
 use Rattle.strm_frame.specs.Serves.{least_free, stop_at, stop_of}
-use Rattle.strm_ldterm.specs.declared.ldterm.Ldterm.{Ldterm}
 use Rattle.strm_ldterm.specs.Bounds.{goes_out, passes_whole}
 use Rattle.strm_ldterm.specs.Called.{ServesAs, at_work, bytes_of_way}
 use Rattle.strm_ldterm.specs.Does.{Proceeds}
@@ -37,7 +36,7 @@ use Rattle.strm_queue.specs.Stored.{FreesNone}
 use Rattle.strm_ldterm.specs.Outgone.{BeganOutput, data_of, let_go}
 use Rattle.strm_ldterm.specs.Posting.{PoursAs, poured}
 use Rattle.strm_ldterm.specs.FreeBefore.{IsFreeBefore, all_free}
-use Rattle.strm_ldterm.specs.Stands.{ldterm_in, stage_in}
+use Rattle.strm_ldterm.specs.Stands.{ldterm_in, stage_in, Paired}
 use Rattle.strm_ldterm.specs.Turns.{one_after, stages_left}
 use Rattle.strm_ldterm.proofs.Bytes.{lower, none-begun, none-done, takes-any}
 use Rattle.strm_ldterm.proofs.Freeing.{stays-few}
@@ -47,12 +46,12 @@ use Rattle.strm_ldterm.proofs.Turned.{begun-later, cells-within, down≢up, down
 
 module _ (here : Spot) (stop : Option ℕ) where
   -- bytes that go out, so many at most
-  abbrev gone_out : ℕ → List ℕ → Message ℕ → ldterms.Ldterm ℕ → Outgoing ℕ
+  abbrev gone_out : ℕ → List ℕ → Message ℕ → ldterms.Discipline ℕ → Outgoing ℕ
   gone_out most xs m p =
       let t = posts plain (output_dir plain here) 0 p.termios p.column (take most xs) in
       record { messages = with_given t.given m; left = Some (left_of (drop most xs) m); bytes = length (take most xs); column = t.column; told = t.told }
 
-  pub posted-some : (xs : List ℕ) (m : Message ℕ) (p : ldterms.Ldterm ℕ) → 0 < length xs → posted plain here stop 0 xs m p ≡ gone_out (unwrap_or stop (length xs)) xs m p
+  pub posted-some : (xs : List ℕ) (m : Message ℕ) (p : ldterms.Discipline ℕ) → 0 < length xs → posted plain here stop 0 xs m p ≡ gone_out (unwrap_or stop (length xs)) xs m p
   posted-some [] m p some = absurd (omega arith)
   posted-some (x ∷ xs) m p some = refl
 
@@ -61,17 +60,17 @@ given-same : (l : List ℕ) (band : ℕ) (cells : List ℕ) (m : Message ℕ) �
 given-same [] band cells m is = refl
 given-same (c ∷ l) band cells m is = ap (λ (n : Message ℕ). record n { control = None; body = Some (c ∷ l) } ∷ []) is
 
-module _ (here : Spot) (p : ldterms.Ldterm ℕ) (m : Message ℕ) (rest : List (Message ℕ)) (band : ℕ) (first : p.write_queue.messages ≡ m ∷ rest) (is : m ≡ data_of band (cells_of m)) (output : opost p.termios ≡ true)
+module _ (here : Spot) (p : ldterms.Discipline ℕ) (m : Message ℕ) (rest : List (Message ℕ)) (band : ℕ) (first : p.write_queue.messages ≡ m ∷ rest) (is : m ≡ data_of band (cells_of m)) (output : opost p.termios ≡ true)
     (some : 0 < length (cells_of m)) (idle : p.in_work ≡ None) (none : p.gathered ≡ []) where
   -- it is in work
-  abbrev pub begun : ldterms.Ldterm ℕ
+  abbrev pub begun : ldterms.Discipline ℕ
   begun = record p { write_queue = left_with rest p.write_queue; in_work = Some m }
 
   both : (is_data m.kind && opost p.termios) ≡ true
   both = ap (λ (n : Message ℕ). is_data n.kind && opost p.termios) is ∙ output
 
   -- the end of a turn in which so many bytes went out
-  abbrev ended : ℕ → Option (Message ℕ) → List ℕ → List (Message ℕ) → ℕ → List (Fate ℕ) → ℕ → Serving ℕ (ldterms.Ldterm ℕ)
+  abbrev ended : ℕ → Option (Message ℕ) → List ℕ → List (Message ℕ) → ℕ → List (Fate ℕ) → ℕ → Serving ℕ (ldterms.Discipline ℕ)
   ended n work gathered messages column told bytes = record {
     acted = record {
       state = record p { write_queue = back_on (Some (left_of (drop n (cells_of m)) m)) (left_with rest p.write_queue); column = column; in_work = work; gathered = gathered };
@@ -99,9 +98,9 @@ module _ (here : Spot) (p : ldterms.Ldterm ℕ) (m : Message ℕ) (rest : List (
       ∙ ap (λ told. ended n None [] (with_given (p.gathered ++ t.given) (data_of band [])) t.column told n) (sym (append-nil t.told))
 
 -- A call in which so many bytes went out, and so many are left.
-module _ (s s1 s3 : StoreValue) (here : Spot) (x x1 x3 : Ldterm) (bytes n left band : ℕ) (notes : ArrayVec Note) (sent : Outbox) (t t' : Fates) (way : here.way ≡ Down)
+module _ (s s1 s3 : StoreValue) (here : Spot) (x x1 x3 : Paired) (bytes n left band : ℕ) (notes : ArrayVec Note) (sent : Outbox) (t t' : Fates) (way : here.way ≡ Down)
     (between : stages_left (stage_in x.stage) ≡ 0) (b : BeganOutput s s1 here x x1 bytes band) (count : n + left ≡ bytes) (st1 : IsStore s1) (quiet : notes.items ≡ []) where
-  abbrev p : ldterms.Ldterm ℕ
+  abbrev p : ldterms.Discipline ℕ
   p = ldterm_in s x
 
   abbrev cells : List ℕ
@@ -110,7 +109,7 @@ module _ (s s1 s3 : StoreValue) (here : Spot) (x x1 x3 : Ldterm) (bytes n left b
   pub some-there : 0 < length cells
   some-there = let z = b.some in let y = b.size in omega arith
 
-  abbrev pub start : ldterms.Ldterm ℕ
+  abbrev pub start : ldterms.Discipline ℕ
   start = begun here p b.message b.rest band b.first b.is b.output some-there b.idle b.none
 
   pub in-work : ldterm_in s1 x1 ≡ start
@@ -133,16 +132,16 @@ module _ (s s1 s3 : StoreValue) (here : Spot) (x x1 x3 : Ldterm) (bytes n left b
       let whole = down-serves here again (stop_of served) p way ∙ out-is here p b.message b.rest band b.first b.is b.output some-there b.idle b.none (stop_of served) n stops-at (omega arith) in
       record {
         does =
-            subst (λ (v : Serving ℕ (ldterms.Ldterm ℕ)). Proceeds s s3 x x3 (all_free s) notes.items (sent_of sent) t t' v.acted) (sym whole)
+            subst (λ (v : Serving ℕ (ldterms.Discipline ℕ)). Proceeds s s3 x x3 (all_free s) notes.items (sent_of sent) t t' v.acted) (sym whole)
             (subst (λ ns. Proceeds s s3 x x3 (all_free s) ns (sent_of sent) t t' (one_after (poured here n start) (let_go here band))) (sym quiet) all);
-        bytes = sym (ap (λ (v : Serving ℕ (ldterms.Ldterm ℕ)). v.bytes) whole);
-        again_is = sym (ap (λ (v : Serving ℕ (ldterms.Ldterm ℕ)). v.again) whole);
+        bytes = sym (ap (λ (v : Serving ℕ (ldterms.Discipline ℕ)). v.bytes) whole);
+        again_is = sym (ap (λ (v : Serving ℕ (ldterms.Discipline ℕ)). v.again) whole);
         begun = λ goes byte within.
             let none = none-begun (stage_in x.stage) between in
             let opens : at_work Down again p ≡ start = ap (λ ms. at_work Down again (record p { write_queue = record p.write_queue { messages = ms } })) b.first in
             let same : at_work here.way again p ≡ start = ap (λ w. at_work w again p) way ∙ opens in
             subst (λ m. IsFreeBefore s x t m (at_work here.way again p) byte) (sym (ap (bytes_of_way here) way))
-            (subst (λ (q : ldterms.Ldterm ℕ). IsFreeBefore s x t (poured here) q byte) (sym same)
+            (subst (λ (q : ldterms.Discipline ℕ). IsFreeBefore s x t (poured here) q byte) (sym same)
             (begun-later s s1 x x1 t (poured here) start byte st1 (b.works t) (begins byte (omega (arith, within, none)))));
         stops = λ v. (low (lower 0 left v), refl);
         ends = λ v.
@@ -165,7 +164,7 @@ module _ (s s1 s3 : StoreValue) (here : Spot) (x x1 x3 : Ldterm) (bytes n left b
       some-left (x ∷ xs) some = refl
 
 -- where they went out one after the other
-module _ (s s1 s2 s3 : StoreValue) (here : Spot) (x x1 x2 x3 : Ldterm) (bytes left band : ℕ) (notes : ArrayVec Note) (sent : Outbox) (t t' : Fates) (way : here.way ≡ Down)
+module _ (s s1 s2 s3 : StoreValue) (here : Spot) (x x1 x2 x3 : Paired) (bytes left band : ℕ) (notes : ArrayVec Note) (sent : Outbox) (t t' : Fates) (way : here.way ≡ Down)
     (between : stages_left (stage_in x.stage) ≡ 0) (b : BeganOutput s s1 here x x1 bytes band) (pours : PoursAs s1 s2 here x1 x2 bytes left t t')
     (go : Proceeds s2 s3 x2 x3 0 [] (sent_of sent) t' t' (let_go here band (ldterm_in s2 x2))) (frees : 0 < length (cells_left (ldterm_in s2 x2)) → FreesNone s2 s3)
     (st1 : IsStore s1) (st2 : IsStore s2) (quiet : notes.items ≡ []) where
@@ -175,7 +174,7 @@ module _ (s s1 s2 s3 : StoreValue) (here : Spot) (x x1 x2 x3 : Ldterm) (bytes le
   all-told : m + left ≡ bytes
   all-told = let few = pours.fewer in omega arith
 
-  abbrev from : ldterms.Ldterm ℕ
+  abbrev from : ldterms.Discipline ℕ
   from = start s s1 s3 here x x1 x3 bytes m left band notes sent t t' way between b all-told st1 quiet
 
   is-in-work : ldterm_in s1 x1 ≡ from
@@ -184,9 +183,9 @@ module _ (s s1 s2 s3 : StoreValue) (here : Spot) (x x1 x2 x3 : Ldterm) (bytes le
   out-left : length (cells_left (ldterm_in s2 x2)) ≡ left
   out-left =
       let size = b.size in
-      ap (λ (q : ldterms.Ldterm ℕ). length (cells_left q)) pours.does.state
-      ∙ ap length (pours-left here m (ldterm_in s1 x1) (ap (λ (q : ldterms.Ldterm ℕ). is_some q.in_work) is-in-work))
-      ∙ ap (λ (q : ldterms.Ldterm ℕ). length (drop m (cells_left q))) is-in-work
+      ap (λ (q : ldterms.Discipline ℕ). length (cells_left q)) pours.does.state
+      ∙ ap length (pours-left here m (ldterm_in s1 x1) (ap (λ (q : ldterms.Discipline ℕ). is_some q.in_work) is-in-work))
+      ∙ ap (λ (q : ldterms.Discipline ℕ). length (drop m (cells_left q))) is-in-work
       ∙ length-drop m (cells_of b.message)
       ∙ omega (arith, size, all-told)
 

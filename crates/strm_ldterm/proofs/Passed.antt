@@ -32,11 +32,11 @@ use Rattle.strm_frame.specs.declared.parcels.Sent.{Sent}
 use Rattle.strm_frame.specs.Hands.{once, OnlyOwn}
 use Rattle.strm_frame.specs.Outboxes.{message_in, times_sent, parcels_in, AreChains}
 use Rattle.strm_frame.proofs.Handing.{once-self, once-apart, one-parts, one-chains, no-parts, none-chains}
-use Rattle.strm_ldterm.specs.declared.ldterm.Ldterm.{Ldterm}
-use Rattle.strm_ldterm.specs.Stands.{ldterm_in, owns, times_kept, keeps, IsHeld}
+use Rattle.strm_ldterm.specs.Stands.{ldterm_in, owns, times_kept, keeps, IsHeld, Paired}
 use Rattle.strm_ldterm.specs.Bounds.{goes_out, passes_whole}
 use Rattle.strm_ldterm.specs.Does.{Proceeds}
-use Rattle.strm_ldterm.specs.Frames.{form-same, list-ready}
+use Rattle.strm_frame.specs.StandingLaws.{queue-ready}
+use Rattle.strm_ldterm.specs.Frames.{form-same}
 use Rattle.strm_ldterm.specs.Began.{BeganWhole, BeganWork}
 use Rattle.strm_ldterm.specs.Outgone.{BeganOutput, PassedDown, output_of}
 use Rattle.strm_ldterm.proofs.OutWhole.{goes-whole}
@@ -59,10 +59,10 @@ unfolding times_kept
 none-kept None none = refl
 none-kept (Some m) none = let one = once-self (token m) in let z = none (token m) in absurd (omega arith)
 
-abbrev at_rest : Ldterm → Ldterm
+abbrev at_rest : Paired → Paired
 at_rest x = record x { in_work = None; gathered = None; echoing = false }
 
-rests-is : (x : Ldterm) → ((i : ℕ) → keeps x i ≡ 0) → x.echoing ≡ false → x ≡ at_rest x
+rests-is : (x : Paired) → ((i : ℕ) → keeps x i ≡ 0) → x.echoing ≡ false → x ≡ at_rest x
 rests-is x rests quiet =
     let work = none-kept x.in_work (λ i. let r = rests i in omega arith) in
     let gathers = none-kept x.gathered (λ i. let r = rests i in omega arith) in
@@ -71,7 +71,7 @@ rests-is x rests quiet =
     ∙ ap (λ v. record x { in_work = None; gathered = None; echoing = v }) quiet
 
 -- nothing happens
-pub stays : (s : StoreValue) (x : Ldterm) (sent : List Sent) (f : Fates) → IsHeld s x → sent ≡ [] → Proceeds s s x x 0 [] sent f f (sends [] (ldterm_in s x))
+pub stays : (s : StoreValue) (x : Paired) (sent : List Sent) (f : Fates) → IsHeld s x → sent ≡ [] → Proceeds s s x x 0 [] sent f f (sends [] (ldterm_in s x))
 unfolding times_sent
 stays s x sent f held none = record {
   state = refl;
@@ -99,30 +99,30 @@ module _ (s t : StoreValue) (q q' : Queue) (i : ℕ) (is : Dequeued s t q q' i) 
       ∙ in_hand-held_other s i j (in_hand t i) (λ e. (let w = ap (λ k. times_in k s.hand) e in let z = is.fresh in absurd (omega arith)))
 
 -- nothing stands there
-module _ (s : StoreValue) (x : Ldterm) (here : Spot) where
+module _ (s : StoreValue) (x : Paired) (here : Spot) where
   down-none : (stop : Option ℕ) → messages_on s x.write_queue.list ≡ [] → output_of s s here x x stop ≡ nothing_served cells.plain here (ldterm_in s x)
   down-none stop none = ap (λ (ms : List (Message ℕ)). output_serves cells.plain here stop 0 ms (ldterm_in s x)) none
 
   pub stays-down : (sent : List Sent) → IsHeld s x → messages_on s x.write_queue.list ≡ [] → sent ≡ [] → PassedDown s s here x x sent 0
   stays-down sent held none empty = record {
-    passes = λ stop f. subst (λ (v : Serving ℕ (ldterms.Ldterm ℕ)). Proceeds s s x x 0 [] sent f f v.acted) (sym (down-none stop none)) (stays s x sent f held empty);
-    size = λ stop. sym (ap (λ (v : Serving ℕ (ldterms.Ldterm ℕ)). v.bytes) (down-none stop none));
-    again = λ stop. ap (λ (v : Serving ℕ (ldterms.Ldterm ℕ)). v.again) (down-none stop none);
+    passes = λ stop f. subst (λ (v : Serving ℕ (ldterms.Discipline ℕ)). Proceeds s s x x 0 [] sent f f v.acted) (sym (down-none stop none)) (stays s x sent f held empty);
+    size = λ stop. sym (ap (λ (v : Serving ℕ (ldterms.Discipline ℕ)). v.bytes) (down-none stop none));
+    again = λ stop. ap (λ (v : Serving ℕ (ldterms.Discipline ℕ)). v.again) (down-none stop none);
     whole = λ again. ap (λ (ms : List (Message ℕ)). passes_whole Down again (record (ldterm_in s x) { write_queue = record (ldterm_in s x).write_queue { messages = ms } })) none;
   }
 
-pub stays-up : (s : StoreValue) (here : Spot) (x : Ldterm) → IsHeld s x → messages_on s x.read_queue.list ≡ [] → BeganWhole s s here x x [] 0
+pub stays-up : (s : StoreValue) (here : Spot) (x : Paired) → IsHeld s x → messages_on s x.read_queue.list ≡ [] → BeganWhole s s here x x [] 0
 stays-up s here x held none =
     let is = λ (stop : Option ℕ). ap (λ (ms : List (Message ℕ)). input_begins cells.plain here stop 0 ms (ldterm_in s x)) none in
     record {
-      passes = λ stop f. subst (λ (v : Serving ℕ (ldterms.Ldterm ℕ)). Proceeds s s x x 0 [] [] f f v.acted) (sym (is stop)) (stays s x [] f held refl);
-      size = λ stop. sym (ap (λ (v : Serving ℕ (ldterms.Ldterm ℕ)). v.bytes) (is stop));
-      again = λ stop. ap (λ (v : Serving ℕ (ldterms.Ldterm ℕ)). v.again) (is stop);
+      passes = λ stop f. subst (λ (v : Serving ℕ (ldterms.Discipline ℕ)). Proceeds s s x x 0 [] [] f f v.acted) (sym (is stop)) (stays s x [] f held refl);
+      size = λ stop. sym (ap (λ (v : Serving ℕ (ldterms.Discipline ℕ)). v.bytes) (is stop));
+      again = λ stop. ap (λ (v : Serving ℕ (ldterms.Discipline ℕ)). v.again) (is stop);
       whole = ap (λ (ms : List (Message ℕ)). passes_whole Up false (record (ldterm_in s x) { read_queue = record (ldterm_in s x).read_queue { messages = ms } })) none;
     }
 
 -- off the write queue
-module _ (s t : StoreValue) (x : Ldterm) (q' : Queue) (m : InHand) (held : IsHeld s (at_rest x)) (is : Dequeued s t x.write_queue q' (token m)) where
+module _ (s t : StoreValue) (x : Paired) (q' : Queue) (m : InHand) (held : IsHeld s (at_rest x)) (is : Dequeued s t x.write_queue q' (token m)) where
   reads-stay : list_at t x.read_queue.list ≡ list_at s x.read_queue.list
   reads-stay = is.others x.read_queue.list (λ e. let a = held.apart in absurd (omega arith))
 
@@ -148,7 +148,7 @@ module _ (s t : StoreValue) (x : Ldterm) (q' : Queue) (m : InHand) (held : IsHel
     parcels = one-parts t (record { to = to; message = m }) sent one ∙ ap (λ (spot : Spot). record { to = spot; message = message_in t (token m) } ∷ []) there;
     told = refl;
     held = record {
-      read = list-ready s t x.read_queue reads-stay held.read;
+      read = queue-ready s t x.read_queue reads-stay held.read;
       write = is.ready;
       apart = (let a = held.apart in let e = is.list in omega arith);
       work = tt;
@@ -173,12 +173,12 @@ module _ (s t : StoreValue) (x : Ldterm) (q' : Queue) (m : InHand) (held : IsHel
       (sends [] (record (ldterm_in s (at_rest x)) { write_queue = left_with (messages_on t q'.list) (ldterm_in s (at_rest x)).write_queue; in_work = Some (message_in t (token m)) }))
   unfolding times_kept times_sent parcels_in AreChains
   down-kept f st kind = record {
-    state = ap (λ (p : ldterms.Ldterm ℕ). record p { in_work = Some (message_in t (token m)) }) down-plain;
+    state = ap (λ (p : ldterms.Discipline ℕ). record p { in_work = Some (message_in t (token m)) }) down-plain;
     noted = refl;
     parcels = refl;
     told = refl;
     held = record {
-      read = list-ready s t x.read_queue reads-stay held.read;
+      read = queue-ready s t x.read_queue reads-stay held.read;
       write = is.ready;
       apart = (let a = held.apart in let e = is.list in omega arith);
       work = record { chain = is.chain; kind = kind };
@@ -207,10 +207,10 @@ module _ (s t : StoreValue) (x : Ldterm) (q' : Queue) (m : InHand) (held : IsHel
       → bytes ≡ size_of (message_in t (token m)) → PassedDown s t here (at_rest x) (record (at_rest x) { write_queue = q' }) sent bytes
   down-whole to here sent bytes one there whole size = record {
     passes = λ stop f.
-        subst (λ (v : Serving ℕ (ldterms.Ldterm ℕ)). Proceeds s t (at_rest x) (record (at_rest x) { write_queue = q' }) 0 [] sent f f v.acted) (sym (down-is here stop whole))
+        subst (λ (v : Serving ℕ (ldterms.Discipline ℕ)). Proceeds s t (at_rest x) (record (at_rest x) { write_queue = q' }) 0 [] sent f f v.acted) (sym (down-is here stop whole))
         (down-proceeds to here sent f one there);
-    size = λ stop. size ∙ sym (ap (λ (v : Serving ℕ (ldterms.Ldterm ℕ)). v.bytes) (down-is here stop whole));
-    again = λ stop. ap (λ (v : Serving ℕ (ldterms.Ldterm ℕ)). v.again) (down-is here stop whole);
+    size = λ stop. size ∙ sym (ap (λ (v : Serving ℕ (ldterms.Discipline ℕ)). v.bytes) (down-is here stop whole));
+    again = λ stop. ap (λ (v : Serving ℕ (ldterms.Discipline ℕ)). v.again) (down-is here stop whole);
     whole = λ again.
         let p = ldterm_in s (at_rest x) in
         ap (λ (ms : List (Message ℕ)). passes_whole Down again (record p { write_queue = record p.write_queue { messages = ms } })) is.first ∙ ap not whole;
@@ -236,7 +236,7 @@ module _ (s t : StoreValue) (x : Ldterm) (q' : Queue) (m : InHand) (held : IsHel
   }
 
 -- off the read queue
-module _ (s t : StoreValue) (x : Ldterm) (q' : Queue) (m : InHand) (held : IsHeld s (at_rest x)) (is : Dequeued s t x.read_queue q' (token m)) where
+module _ (s t : StoreValue) (x : Paired) (q' : Queue) (m : InHand) (held : IsHeld s (at_rest x)) (is : Dequeued s t x.read_queue q' (token m)) where
   writes-stay : list_at t x.write_queue.list ≡ list_at s x.write_queue.list
   writes-stay = is.others x.write_queue.list (λ e. let a = held.apart in absurd (omega arith))
 
@@ -263,7 +263,7 @@ module _ (s t : StoreValue) (x : Ldterm) (q' : Queue) (m : InHand) (held : IsHel
     told = refl;
     held = record {
       read = is.ready;
-      write = list-ready s t x.write_queue writes-stay held.write;
+      write = queue-ready s t x.write_queue writes-stay held.write;
       apart = (let a = held.apart in let e = is.list in omega arith);
       work = tt;
       gathers = tt;
@@ -284,7 +284,7 @@ module _ (s t : StoreValue) (x : Ldterm) (q' : Queue) (m : InHand) (held : IsHel
   -- or kept in work
   work-plain : ldterm_in t (record (at_rest x) { read_queue = q'; in_work = Some m })
       ≡ record (ldterm_in s (at_rest x)) { read_queue = left_with (messages_on t q'.list) (ldterm_in s (at_rest x)).read_queue; in_work = Some (message_in t (token m)) }
-  work-plain = ap (λ (p : ldterms.Ldterm ℕ). record p { in_work = Some (message_in t (token m)) }) up-plain
+  work-plain = ap (λ (p : ldterms.Discipline ℕ). record p { in_work = Some (message_in t (token m)) }) up-plain
 
   work-proceeds : (f : Fates) → IsStore t → (block_at 0 (in_hand t (token m))).kind ≡ kinds.Data
       → Proceeds s t (at_rest x) (record (at_rest x) { read_queue = q'; in_work = Some m }) 0 [] [] f f
@@ -297,7 +297,7 @@ module _ (s t : StoreValue) (x : Ldterm) (q' : Queue) (m : InHand) (held : IsHel
     told = refl;
     held = record {
       read = is.ready;
-      write = list-ready s t x.write_queue writes-stay held.write;
+      write = queue-ready s t x.write_queue writes-stay held.write;
       apart = (let a = held.apart in let e = is.list in omega arith);
       work = record { chain = is.chain; kind = kind };
       gathers = tt;
@@ -319,22 +319,22 @@ module _ (s t : StoreValue) (x : Ldterm) (q' : Queue) (m : InHand) (held : IsHel
   up-is : (here : Spot) (stop : Option ℕ) (v : Bool) → is_data (message_in t (token m)).kind ≡ v
       → let p = ldterm_in s (at_rest x) in let i = message_in t (token m) in let rest = messages_on t q'.list in
       input_begins cells.plain here stop 0 p.read_queue.messages p
-      ≡ cond {A = Serving ℕ (ldterms.Ldterm ℕ)} v (treats cells.plain here (unwrap_or stop (length (cells_of i))) 0 (record p { read_queue = left_with rest p.read_queue; in_work = Some i })) (passes cells.plain here Up i rest p)
+      ≡ cond {A = Serving ℕ (ldterms.Discipline ℕ)} v (treats cells.plain here (unwrap_or stop (length (cells_of i))) 0 (record p { read_queue = left_with rest p.read_queue; in_work = Some i })) (passes cells.plain here Up i rest p)
   up-is here stop v kind =
       let p = ldterm_in s (at_rest x) in
       let i = message_in t (token m) in
       let rest = messages_on t q'.list in
       ap (λ (ms : List (Message ℕ)). input_begins cells.plain here stop 0 ms p) is.first
-      ∙ ap (λ (w : Bool). cond {A = Serving ℕ (ldterms.Ldterm ℕ)} w (treats cells.plain here (unwrap_or stop (length (cells_of i))) 0 (record p { read_queue = left_with rest p.read_queue; in_work = Some i })) (passes cells.plain here Up i rest p)) kind
+      ∙ ap (λ (w : Bool). cond {A = Serving ℕ (ldterms.Discipline ℕ)} w (treats cells.plain here (unwrap_or stop (length (cells_of i))) 0 (record p { read_queue = left_with rest p.read_queue; in_work = Some i })) (passes cells.plain here Up i rest p)) kind
 
   whole-rest : (to : Spot) (here : Spot) (sent : List Sent) (bytes : ℕ) → sent ≡ record { to = to; message = m } ∷ [] → to ≡ toward Up here → is_data (message_in t (token m)).kind ≡ false
       → bytes ≡ size_of (message_in t (token m)) → BeganWhole s t here (at_rest x) (record (at_rest x) { read_queue = q' }) sent bytes
   whole-rest to here sent bytes one there kind size = record {
     passes = λ stop f.
-        subst (λ (v : Serving ℕ (ldterms.Ldterm ℕ)). Proceeds s t (at_rest x) (record (at_rest x) { read_queue = q' }) 0 [] sent f f v.acted) (sym (up-is here stop false kind))
+        subst (λ (v : Serving ℕ (ldterms.Discipline ℕ)). Proceeds s t (at_rest x) (record (at_rest x) { read_queue = q' }) 0 [] sent f f v.acted) (sym (up-is here stop false kind))
         (up-proceeds to here sent f one there);
-    size = λ stop. size ∙ sym (ap (λ (v : Serving ℕ (ldterms.Ldterm ℕ)). v.bytes) (up-is here stop false kind));
-    again = λ stop. ap (λ (v : Serving ℕ (ldterms.Ldterm ℕ)). v.again) (up-is here stop false kind);
+    size = λ stop. size ∙ sym (ap (λ (v : Serving ℕ (ldterms.Discipline ℕ)). v.bytes) (up-is here stop false kind));
+    again = λ stop. ap (λ (v : Serving ℕ (ldterms.Discipline ℕ)). v.again) (up-is here stop false kind);
     whole = (let p = ldterm_in s (at_rest x) in ap (λ (ms : List (Message ℕ)). passes_whole Up false (record p { read_queue = record p.read_queue { messages = ms } })) is.first ∙ ap not kind);
   }
 
@@ -350,7 +350,7 @@ module _ (s t : StoreValue) (x : Ldterm) (q' : Queue) (m : InHand) (held : IsHel
     treated = λ stop.
         up-is here stop true treated
         ∙ ap (λ n. treats cells.plain here (unwrap_or stop n) 0 (record (ldterm_in s (at_rest x)) { read_queue = left_with (messages_on t q'.list) (ldterm_in s (at_rest x)).read_queue; in_work = Some (message_in t (token m)) })) (sym size)
-        ∙ ap (λ (p : ldterms.Ldterm ℕ). treats cells.plain here (unwrap_or stop bytes) 0 p) (sym work-plain);
+        ∙ ap (λ (p : ldterms.Discipline ℕ). treats cells.plain here (unwrap_or stop bytes) 0 p) (sym work-plain);
     stage = refl;
   }
 
@@ -359,7 +359,7 @@ data-only : (k : MsgKind) → is_data k ≡ true → k ≡ kinds.Data
 data-only kinds.Data is = refl
 data-only _ is = absurd (cc)
 
-module _ (s t : StoreValue) (x : Ldterm) (q' : Queue) (m : InHand) (here : Spot) (held : IsHeld s x) (rests : (i : ℕ) → keeps x i ≡ 0) (still : x.echoing ≡ false) (is : Dequeued s t x.read_queue q' (token m)) (bytes : ℕ)
+module _ (s t : StoreValue) (x : Paired) (q' : Queue) (m : InHand) (here : Spot) (held : IsHeld s x) (rests : (i : ℕ) → keeps x i ≡ 0) (still : x.echoing ≡ false) (is : Dequeued s t x.read_queue q' (token m)) (bytes : ℕ)
     (size : bytes ≡ size_of (message_in t (token m))) where
   kind-same : is_data (message_in t (token m)).kind ≡ is_data (block_at 0 (in_hand t (token m))).kind
   kind-same = ap is_data (kind-is (in_hand t (token m)))
@@ -368,14 +368,14 @@ module _ (s t : StoreValue) (x : Ldterm) (q' : Queue) (m : InHand) (here : Spot)
       → BeganWhole s t here x (record x { read_queue = q' }) sent bytes
   began-whole to sent one there kind =
       let quiet = rests-is x rests still in
-      subst (λ (y : Ldterm). BeganWhole s t here y (record y { read_queue = q' }) sent bytes) (sym quiet)
+      subst (λ (y : Paired). BeganWhole s t here y (record y { read_queue = q' }) sent bytes) (sym quiet)
       (whole-rest s t x q' m (subst (IsHeld s) quiet held) is to here sent bytes one there (kind-same ∙ kind) size)
 
   pub began-work : IsStore t → is_data (block_at 0 (in_hand t (token m))).kind ≡ true → BeganWork s t here x (record x { read_queue = q'; in_work = Some m }) bytes
   began-work st kind =
       let quiet = rests-is x rests still in
       let of_data = data-only (block_at 0 (in_hand t (token m))).kind kind in
-      subst (λ (y : Ldterm). BeganWork s t here y (record y { read_queue = q'; in_work = Some m }) bytes) (sym quiet)
+      subst (λ (y : Paired). BeganWork s t here y (record y { read_queue = q'; in_work = Some m }) bytes) (sym quiet)
       (work-rest s t x q' m (subst (IsHeld s) quiet held) is here bytes st of_data (kind-same ∙ kind) (size ∙ data-size (in_hand t (token m)) is.chain of_data))
 
 -- whether a message goes out
@@ -391,7 +391,7 @@ both-true true true false is = absurd (false≢true is)
 both-true true false c is = absurd (false≢true is)
 both-true false b c is = absurd (false≢true is)
 
-module _ (s t : StoreValue) (x : Ldterm) (q' : Queue) (m : InHand) (here : Spot) (held : IsHeld s x) (rests : (i : ℕ) → keeps x i ≡ 0) (still : x.echoing ≡ false) (is : Dequeued s t x.write_queue q' (token m)) (bytes : ℕ)
+module _ (s t : StoreValue) (x : Paired) (q' : Queue) (m : InHand) (here : Spot) (held : IsHeld s x) (rests : (i : ℕ) → keeps x i ≡ 0) (still : x.echoing ≡ false) (is : Dequeued s t x.write_queue q' (token m)) (bytes : ℕ)
     (size : bytes ≡ size_of (message_in t (token m))) where
   abbrev kind : MsgKind
   kind = (block_at 0 (in_hand t (token m))).kind
@@ -405,7 +405,7 @@ module _ (s t : StoreValue) (x : Ldterm) (q' : Queue) (m : InHand) (here : Spot)
       → PassedDown s t here x (record x { write_queue = q' }) sent bytes
   passed-down to sent one there whole =
       let quiet = rests-is x rests still in
-      subst (λ (y : Ldterm). PassedDown s t here y (record y { write_queue = q' }) sent bytes) (sym quiet)
+      subst (λ (y : Paired). PassedDown s t here y (record y { write_queue = q' }) sent bytes) (sym quiet)
       (down-whole s t x q' m (subst (IsHeld s) quiet held) is to here sent bytes one there (sym tested ∙ whole) size)
 
   pub began-output : (band : ℕ) → IsStore t → band ≡ (block_at 0 (in_hand t (token m))).band → (is_data kind && (opost x.termios && nat_lt 0 bytes)) ≡ true
@@ -415,5 +415,5 @@ module _ (s t : StoreValue) (x : Ldterm) (q' : Queue) (m : InHand) (here : Spot)
       let all = both-true (is_data kind) (opost x.termios) (nat_lt 0 bytes) out in
       let of_data = data-only kind all.0 in
       let some : 0 < bytes = (let z = all.2 in grind (arith, nat_tests)) in
-      subst (λ (y : Ldterm). BeganOutput s t here y (record y { write_queue = q'; in_work = Some m }) bytes band) (sym quiet)
+      subst (λ (y : Paired). BeganOutput s t here y (record y { write_queue = q'; in_work = Some m }) bytes band) (sym quiet)
       (down-work s t x q' m (subst (IsHeld s) quiet held) is here bytes band st of_data all.1 some (size ∙ data-size (in_hand t (token m)) is.chain of_data) banded)

@@ -7,12 +7,12 @@ use Rattle.strm_types.specs.declared.names.Way.TheVariants.{Up, Down}
 use Rattle.strm_types.specs.declared.rules.Fates.{Fates}
 use Rattle.strm_types.specs.declared.spots.Note.{Note}
 use Rattle.strm_types.specs.declared.spots.Spot.{Spot}
-use Rattle.strm_types.specs.Deliver.{Acted, tallied}
+use Rattle.strm_types.specs.Deliver.{Acted, tallied, onward}
 use Rattle.strm_types.specs.Flush.{is_data_kind}
 use Rattle.strm_types.specs.Flushing.{is_flush}
 use Rattle.strm_types.specs.LdtermPuts.{ldterm_puts, passes_on_way, waits_on}
 use Rattle.strm_types.specs.Ldterms as ldterms
-use Rattle.strm_types.specs.Ldterms.{sends, both, onward, queue_flushed, line_flushed, read_flushed, write_flushed, takes_band_0, flush_passes, queued_at}
+use Rattle.strm_types.specs.Ldterms.{sends, both, queue_flushed, line_flushed, read_flushed, write_flushed, takes_band_0, flush_passes, queued_at}
 use Rattle.std.specs.Prelude.{◌&&◌, not}
 use Rattle.strm_types.specs.Message.{Message}
 use Rattle.strm_types.specs.Service.{line_gone}
@@ -22,31 +22,30 @@ use Rattle.strm_msg.specs.Messages.{message_of}
 use Rattle.strm_frame.specs.declared.modules.Acts.{Acts}
 use Rattle.strm_frame.specs.Hands.{CanPut}
 use Rattle.strm_frame.specs.Outboxes.{message_in}
-use Rattle.strm_ldterm.specs.declared.ldterm.Ldterm.{Ldterm}
-use Rattle.strm_ldterm.specs.Stands.{ldterm_in, keeps}
+use Rattle.strm_ldterm.specs.Stands.{ldterm_in, keeps, Paired}
 use Rattle.strm_ldterm.specs.Does.{Does, Flushes}
 use Rattle.strm_ldterm.proofs.Steps.{still-chain, alters-does}
 
 -- flushes send nothing
-pub read-sends : (here : Spot) (asked : FlushAsked) (p : ldterms.Ldterm ℕ) → (read_flushed here asked p).sent ≡ []
+pub read-sends : (here : Spot) (asked : FlushAsked) (p : ldterms.Discipline ℕ) → (read_flushed here asked p).sent ≡ []
 read-sends here asked p =
     elim asked.for_read as (λ v. (cond v (both (queue_flushed Up here asked.band p) (line_flushed here asked.band)) (sends [] p)).sent ≡ []) [
       | true ↦ line-sends ((queue_flushed Up here asked.band p).state)
       | false ↦ refl
     ]
   where
-    line-sends : (p : ldterms.Ldterm ℕ) → (line_flushed here asked.band p).sent ≡ []
+    line-sends : (p : ldterms.Discipline ℕ) → (line_flushed here asked.band p).sent ≡ []
     line-sends p = at (takes_band_0 asked.band)
       where
         at : (v : Bool) → (cond v (record (sends [] (ldterms.without_line p)) { gone = line_gone here.side Flushed p.line }) (sends [] p)).sent ≡ []
         at true = refl
         at false = refl
 
-write-sends : (here : Spot) (asked : FlushAsked) (p : ldterms.Ldterm ℕ) → (write_flushed here asked p).sent ≡ []
+write-sends : (here : Spot) (asked : FlushAsked) (p : ldterms.Discipline ℕ) → (write_flushed here asked p).sent ≡ []
 write-sends here asked p =
     elim asked.for_write as (λ v. (cond v (queue_flushed Down here asked.band (record p { echoing = p.echoing && not (takes_band_0 asked.band) })) (sends [] p)).sent ≡ []) [ true ↦ refl | false ↦ refl ]
 
-pub flushes-send : (here : Spot) (asked : FlushAsked) (p : ldterms.Ldterm ℕ) → (both (read_flushed here asked p) (write_flushed here asked)).sent ≡ []
+pub flushes-send : (here : Spot) (asked : FlushAsked) (p : ldterms.Discipline ℕ) → (both (read_flushed here asked p) (write_flushed here asked)).sent ≡ []
 flushes-send here asked p =
     ap (λ l. l ++ (write_flushed here asked (read_flushed here asked p).state).sent) (read-sends here asked p) ∙ write-sends here asked (read_flushed here asked p).state
 
@@ -55,9 +54,9 @@ unfolding is_data_kind
 flush-plain kinds.Flush is = refl
 flush-plain _ is = absurd (cc)
 
-module _ (s u : StoreValue) (x z : Ldterm) (i : ℕ) (st : IsStore s) (can : CanPut s i (keeps x)) where
+module _ (s u : StoreValue) (x z : Paired) (i : ℕ) (st : IsStore s) (can : CanPut s i (keeps x)) where
   -- the message goes on behind what was done
-  pub passes-after : (here : Spot) (notes : List Note) (acts : Acts) (f f2 : Fates) (a : Acted ℕ (ldterms.Ldterm ℕ)) → Flushes s u x z notes f f2 a → a.sent ≡ []
+  pub passes-after : (here : Spot) (notes : List Note) (acts : Acts) (f f2 : Fates) (a : Acted ℕ (ldterms.Discipline ℕ)) → Flushes s u x z notes f f2 a → a.sent ≡ []
       → Does u u z z i acts f2 f2 (record (sends (onward here.way here (message_in u i) ∷ []) (ldterm_in u z)) { notes = notes })
       → Does s u x z i acts f f2 (both a (sends (onward here.way here (message_in s i) ∷ [])))
   passes-after here notes acts f f2 a done none does =
@@ -79,8 +78,8 @@ module _ (s u : StoreValue) (x z : Ldterm) (i : ℕ) (st : IsStore s) (can : Can
       }
 
 -- a put by what becomes of its message
-module _ (here : Spot) (m : Message ℕ) (p : ldterms.Ldterm ℕ) where
-  abbrev puts_by : Bool → Bool → Acted ℕ (ldterms.Ldterm ℕ)
+module _ (here : Spot) (m : Message ℕ) (p : ldterms.Discipline ℕ) where
+  abbrev puts_by : Bool → Bool → Acted ℕ (ldterms.Discipline ℕ)
   puts_by waits flush = cond waits (queued_at here.way m p) (cond flush (flush_passes here m p) (passes_on_way here.way here m p))
 
   pub puts-wait : waits_on here.way m ≡ true → ldterm_puts here m p ≡ queued_at here.way m p

@@ -21,7 +21,7 @@ use Rattle.strm_types.specs.Deliver.{Comes, tallied}
 use Rattle.strm_types.specs.Echo.{echo_byte, echo_of, is_control, shown_control, tab, typed_echo}
 use Rattle.strm_types.specs.Input.{begins_next, cells_left, left_of, next_stage, with_left}
 use Rattle.strm_types.specs.Keys.{carriage_return, lowered, newline, stripped, stroke_of, taken_as}
-use Rattle.strm_types.specs.Ldterms.{Ldterm, Between, Begun, sends}
+use Rattle.strm_types.specs.Ldterms.{Discipline, Between, Begun, sends}
 use Rattle.strm_types.specs.Lines.{has_room}
 use Rattle.strm_types.specs.Message.{Message, band_of, cells_of, data_message, is_high_priority, rank_of, size_of}
 use Rattle.strm_types.specs.Queue.{count_of, flow_of, is_full, is_none_left, put, put_enables}
@@ -106,7 +106,7 @@ module _ (t : Termios) (b : ℕ) (is : is_plain t b ≡ true) where
       ∙ sym (ap (λ full. cond full (cond (imaxbel t) (7 ∷ []) []) (typed_echo t (record { key = Ordinary; byte = b; literal = false }))) room)
 
 -- What holds before a run that is treated at once.
-pub record Runs (lines echoes : Bool) (run rest : List ℕ) (p : Ldterm ℕ) : Type 0 where
+pub record Runs (lines echoes : Bool) (run rest : List ℕ) (p : Discipline ℕ) : Type 0 where
   pub canonical : icanon p.termios ≡ lines
   pub under : echo p.termios ≡ echoes
   pub between : p.stage ≡ Between
@@ -120,16 +120,16 @@ pub record Runs (lines echoes : Bool) (run rest : List ℕ) (p : Ldterm ℕ) : T
 
 module _ (here : Spot) where
   -- what a run does, with nothing hidden behind a mode: in canonical mode or not, and under ECHO or not
-  abbrev typed_as : Bool → List ℕ → Ldterm ℕ → Ldterm ℕ
+  abbrev typed_as : Bool → List ℕ → Discipline ℕ → Discipline ℕ
   typed_as lines run p = record p { line = cond lines (p.line ++ run) p.line; gathered = cond lines p.gathered (p.gathered ++ run) }
 
-  abbrev noted_as : Bool → Bool → List ℕ → Ldterm ℕ → List Note
+  abbrev noted_as : Bool → Bool → List ℕ → Discipline ℕ → List Note
   noted_as echoes grows run p = cond echoes (cond grows [] (cond (put_enables (data_message run) p.write_queue) (Enable Down ∷ []) [])) []
 
   abbrev stands_as : Bool → Bool → List ℕ → List (Message ℕ) → List (Message ℕ)
   stands_as echoes grows run ms = cond echoes (cond grows (grown plain here run ms) (put (data_message run) ms)) ms
 
-  abbrev echoed_as : Bool → List ℕ → Ldterm ℕ → Acts
+  abbrev echoed_as : Bool → List ℕ → Discipline ℕ → Acts
   echoed_as echoes run p = record {
     state = record p { write_queue = record p.write_queue { messages = stands_as echoes p.echoing run p.write_queue.messages }; echoing = cond echoes true p.echoing };
     notes = noted_as echoes p.echoing run p;
@@ -137,17 +137,17 @@ module _ (here : Spot) where
     gone = cond echoes (Comes (echo_dir plain here) run ∷ []) [];
   }
 
-  abbrev pub done_as : Bool → Bool → List ℕ → Ldterm ℕ → Acts
+  abbrev pub done_as : Bool → Bool → List ℕ → Discipline ℕ → Acts
   done_as lines echoes run p = echoed_as echoes run (typed_as lines run (with_left (drop (length run) (cells_left p)) p))
 
-  typed-as : (lines : Bool) (run : List ℕ) (p : Ldterm ℕ) → icanon p.termios ≡ lines → typed_run run p ≡ typed_as lines run p
-  typed-as lines run p is = ap (λ v. cond {A = Ldterm ℕ} v (record p { line = p.line ++ run }) (record p { gathered = p.gathered ++ run })) is ∙ at lines
+  typed-as : (lines : Bool) (run : List ℕ) (p : Discipline ℕ) → icanon p.termios ≡ lines → typed_run run p ≡ typed_as lines run p
+  typed-as lines run p is = ap (λ v. cond {A = Discipline ℕ} v (record p { line = p.line ++ run }) (record p { gathered = p.gathered ++ run })) is ∙ at lines
     where
       at : (v : Bool) → cond v (record p { line = p.line ++ run }) (record p { gathered = p.gathered ++ run }) ≡ typed_as v run p
       at true = refl
       at false = refl
 
-  echoed-as : (echoes : Bool) (run : List ℕ) (p : Ldterm ℕ) → echo p.termios ≡ echoes → run_echoed here run p ≡ echoed_as echoes run p
+  echoed-as : (echoes : Bool) (run : List ℕ) (p : Discipline ℕ) → echo p.termios ≡ echoes → run_echoed here run p ≡ echoed_as echoes run p
   echoed-as echoes run p is = ap (λ v. cond {A = Acts} v (cond p.echoing (echo_grows plain here run p) (echo_stands plain here run p)) (sends [] p)) is ∙ at echoes
     where
       grows : (v : Bool) → cond {A = Acts} v (echo_grows plain here run (record p { echoing = v })) (echo_stands plain here run (record p { echoing = v })) ≡ echoed_as true run (record p { echoing = v })
@@ -158,15 +158,15 @@ module _ (here : Spot) where
       at true = grows p.echoing
       at false = refl
 
-  pub done-as : (lines echoes : Bool) (run : List ℕ) (p : Ldterm ℕ) → icanon p.termios ≡ lines → echo p.termios ≡ echoes → run_done here run p ≡ done_as lines echoes run p
+  pub done-as : (lines echoes : Bool) (run : List ℕ) (p : Discipline ℕ) → icanon p.termios ≡ lines → echo p.termios ≡ echoes → run_done here run p ≡ done_as lines echoes run p
   done-as lines echoes run p canonical under =
       let q = with_left (drop (length run) (cells_left p)) p in
       ap (run_echoed here run) (typed-as lines run q canonical) ∙ echoed-as echoes run (typed_as lines run q) under
 
   -- one byte of it
-  module _ (lines echoes : Bool) (c : ℕ) (more rest : List ℕ) (p : Ldterm ℕ) (r : Runs lines echoes (c ∷ more) rest p) where
+  module _ (lines echoes : Bool) (c : ℕ) (more rest : List ℕ) (p : Discipline ℕ) (r : Runs lines echoes (c ∷ more) rest p) where
     -- with what is known of it written out
-    abbrev ready : Ldterm ℕ
+    abbrev ready : Discipline ℕ
     ready = record p { stopped = false; after_lnext = false; stage = Between }
 
     ready-is : p ≡ ready
@@ -175,13 +175,13 @@ module _ (here : Spot) where
         ∙ ap (λ v. record p { stopped = false; after_lnext = v }) r.free
         ∙ ap (λ st. record p { stopped = false; after_lnext = false; stage = st }) r.between
 
-    abbrev begun : Ldterm ℕ
+    abbrev begun : Discipline ℕ
     begun = record (with_left (more ++ rest) ready) { stage = Begun false c }
 
     begins : next_stage plain here 0 ready ≡ sends [] begun
     begins = ap (λ cells. begins_next plain here cells ready) r.front
 
-    abbrev typed : Ldterm ℕ
+    abbrev typed : Discipline ℕ
     typed = typed_as lines (c ∷ []) (with_left (more ++ rest) ready)
 
     has-room : (v : Bool) → lines ≡ v → (v && not (has_room p.line)) ≡ false
@@ -229,7 +229,7 @@ module _ (here : Spot) where
         ∙ ap (done_as lines echoes (c ∷ [])) (sym ready-is)
 
   -- What is left of the message in work once a first byte, and then others, are taken off it.
-  left-cells : (work : Option (Message ℕ)) (p : Ldterm ℕ) (c : ℕ) (xs ys : List ℕ) → cells_left (record p { in_work = work }) ≡ c ∷ xs → cells_left (record p { in_work = option_map (left_of ys) work }) ≡ ys
+  left-cells : (work : Option (Message ℕ)) (p : Discipline ℕ) (c : ℕ) (xs ys : List ℕ) → cells_left (record p { in_work = work }) ≡ c ∷ xs → cells_left (record p { in_work = option_map (left_of ys) work }) ≡ ys
   unfolding cells_of
   left-cells None p c xs ys is = absurd (let e = ap length is in omega arith)
   left-cells (Some m) p c xs ys is = refl
@@ -283,7 +283,7 @@ module _ (here : Spot) where
     pub told : (f : Fates) → tallied t.gone f ≡ tallied u.gone f
 
   -- a byte and then more of them
-  module _ (lines echoes : Bool) (c : ℕ) (more rest : List ℕ) (p : Ldterm ℕ) (r : Runs lines echoes (c ∷ more) rest p) where
+  module _ (lines echoes : Bool) (c : ℕ) (more rest : List ℕ) (p : Discipline ℕ) (r : Runs lines echoes (c ∷ more) rest p) where
     abbrev first : Acts
     first = done_as lines echoes (c ∷ []) p
 
@@ -395,14 +395,14 @@ module _ (here : Spot) where
   same-done : (t u : Acts) → t ≡ u → SameDone t u
   same-done t u is = record { state = ap (λ (a : Acts). a.state) is; notes = ap (λ (a : Acts). a.notes) is; sent = ap (λ (a : Acts). a.sent) is; told = λ f. ap (λ (a : Acts). tallied a.gone f) is }
 
-  pub runs-done : (lines echoes : Bool) (run rest : List ℕ) (p : Ldterm ℕ) → 0 < length run → Runs lines echoes run rest p → SameDone (ahead here (3 * length run) p) (done_as lines echoes run p)
+  pub runs-done : (lines echoes : Bool) (run rest : List ℕ) (p : Discipline ℕ) → 0 < length run → Runs lines echoes run rest p → SameDone (ahead here (3 * length run) p) (done_as lines echoes run p)
   runs-done lines echoes [] rest p some r = absurd (omega arith)
   runs-done lines echoes (c ∷ []) rest p some r = same-done (ahead here 3 p) (done_as lines echoes (c ∷ []) p) (one-byte lines echoes c [] rest p r)
   runs-done lines echoes (c ∷ d ∷ more) rest p some r =
       runs-on lines echoes c (d ∷ more) rest p r (runs-done lines echoes (d ∷ more) rest (done_as lines echoes (c ∷ []) p).state (omega arith) (next-runs lines echoes c (d ∷ more) rest p r))
 
   -- So many bytes at its front are a run too.
-  pub front-runs : (lines echoes : Bool) (run rest : List ℕ) (p : Ldterm ℕ) (n : ℕ) → Runs lines echoes run rest p → n ≤ length run → Runs lines echoes (take n run) (drop n run ++ rest) p
+  pub front-runs : (lines echoes : Bool) (run rest : List ℕ) (p : Discipline ℕ) (n : ℕ) → Runs lines echoes run rest p → n ≤ length run → Runs lines echoes (take n run) (drop n run ++ rest) p
   front-runs lines echoes run rest p n r few = record {
     canonical = r.canonical;
     under = r.under;
@@ -435,7 +435,7 @@ module _ (here : Spot) where
       omega (arith, a)
 
   -- So many bytes of a run take two blocks at most.
-  pub run-blocks : (lines echoes : Bool) (run rest : List ℕ) (p : Ldterm ℕ) (n : ℕ) → Runs lines echoes run rest p → length run ≤ 256 → n ≤ length run → blocks_grown p (ahead here (3 * n) p).state ≤ 2
+  pub run-blocks : (lines echoes : Bool) (run rest : List ℕ) (p : Discipline ℕ) (n : ℕ) → Runs lines echoes run rest p → length run ≤ 256 → n ≤ length run → blocks_grown p (ahead here (3 * n) p).state ≤ 2
   run-blocks lines echoes run rest p zero r few within = omega (arith, grown-none p)
   run-blocks lines echoes run rest p (suc n) r few within =
       let front = take (suc n) run in
@@ -444,4 +444,4 @@ module _ (here : Spot) where
       let q = (done_as lines echoes front p).state in
       let gathered : length q.gathered ≤ length p.gathered + 256 = omega (arith, gathers-more lines p.gathered front, long, few, within) in
       let echo : echo_size q ≤ echo_size p + 256 = omega (arith, echoes-more echoes p.echoing front p.write_queue.messages r.last, long, few, within) in
-      subst (λ k. blocks_grown p (ahead here (3 * k) p).state ≤ 2) long (subst (λ (w : Ldterm ℕ). blocks_grown p w ≤ 2) (sym done.state) (grown-two p q gathered echo))
+      subst (λ k. blocks_grown p (ahead here (3 * k) p).state ≤ 2) long (subst (λ (w : Discipline ℕ). blocks_grown p w ≤ 2) (sym done.state) (grown-two p q gathered echo))

@@ -123,16 +123,16 @@ left-cells rest m = refl
 
 module _ (here : Spot) where
   abbrev Acts : Type 0
-  Acts = Acted ℕ (ldterms.Ldterm ℕ)
+  Acts = Acted ℕ (ldterms.Discipline ℕ)
 
   abbrev dir : Dir
   dir = output_dir plain here
 
   -- what goes out, and what is left
-  abbrev out : Message ℕ → ldterms.Ldterm ℕ → List ℕ → Output ℕ → Acts
+  abbrev out : Message ℕ → ldterms.Discipline ℕ → List ℕ → Output ℕ → Acts
   out m p left u = record { state = record p { in_work = Some (left_of left m); gathered = p.gathered ++ u.given; column = u.column }; notes = []; sent = []; gone = u.told }
 
-  pours-at : (m : Message ℕ) (a b : ℕ) (p : ldterms.Ldterm ℕ) → let q : ldterms.Ldterm ℕ = record p { in_work = Some m } in one_after (poured here a q) (poured here b) ≡ poured here (a + b) q
+  pours-at : (m : Message ℕ) (a b : ℕ) (p : ldterms.Discipline ℕ) → let q : ldterms.Discipline ℕ = record p { in_work = Some m } in one_after (poured here a q) (poured here b) ≡ poured here (a + b) q
   pours-at m a b p =
       let xs = cells_of m in
       let t = p.termios in
@@ -153,25 +153,25 @@ module _ (here : Spot) where
       ∙ ap (λ rest. out m p rest (posts plain dir 0 t p.column (take (a + b) xs))) (drop-drop b a xs)
 
   -- where a message is in work
-  pub pours-both : (a b : ℕ) (p : ldterms.Ldterm ℕ) → is_some p.in_work ≡ true → one_after (poured here a p) (poured here b) ≡ poured here (a + b) p
+  pub pours-both : (a b : ℕ) (p : ldterms.Discipline ℕ) → is_some p.in_work ≡ true → one_after (poured here a p) (poured here b) ≡ poured here (a + b) p
   pours-both a b p some = at p.in_work some
     where
-      at : (work : Option (Message ℕ)) → is_some work ≡ true → let q : ldterms.Ldterm ℕ = record p { in_work = work } in one_after (poured here a q) (poured here b) ≡ poured here (a + b) q
+      at : (work : Option (Message ℕ)) → is_some work ≡ true → let q : ldterms.Discipline ℕ = record p { in_work = work } in one_after (poured here a q) (poured here b) ≡ poured here (a + b) q
       at None some = absurd (false≢true some)
       at (Some m) some = pours-at m a b p
 
   -- a message stays in work
-  pub pours-work : (n : ℕ) (p : ldterms.Ldterm ℕ) → is_some p.in_work ≡ true → is_some (poured here n p).state.in_work ≡ true
+  pub pours-work : (n : ℕ) (p : ldterms.Discipline ℕ) → is_some p.in_work ≡ true → is_some (poured here n p).state.in_work ≡ true
   pours-work n p some = at p.in_work some
     where
-      at : (work : Option (Message ℕ)) → is_some work ≡ true → let q : ldterms.Ldterm ℕ = record p { in_work = work } in is_some (poured here n q).state.in_work ≡ true
+      at : (work : Option (Message ℕ)) → is_some work ≡ true → let q : ldterms.Discipline ℕ = record p { in_work = work } in is_some (poured here n q).state.in_work ≡ true
       at None some = absurd (false≢true some)
       at (Some m) some = refl
 
   -- of which so much is left
-  pub pours-left : (n : ℕ) (p : ldterms.Ldterm ℕ) → is_some p.in_work ≡ true → cells_left (poured here n p).state ≡ drop n (cells_left p)
+  pub pours-left : (n : ℕ) (p : ldterms.Discipline ℕ) → is_some p.in_work ≡ true → cells_left (poured here n p).state ≡ drop n (cells_left p)
   pours-left n p some = at p.in_work some
     where
-      at : (work : Option (Message ℕ)) → is_some work ≡ true → let q : ldterms.Ldterm ℕ = record p { in_work = work } in cells_left (poured here n q).state ≡ drop n (cells_left q)
+      at : (work : Option (Message ℕ)) → is_some work ≡ true → let q : ldterms.Discipline ℕ = record p { in_work = work } in cells_left (poured here n q).state ≡ drop n (cells_left q)
       at None some = absurd (false≢true some)
       at (Some m) some = left-cells (drop n (cells_of m)) m

@@ -9,9 +9,8 @@ use Rattle.strm_frame.specs.declared.parcels.Sent.{Sent}
 use Rattle.strm_frame.specs.Hands.{AreIn}
 use Rattle.strm_frame.specs.Outboxes.{times_sent, parcel_in, parcels_in, AreChains}
 use Rattle.strm_frame.proofs.Handing.{parcels-same, chains-same}
-use Rattle.strm_ldterm.specs.declared.ldterm.Ldterm.{Ldterm}
 use Rattle.strm_ldterm.specs.declared.ldterm.Stage.{Stage}
-use Rattle.strm_ldterm.specs.Stands.{ldterm_in, stage_in, keeps}
+use Rattle.strm_ldterm.specs.Stands.{ldterm_in, stage_in, keeps, Paired}
 use Rattle.strm_ldterm.specs.Does.{Alters, Proceeds}
 
 tallied-joined : (a b : List (Fate ℕ)) (f : Fates) → tallied (a ++ b) f ≡ tallied b (tallied a f)
@@ -34,7 +33,7 @@ chains-joined s [] b first second = second
 chains-joined s (x ∷ a) b first second = (first.0, chains-joined s a b first.1 second)
 
 -- a stage that only alters the module
-pub proceeds-alters : (s t : StoreValue) (x y : Ldterm) (f : Fates) (p : ldterms.Ldterm ℕ) → Alters s t x y → ldterm_in t y ≡ p → Proceeds s t x y 0 [] [] f f (sends [] p)
+pub proceeds-alters : (s t : StoreValue) (x y : Paired) (f : Fates) (p : ldterms.Discipline ℕ) → Alters s t x y → ldterm_in t y ≡ p → Proceeds s t x y 0 [] [] f f (sends [] p)
 unfolding times_sent parcels_in AreChains
 proceeds-alters s t x y f p alters is = record {
   state = is;
@@ -51,11 +50,11 @@ proceeds-alters s t x y f p alters is = record {
 }
 
 -- what is kept is in hand still
-pub proceeds-kept : (s t : StoreValue) (x y : Ldterm) (n : ℕ) (a : List Sent) (f f' : Fates) (is : Acted ℕ (ldterms.Ldterm ℕ)) → AreIn s (λ _. 0) (keeps x) → Proceeds s t x y n [] a f f' is → AreIn t (λ _. 0) (keeps y)
+pub proceeds-kept : (s t : StoreValue) (x y : Paired) (n : ℕ) (a : List Sent) (f f' : Fates) (is : Acted ℕ (ldterms.Discipline ℕ)) → AreIn s (λ _. 0) (keeps x) → Proceeds s t x y n [] a f f' is → AreIn t (λ _. 0) (keeps y)
 proceeds-kept s t x y n a f f' is kept did = record { apart = λ i. let c = did.hands.counts i in let k = kept.apart i in omega arith }
 
 -- one stage and then another one
-pub proceeds-both : (s t u : StoreValue) (x y z : Ldterm) (n m : ℕ) (a b : List Sent) (f f1 f2 : Fates) (is : Acted ℕ (ldterms.Ldterm ℕ)) (next : ldterms.Ldterm ℕ → Acted ℕ (ldterms.Ldterm ℕ)) → IsStore t
+pub proceeds-both : (s t u : StoreValue) (x y z : Paired) (n m : ℕ) (a b : List Sent) (f f1 f2 : Fates) (is : Acted ℕ (ldterms.Discipline ℕ)) (next : ldterms.Discipline ℕ → Acted ℕ (ldterms.Discipline ℕ)) → IsStore t
     → AreIn s (λ _. 0) (keeps x) → Proceeds s t x y n [] a f f1 is → Proceeds t u y z m [] b f1 f2 (next (ldterm_in t y)) → Proceeds s u x z (n + m) [] (a ++ b) f f2 (both is next)
 proceeds-both s t u x y z n m a b f f1 f2 is next st kept first second =
     let stays : (i : ℕ) → 0 < times_sent i a → in_hand u i ≡ in_hand t i =
@@ -87,10 +86,10 @@ proceeds-both s t u x y z n m a b f f1 f2 is next st kept first second =
     }
 
 -- the stage of a turn is another one
-pub proceeds-staged : (s t : StoreValue) (x y : Ldterm) (n : ℕ) (a : List Sent) (f f' : Fates) (is : Acted ℕ (ldterms.Ldterm ℕ)) (stage : Stage) → Proceeds s t x y n [] a f f' is
+pub proceeds-staged : (s t : StoreValue) (x y : Paired) (n : ℕ) (a : List Sent) (f f' : Fates) (is : Acted ℕ (ldterms.Discipline ℕ)) (stage : Stage) → Proceeds s t x y n [] a f f' is
     → Proceeds s t x (record y { stage = stage }) n [] a f f' (record is { state = record is.state { stage = stage_in stage } })
 proceeds-staged s t x y n a f f' is stage did = record {
-  state = ap (λ (p : ldterms.Ldterm ℕ). record p { stage = stage_in stage }) did.state;
+  state = ap (λ (p : ldterms.Discipline ℕ). record p { stage = stage_in stage }) did.state;
   noted = did.noted;
   parcels = did.parcels;
   told = did.told;

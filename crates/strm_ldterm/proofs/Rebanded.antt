@@ -8,8 +8,8 @@ use Rattle.strm_types.specs.declared.names.Way.{Way}
 use Rattle.strm_types.specs.declared.names.Way.TheVariants.{Down}
 use Rattle.strm_types.specs.declared.rules.Fates.{Fates}
 use Rattle.strm_types.specs.declared.spots.Spot.{Spot}
-use Rattle.strm_types.specs.Deliver.{toward}
-use Rattle.strm_types.specs.Ldterms.{onward, sends}
+use Rattle.strm_types.specs.Deliver.{toward, onward}
+use Rattle.strm_types.specs.Ldterms.{sends}
 use Rattle.strm_types.specs.Message.{Message, cells_of, is_high_priority}
 use Rattle.strm_types.specs.OutputTurns.{with_given}
 use Rattle.strm_blocks.specs.Blocks.{Block, StoreValue, IsInHand, in_hand, list_at, block_at, changed, banded, names_of, token}
@@ -23,13 +23,12 @@ use Rattle.strm_frame.specs.declared.parcels.Sent.{Sent}
 use Rattle.strm_frame.specs.Hands.{once, AreIn, CanPut, Shifts}
 use Rattle.strm_frame.specs.Outboxes.{message_in, times_sent}
 use Rattle.strm_frame.proofs.Handing.{once-apart, one-parts, one-chains}
-use Rattle.strm_ldterm.specs.declared.ldterm.Ldterm.{Ldterm}
 use Rattle.strm_ldterm.specs.Becoming.{Becomes}
 use Rattle.strm_ldterm.specs.Does.{Proceeds}
 use Rattle.strm_ldterm.specs.Frames.{ldterm-frame}
 use Rattle.strm_queue.specs.Stored.{FreesNone}
 use Rattle.strm_ldterm.specs.Outgone.{data_of}
-use Rattle.strm_ldterm.specs.Stands.{IsData, IsHeld, cells_kept, kept_in, keeps, ldterm_in, owns}
+use Rattle.strm_ldterm.specs.Stands.{IsData, IsHeld, cells_kept, kept_in, keeps, ldterm_in, owns, Paired}
 use Rattle.strm_ldterm.proofs.Finished.{gathered-held, gathered-splits, work-held, work-splits}
 use Rattle.strm_ldterm.proofs.Passed.{stays}
 use Rattle.strm_ldterm.proofs.Skipped.{shown-bytes}
@@ -114,11 +113,11 @@ pub given-none : (l : List ℕ) (m : Message ℕ) → length l ≡ 0 → with_gi
 given-none [] m none = refl
 given-none (b ∷ l) m none = absurd (omega arith)
 
-pub gathered-can : (s : StoreValue) (x : Ldterm) (m : InHand) → x.gathered ≡ Some m → AreIn s (λ _. 0) (keeps x) → CanPut s (token m) (keeps (record x { gathered = None }))
+pub gathered-can : (s : StoreValue) (x : Paired) (m : InHand) → x.gathered ≡ Some m → AreIn s (λ _. 0) (keeps x) → CanPut s (token m) (keeps (record x { gathered = None }))
 gathered-can s x m there kept = record { apart = λ j. let a = kept.apart j in let e = gathered-splits s x m there j in omega arith }
 
 -- nothing was gathered
-pub nothing-down : (s : StoreValue) (x : Ldterm) (here : Spot) (band : ℕ) (f : Fates) (sent : List Sent) → sent ≡ [] → x.gathered ≡ None → IsHeld s x
+pub nothing-down : (s : StoreValue) (x : Paired) (here : Spot) (band : ℕ) (f : Fates) (sent : List Sent) → sent ≡ [] → x.gathered ≡ None → IsHeld s x
     → (let p = ldterm_in s x in Proceeds s s x (record x { gathered = None }) 0 [] sent f f (sends (map (onward Down here) (with_given p.gathered (data_of band []))) (record p { gathered = [] })))
 nothing-down s x here band f sent none there held =
     let p = ldterm_in s x in
@@ -128,7 +127,7 @@ nothing-down s x here band f sent none there held =
     (subst (λ (l : List ℕ). Proceeds s s x x 0 [] sent f f (sends [] (record p { gathered = l }))) empty (stays s x sent f held none)))
 
 -- a message that the module kept, under another band
-module _ (s t : StoreValue) (x y : Ldterm) (m : InHand) (splits : (j : ℕ) → keeps x j ≡ once (token m) j + keeps y j) (same : (k : ℕ) → owns y k ≡ owns x k) (once_each : (j : ℕ) → keeps x j ≤ 1)
+module _ (s t : StoreValue) (x y : Paired) (m : InHand) (splits : (j : ℕ) → keeps x j ≡ once (token m) j + keeps y j) (same : (k : ℕ) → owns y k ≡ owns x k) (once_each : (j : ℕ) → keeps x j ≤ 1)
     (held : IsHeld s y) (kept : AreIn s (λ _. 0) (keeps x)) (new : Message ℕ) (b : Becomes s t (token m) (token m) new) where
   apart : (j : ℕ) → 0 < keeps y j → once (token m) j ≡ 0
   apart j some = let few = once_each j in let e = splits j in omega arith
@@ -163,14 +162,14 @@ module _ (s t : StoreValue) (x y : Ldterm) (m : InHand) (splits : (j : ℕ) → 
       }
 
 -- what was gathered
-pub goes-down : (s t : StoreValue) (x : Ldterm) (m : InHand) → x.gathered ≡ Some m → IsHeld s x → AreIn s (λ _. 0) (keeps x) → (new : Message ℕ) → Becomes s t (token m) (token m) new
+pub goes-down : (s t : StoreValue) (x : Paired) (m : InHand) → x.gathered ≡ Some m → IsHeld s x → AreIn s (λ _. 0) (keeps x) → (new : Message ℕ) → Becomes s t (token m) (token m) new
     → (here to : Spot) (f : Fates) (sent : List Sent) → sent ≡ record { to = to; message = m } ∷ [] → to ≡ toward Down here
     → Proceeds s t x (record x { gathered = None }) 0 [] sent f f (sends (onward Down here new ∷ []) (record (ldterm_in s x) { gathered = [] }))
 goes-down s t x m there held kept new b here to f sent one place =
     goes-on s t x (record x { gathered = None }) m (gathered-splits s x m there) (λ k. refl) held.once_each (gathered-held s x m there held) kept new b Down here to f sent one place
 
 -- what is left of the message in work
-pub work-goes : (s t : StoreValue) (x : Ldterm) (m : InHand) → x.in_work ≡ Some m → IsHeld s x → AreIn s (λ _. 0) (keeps x) → (new : Message ℕ) → Becomes s t (token m) (token m) new
+pub work-goes : (s t : StoreValue) (x : Paired) (m : InHand) → x.in_work ≡ Some m → IsHeld s x → AreIn s (λ _. 0) (keeps x) → (new : Message ℕ) → Becomes s t (token m) (token m) new
     → (way : Way) (here to : Spot) (f : Fates) (sent : List Sent) → sent ≡ record { to = to; message = m } ∷ [] → to ≡ toward way here
     → Proceeds s t x (record x { in_work = None }) 0 [] sent f f (sends (onward way here new ∷ []) (record (ldterm_in s x) { in_work = None }))
 work-goes s t x m there held kept new b way here to f sent one place =

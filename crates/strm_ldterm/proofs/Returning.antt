@@ -22,8 +22,7 @@ use Rattle.strm_queue.proofs.Queued.{queue-by}
 use Rattle.strm_frame.specs.Hands.{AreIn, CanPut, OnlyOwn}
 use Rattle.strm_frame.specs.Outboxes.{message_in}
 use Rattle.strm_frame.proofs.Shifting.{shifts-joined}
-use Rattle.strm_ldterm.specs.declared.ldterm.Ldterm.{Ldterm}
-use Rattle.strm_ldterm.specs.Stands.{ldterm_in, owns, keeps, IsHeld}
+use Rattle.strm_ldterm.specs.Stands.{ldterm_in, owns, keeps, IsHeld, Paired}
 use Rattle.strm_ldterm.specs.Does.{Alters}
 use Rattle.strm_ldterm.specs.Frames.{ldterm-frame}
 use Rattle.strm_ldterm.proofs.Finished.{work-splits, work-shown, work-can, work-held}
@@ -88,8 +87,8 @@ freed-frees s i is_in = record {
 }
 
 -- The message in work leaves the hand, and what is left of it goes back.
-module _ (s : StoreValue) (x : Ldterm) (m : InHand) (there : x.in_work ≡ Some m) (st : IsStore s) (held : IsHeld s x) (kept : AreIn s (λ _. 0) (keeps x)) where
-  abbrev idle : Ldterm
+module _ (s : StoreValue) (x : Paired) (m : InHand) (there : x.in_work ≡ Some m) (st : IsStore s) (held : IsHeld s x) (kept : AreIn s (λ _. 0) (keeps x)) where
+  abbrev idle : Paired
   idle = record x { in_work = None }
 
   abbrev rest : StoreValue
@@ -101,7 +100,7 @@ module _ (s : StoreValue) (x : Ldterm) (m : InHand) (there : x.in_work ≡ Some 
   framed : (ldterm_in rest idle ≡ ldterm_in s idle) × IsHeld rest idle
   framed = ldterm-frame s rest idle (without-same s idle (token m) st can) (work-held s x m there held)
 
-  returned-alters : (t : StoreValue) (q q' : Queue) (y : Ldterm) → Changes rest t q q' → FreesBlocks s t → ((j : ℕ) → keeps y j ≡ keeps idle j) → IsHeld t y → OnlyOwn rest t (owns idle) (owns y)
+  returned-alters : (t : StoreValue) (q q' : Queue) (y : Paired) → Changes rest t q q' → FreesBlocks s t → ((j : ℕ) → keeps y j ≡ keeps idle j) → IsHeld t y → OnlyOwn rest t (owns idle) (owns y)
       → Alters s t x y
   returned-alters t q q' y changes frees same is own =
       let h = shifts-joined s t (token m) q q' st (record { apart = λ j. let a = can.apart j in omega arith }) changes frees in
@@ -124,7 +123,7 @@ module _ (s : StoreValue) (x : Ldterm) (m : InHand) (there : x.in_work ≡ Some 
     read-returned is =
         let p = ldterm_in s x in
         read-plain rest t idle q' framed.1 changes
-        ∙ ap (λ (r : ldterms.Ldterm ℕ). record r { read_queue = queue_in t q' }) framed.0
+        ∙ ap (λ (r : ldterms.Discipline ℕ). record r { read_queue = queue_in t q' }) framed.0
         ∙ ap (λ (r : plain.Queue ℕ). record p { in_work = None; read_queue = r }) is
         ∙ ap (λ o. record p { in_work = None; read_queue = back_on o p.read_queue }) (sym (work-shown s x m there))
 
@@ -139,7 +138,7 @@ module _ (s : StoreValue) (x : Ldterm) (m : InHand) (there : x.in_work ≡ Some 
     write-returned is =
         let p = ldterm_in s x in
         write-plain rest t idle q' framed.1 changes
-        ∙ ap (λ (r : ldterms.Ldterm ℕ). record r { write_queue = queue_in t q' }) framed.0
+        ∙ ap (λ (r : ldterms.Discipline ℕ). record r { write_queue = queue_in t q' }) framed.0
         ∙ ap (λ (r : plain.Queue ℕ). record p { in_work = None; write_queue = r }) is
         ∙ ap (λ o. record p { in_work = None; write_queue = back_on o p.write_queue }) (sym (work-shown s x m there))
 

@@ -16,7 +16,8 @@ use Rattle.strm_queue.specs.Taken.{TakenLast}
 use Rattle.strm_frame.specs.Hands.{once, CanPut, HasRoom, Shifts}
 use Rattle.strm_frame.specs.Outboxes.{message_in}
 use Rattle.strm_frame.proofs.Shifting.{shifts-joined}
-use Rattle.strm_ldterm.specs.Frames.{list-ready}
+use Rattle.strm_frame.specs.StandingLaws.{queue-ready}
+use Rattle.strm_ldterm.specs.Frames.{}
 use Rattle.strm_ldterm.specs.Grown.{Begins, BeginsLast, Grown, GrowsLast, Rewrites}
 use Rattle.strm_ldterm.specs.Stands.{EndsPlain, IsOrdinary}
 use Rattle.strm_ldterm.proofs.EchoStands.{grown-last}
@@ -106,7 +107,7 @@ module _ (s v u : StoreValue) (q q1 : Queue) (i n : ℕ) (bytes : List ℕ) (tak
   grown-list k = ap (λ ls. list_at (record u { lists = ls }) k) (grown-lists v u i n bytes is)
 
   pub grown-ready : IsReady u q1
-  grown-ready = list-ready v u q1 (grown-list q1.list) taken.ready
+  grown-ready = queue-ready v u q1 (grown-list q1.list) taken.ready
 
   -- and is put back
   module _ (t : StoreValue) (q' : Queue) (j : ℕ) (st : IsStore u) (same : j ≡ i) (ends : EndsPlain (messages_on s q.list)) (changes : Changes (dropped u j) t q1 q') (frees : FreesBlocks u t)
@@ -156,7 +157,7 @@ module _ (s u t : StoreValue) (q q' : Queue) (i n : ℕ) (bytes : List ℕ) (is 
   begins-list k = ap (λ ls. list_at (record u { lists = ls }) k) (begins-lists s u i n bytes is)
 
   pub begins-ready : IsReady s q → IsReady u q
-  begins-ready ready = list-ready s u q (begins-list q.list) ready
+  begins-ready ready = queue-ready s u q (begins-list q.list) ready
 
   same-queue : queue_in u q ≡ queue_in s q
   same-queue = ap (λ ls. queue_in (record u { lists = ls }) q) (begins-lists s u i n bytes is)

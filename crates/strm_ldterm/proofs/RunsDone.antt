@@ -17,11 +17,10 @@ use Rattle.strm_types.specs.Typing.{echo_grows, echo_stands}
 use Rattle.strm_types.specs.Cells.{plain}
 use Rattle.strm_blocks.specs.Blocks.{StoreValue, IsStore}
 use Rattle.strm_frame.specs.Hands.{HasRoom}
-use Rattle.strm_ldterm.specs.declared.ldterm.Ldterm.{Ldterm}
 use Rattle.strm_ldterm.specs.Does.{Proceeds}
 use Rattle.strm_ldterm.specs.FreeBefore.{blocks_grown}
 use Rattle.strm_ldterm.specs.PlainRuns.{MayRun, is_plain, run_echoed, typed_run}
-use Rattle.strm_ldterm.specs.Stands.{IsHeld, ldterm_in, stage_in}
+use Rattle.strm_ldterm.specs.Stands.{IsHeld, ldterm_in, stage_in, Paired}
 use Rattle.strm_ldterm.specs.Turns.{ahead, bytes_on, stages_left}
 use Rattle.strm_ldterm.proofs.Begun.{busy-all, idle-cells, idle-left}
 use Rattle.strm_ldterm.proofs.Bytes.{still-works}
@@ -38,7 +37,7 @@ all-plain t odd [] is all = tt
 all-plain t odd (b ∷ run) is all = (is b all.0, all-plain t odd run is all.1)
 
 -- fewer bytes may be treated at once too
-pub may-fewer : (p : ldterms.Ldterm ℕ) (m n : ℕ) → n ≤ m → MayRun m p → MayRun n p
+pub may-fewer : (p : ldterms.Discipline ℕ) (m n : ℕ) → n ≤ m → MayRun m p → MayRun n p
 may-fewer p m n few may = record {
   running = may.running;
   free = may.free;
@@ -47,10 +46,10 @@ may-fewer p m n few may = record {
 }
 
 -- by the mode
-pub typed-lines : (p : ldterms.Ldterm ℕ) (run : List ℕ) → icanon p.termios ≡ true → sends [] (typed_run run p) ≡ sends [] (record p { line = p.line ++ run })
+pub typed-lines : (p : ldterms.Discipline ℕ) (run : List ℕ) → icanon p.termios ≡ true → sends [] (typed_run run p) ≡ sends [] (record p { line = p.line ++ run })
 typed-lines p run lines = rw lines refl
 
-pub typed-raw : (p : ldterms.Ldterm ℕ) (run : List ℕ) → icanon p.termios ≡ false → sends [] (typed_run run p) ≡ sends [] (record p { gathered = p.gathered ++ run })
+pub typed-raw : (p : ldterms.Discipline ℕ) (run : List ℕ) → icanon p.termios ≡ false → sends [] (typed_run run p) ≡ sends [] (record p { gathered = p.gathered ++ run })
 typed-raw p run raw = rw raw refl
 
 -- a run isn't longer than what it is the front of
@@ -58,7 +57,7 @@ pub front-short : (run cells : List ℕ) → cells ≡ run ++ drop (length run) 
 front-short run cells is = let l = ap length is ∙ length-append run (drop (length run) cells) in omega arith
 
 -- and under ECHO
-module _ (here : Spot) (p : ldterms.Ldterm ℕ) (run : List ℕ) where
+module _ (here : Spot) (p : ldterms.Discipline ℕ) (run : List ℕ) where
   pub unechoed : echo p.termios ≡ false → run_echoed here run p ≡ sends [] p
   unechoed quiet = rw quiet refl
 
@@ -66,7 +65,7 @@ module _ (here : Spot) (p : ldterms.Ldterm ℕ) (run : List ℕ) where
   echoed-so loud = rw loud refl
 
 -- where a byte is left, a message is in work
-pub left-works : (s : StoreValue) (x : Ldterm) → 0 < length (cells_left (ldterm_in s x)) → is_some x.in_work ≡ true
+pub left-works : (s : StoreValue) (x : Paired) → 0 < length (cells_left (ldterm_in s x)) → is_some x.in_work ≡ true
 left-works s x some = at x.in_work refl
   where
     at : (o : Option InHand) → x.in_work ≡ o → is_some o ≡ true
@@ -78,11 +77,11 @@ left-there : (rest : List ℕ) (o : Option (Message ℕ)) → is_some (option_ma
 left-there rest None = refl
 left-there rest (Some m) = refl
 
-typed-work : (run : List ℕ) (p : ldterms.Ldterm ℕ) → is_some (typed_run run p).in_work ≡ is_some p.in_work
+typed-work : (run : List ℕ) (p : ldterms.Discipline ℕ) → is_some (typed_run run p).in_work ≡ is_some p.in_work
 typed-work run p =
-    elim (icanon p.termios) as (λ v. is_some (cond {A = ldterms.Ldterm ℕ} v (record p { line = p.line ++ run }) (record p { gathered = p.gathered ++ run })).in_work ≡ is_some p.in_work) [ true ↦ refl | false ↦ refl ]
+    elim (icanon p.termios) as (λ v. is_some (cond {A = ldterms.Discipline ℕ} v (record p { line = p.line ++ run }) (record p { gathered = p.gathered ++ run })).in_work ≡ is_some p.in_work) [ true ↦ refl | false ↦ refl ]
 
-pub run-works : (s s1 s2 : StoreValue) (x x1 x2 : Ldterm) (run typed : List ℕ) (t : Fates) → Proceeds s s1 x x1 0 [] [] t t (sends [] (with_left (drop (length run) (cells_left (ldterm_in s x))) (ldterm_in s x)))
+pub run-works : (s s1 s2 : StoreValue) (x x1 x2 : Paired) (run typed : List ℕ) (t : Fates) → Proceeds s s1 x x1 0 [] [] t t (sends [] (with_left (drop (length run) (cells_left (ldterm_in s x))) (ldterm_in s x)))
     → Proceeds s1 s2 x1 x2 1 [] [] t t (sends [] (typed_run typed (ldterm_in s1 x1))) → is_some x.in_work ≡ true → is_some x2.in_work ≡ true
 run-works s s1 s2 x x1 x2 run typed t front behind busy =
     let left = drop (length run) (cells_left (ldterm_in s x)) in
@@ -90,7 +89,7 @@ run-works s s1 s2 x x1 x2 run typed t front behind busy =
     (still-works s s1 x x1 (with_left left (ldterm_in s x)) front.state (left-there left (ldterm_in s x).in_work) busy)
 
 -- where no byte is taken, all is left
-pub left-whole : (s : StoreValue) (x : Ldterm) → IsHeld s x → with_left (cells_left (ldterm_in s x)) (ldterm_in s x) ≡ ldterm_in s x
+pub left-whole : (s : StoreValue) (x : Paired) → IsHeld s x → with_left (cells_left (ldterm_in s x)) (ldterm_in s x) ≡ ldterm_in s x
 left-whole s x held = at x.in_work refl
   where
     at : (o : Option InHand) → x.in_work ≡ o → with_left (cells_left (ldterm_in s x)) (ldterm_in s x) ≡ ldterm_in s x
@@ -98,9 +97,9 @@ left-whole s x held = at x.in_work refl
     at (Some m) there = busy-all s x m there held
 
 -- bytes that may be treated at once
-module _ (s : StoreValue) (x : Ldterm) (run : List ℕ) (most : ℕ) (held : IsHeld s x) (stage : stages_left (stage_in x.stage) ≡ 0) (few : length run ≤ most)
+module _ (s : StoreValue) (x : Paired) (run : List ℕ) (most : ℕ) (held : IsHeld s x) (stage : stages_left (stage_in x.stage) ≡ 0) (few : length run ≤ most)
     (is : cells_left (ldterm_in s x) ≡ run ++ drop (length run) (cells_left (ldterm_in s x))) (all : AllByRecursion (λ b. is_plain x.termios b ≡ true) run) (may : MayRun most (ldterm_in s x)) where
-  abbrev from : ldterms.Ldterm ℕ
+  abbrev from : ldterms.Discipline ℕ
   from = ldterm_in s x
 
   runs-from : 0 < length run → Runs (icanon from.termios) (echo from.termios) run (drop (length run) (cells_left from)) from
@@ -125,9 +124,9 @@ module _ (s : StoreValue) (x : Ldterm) (run : List ℕ) (most : ℕ) (held : IsH
       free-on here s from stage byte
       (room-for s (blocks_grown from (ahead here (3 * byte) from).state) room (run-blocks here (icanon from.termios) (echo from.termios) run (drop (length run) (cells_left from)) from byte (runs-from (omega arith)) short (omega arith)))
 
-module _ (s s1 : StoreValue) (x x1 : Ldterm) (here : Spot) (run : List ℕ) (t : Fates) (held : IsHeld s x)
+module _ (s s1 : StoreValue) (x x1 : Paired) (here : Spot) (run : List ℕ) (t : Fates) (held : IsHeld s x)
     (front : Proceeds s s1 x x1 0 [] [] t t (sends [] (with_left (drop (length run) (cells_left (ldterm_in s x))) (ldterm_in s x)))) where
-  abbrev p : ldterms.Ldterm ℕ
+  abbrev p : ldterms.Discipline ℕ
   p = ldterm_in s x
 
   -- no byte is plain
@@ -135,24 +134,24 @@ module _ (s s1 : StoreValue) (x x1 : Ldterm) (here : Spot) (run : List ℕ) (t :
   no-run notes none quiet =
       subst (λ ns. Proceeds s s1 x x1 2 ns [] t t (sends [] p)) (sym quiet)
       (takes-more s s1 x x1 0 2 [] [] t t (sends [] p) (omega arith)
-      (subst (λ (q : ldterms.Ldterm ℕ). Proceeds s s1 x x1 0 [] [] t t (sends [] q)) (ap (λ l. with_left (drop (length l) (cells_left p)) p) none ∙ left-whole s x held) front))
+      (subst (λ (q : ldterms.Discipline ℕ). Proceeds s s1 x x1 0 [] [] t t (sends [] q)) (ap (λ l. with_left (drop (length l) (cells_left p)) p) none ∙ left-whole s x held) front))
 
   -- what it is set to, and its line, are the same
   pub same-termios : x1.termios ≡ x.termios
-  same-termios = ap (λ (q : ldterms.Ldterm ℕ). q.termios) front.state
+  same-termios = ap (λ (q : ldterms.Discipline ℕ). q.termios) front.state
 
   pub same-line : x1.line ≡ x.line
-  same-line = ap (λ (q : ldterms.Ldterm ℕ). q.line) front.state
+  same-line = ap (λ (q : ldterms.Discipline ℕ). q.line) front.state
 
   pub line-room : (most : ℕ) → length run ≤ most → MayRun most p → icanon x1.termios ≡ true → length x1.line + length run ≤ LINE_MAX
   line-room most few may is = let l = may.line (ap icanon (sym same-termios) ∙ is) in let e = ap length same-line in omega arith
 
-  module _ (s2 : StoreValue) (x2 : Ldterm) (st1 : IsStore s1) (typed : Proceeds s1 s2 x1 x2 1 [] [] t t (sends [] (typed_run run (ldterm_in s1 x1)))) where
+  module _ (s2 : StoreValue) (x2 : Paired) (st1 : IsStore s1) (typed : Proceeds s1 s2 x1 x2 1 [] [] t t (sends [] (typed_run run (ldterm_in s1 x1)))) where
     pub typed-on : Proceeds s s2 x x2 1 [] [] t t (sends [] (typed_run run (with_left (drop (length run) (cells_left p)) p)))
     typed-on = proceeds-joined s s1 x x1 0 [] t t (sends [] (with_left (drop (length run) (cells_left p)) p)) st1 front s2 x2 1 [] [] t (λ q. sends [] (typed_run run q)) typed
 
     -- all of a run was done, and so it was treated byte by byte
-    pub run-treated : (s3 : StoreValue) (x3 : Ldterm) (notes : List Note) (t3 : Fates) (most : ℕ) → IsStore s2 → Proceeds s2 s3 x2 x3 1 notes [] t t3 (run_echoed here run (ldterm_in s2 x2))
+    pub run-treated : (s3 : StoreValue) (x3 : Paired) (notes : List Note) (t3 : Fates) (most : ℕ) → IsStore s2 → Proceeds s2 s3 x2 x3 1 notes [] t t3 (run_echoed here run (ldterm_in s2 x2))
         → stages_left (stage_in x.stage) ≡ 0 → 0 < length run → length run ≤ most → cells_left p ≡ run ++ drop (length run) (cells_left p) → AllByRecursion (λ b. is_plain x.termios b ≡ true) run → MayRun most p
         → Proceeds s s3 x x3 2 notes [] t t3 (ahead here (3 * length run) p)
     run-treated s3 x3 notes t3 most st2 echoed stage some few is all may =

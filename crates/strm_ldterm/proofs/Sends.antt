@@ -38,8 +38,7 @@ use Rattle.strm_frame.specs.declared.parcels.Sent.{Sent}
 use Rattle.strm_frame.specs.Hands.{once, AreIn, SameOwn, HasRoom}
 use Rattle.strm_frame.specs.Outboxes.{times_sent}
 use Rattle.strm_frame.proofs.Handing.{once-self, one-parts, one-chains, no-parts, none-chains}
-use Rattle.strm_ldterm.specs.declared.ldterm.Ldterm.{Ldterm}
-use Rattle.strm_ldterm.specs.Stands.{ldterm_in, owns, keeps, IsHeld}
+use Rattle.strm_ldterm.specs.Stands.{ldterm_in, owns, keeps, IsHeld, Paired}
 use Rattle.strm_ldterm.specs.Does.{Proceeds}
 use Rattle.strm_ldterm.specs.Frames.{ldterm-frame}
 use Rattle.strm_ldterm.specs.Sending.{MadeOne}
@@ -129,7 +128,7 @@ unfolding times_sent
 times-none i sent none = ap (times_sent i) none
 
 -- what the module keeps is as it was, where a message was made
-module _ (s t : StoreValue) (x : Ldterm) (i : ℕ) (m : Message ℕ) (made : MadeOne s t i m) where
+module _ (s t : StoreValue) (x : Paired) (i : ℕ) (m : Message ℕ) (made : MadeOne s t i m) where
   made-stays : (j : ℕ) → 0 < times_in j s.hand → in_hand t j ≡ in_hand s j
   made-stays j some =
       ap (λ v. in_hand v j) made.after ∙ stays-chain s i (in_hand t i) j (λ e. (let f = made.fresh in let w = ap (λ k. times_in k s.hand) e in absurd (omega arith)))
@@ -143,7 +142,7 @@ module _ (s t : StoreValue) (x : Ldterm) (i : ℕ) (m : Message ℕ) (made : Mad
   }
 
 -- The module has changed beside its lists and what it keeps, and one message was made that is sent on.
-pub sends-made : (s t : StoreValue) (x y : Ldterm) (z : Sent) (sent : List Sent) (f f' : Fates) (m : Message ℕ) (to : Spot) (is : Acted ℕ (ldterms.Ldterm ℕ)) → IsHeld s y → AreIn s (λ _. 0) (keeps y)
+pub sends-made : (s t : StoreValue) (x y : Paired) (z : Sent) (sent : List Sent) (f f' : Fates) (m : Message ℕ) (to : Spot) (is : Acted ℕ (ldterms.Discipline ℕ)) → IsHeld s y → AreIn s (λ _. 0) (keeps y)
     → ((k : ℕ) → owns y k ≡ owns x k) → ((i : ℕ) → keeps y i ≡ keeps x i) → MadeOne s t (token z.message) m → sent ≡ z ∷ [] → z.to ≡ to → ldterm_in s y ≡ is.state → [] ≡ is.notes
     → ◌≡◌ {A = List (Parcel ℕ)} (record { to = to; message = m } ∷ []) is.sent → f' ≡ tallied is.gone f → Proceeds s t x y 1 [] sent f f' is
 sends-made s t x y z sent f f' m to is holds kept own keep made one place state notes parcels told =
@@ -175,7 +174,7 @@ sends-made s t x y z sent f f' m to is holds kept own keep made one place state 
     }
 
 -- It has changed, and nothing is sent.
-pub sends-none : (s : StoreValue) (x y : Ldterm) (sent : List Sent) (f f' : Fates) (takes : ℕ) (is : Acted ℕ (ldterms.Ldterm ℕ)) → IsHeld s y → ((k : ℕ) → owns y k ≡ owns x k) → ((i : ℕ) → keeps y i ≡ keeps x i)
+pub sends-none : (s : StoreValue) (x y : Paired) (sent : List Sent) (f f' : Fates) (takes : ℕ) (is : Acted ℕ (ldterms.Discipline ℕ)) → IsHeld s y → ((k : ℕ) → owns y k ≡ owns x k) → ((i : ℕ) → keeps y i ≡ keeps x i)
     → sent ≡ [] → ldterm_in s y ≡ is.state → [] ≡ is.notes → [] ≡ is.sent → f' ≡ tallied is.gone f → Proceeds s s x y takes [] sent f f' is
 sends-none s x y sent f f' takes is holds own keep none state notes parcels told = record {
   state = state;
@@ -192,14 +191,14 @@ sends-none s x y sent f f' takes is holds own keep none state notes parcels told
 }
 
 -- whether output is stopped, and the line, are beside what it holds
-pub held-stopped : (s : StoreValue) (x : Ldterm) → IsHeld s x → IsHeld s (record x { stopped = true })
+pub held-stopped : (s : StoreValue) (x : Paired) → IsHeld s x → IsHeld s (record x { stopped = true })
 held-stopped s x h = record { read = h.read; write = h.write; apart = h.apart; work = h.work; gathers = h.gathers; echoes = h.echoes; once_each = h.once_each }
 
-pub held-line : (s : StoreValue) (x : Ldterm) (line : List ℕ) → IsHeld s x → IsHeld s (record x { line = line })
+pub held-line : (s : StoreValue) (x : Paired) (line : List ℕ) → IsHeld s x → IsHeld s (record x { line = line })
 held-line s x line h = record { read = h.read; write = h.write; apart = h.apart; work = h.work; gathers = h.gathers; echoes = h.echoes; once_each = h.once_each }
 
 -- what a key tells beside what is sent
-pub tells : (s t : StoreValue) (x y : Ldterm) (takes : ℕ) (sent : List Sent) (f f' : Fates) (is : Acted ℕ (ldterms.Ldterm ℕ)) (gone : List (Fate ℕ)) → Proceeds s t x y takes [] sent f f is → f' ≡ tallied gone f
+pub tells : (s t : StoreValue) (x y : Paired) (takes : ℕ) (sent : List Sent) (f f' : Fates) (is : Acted ℕ (ldterms.Discipline ℕ)) (gone : List (Fate ℕ)) → Proceeds s t x y takes [] sent f f is → f' ≡ tallied gone f
     → Proceeds s t x y takes [] sent f f' (record is { gone = gone })
 tells s t x y takes sent f f' is gone did told = record {
   state = did.state;
@@ -216,7 +215,7 @@ tells s t x y takes sent f f' is gone did told = record {
 }
 
 -- Behind a stage of a turn: what is kept is in hand, what was sent is beside it, and what wasn't taken is free.
-module _ (s t : StoreValue) (x y : Ldterm) (takes : ℕ) (notes : List Note) (sent : List Sent) (f f' : Fates) (is : Acted ℕ (ldterms.Ldterm ℕ)) (did : Proceeds s t x y takes notes sent f f' is) where
+module _ (s t : StoreValue) (x y : Paired) (takes : ℕ) (notes : List Note) (sent : List Sent) (f f' : Fates) (is : Acted ℕ (ldterms.Discipline ℕ)) (did : Proceeds s t x y takes notes sent f f' is) where
   pub proceeds-kept : AreIn s (λ _. 0) (keeps x) → AreIn t (λ _. 0) (keeps y)
   proceeds-kept kept = record { apart = λ i. let c = did.hands.counts i in let a = kept.apart i in omega arith }
 

@@ -9,10 +9,10 @@ use Rattle.strm_types.specs.declared.names.Way.TheVariants.{Up, Down}
 use Rattle.strm_types.specs.declared.spots.Spot.{Spot}
 use Rattle.strm_types.specs.Cells.{plain}
 use Rattle.strm_types.specs.Budgets.{cost_of, most, most_on}
-use Rattle.strm_types.specs.Deliver.{Parcel, toward}
+use Rattle.strm_types.specs.Deliver.{Parcel, toward, onward}
 use Rattle.strm_types.specs.Input.{input_begins, is_data, passes, stages_done, to_treat, treats}
 use Rattle.strm_types.specs.LdtermServes.{ldterm_serves}
-use Rattle.strm_types.specs.Ldterms.{Answered, Begun, Between, Ldterm, Stage, onward}
+use Rattle.strm_types.specs.Ldterms.{Answered, Begun, Between, Discipline, Stage, by_itself}
 use Rattle.strm_types.specs.Message.{Message, cells_of}
 use Rattle.strm_types.specs.Output.{posts}
 use Rattle.strm_types.specs.OutputTurns.{output_dir, output_serves, posted, unchanged, with_given}
@@ -38,20 +38,20 @@ at_end Down = 0
 
 module _ (here : Spot) where
   -- a call that treats bytes
-  pub record Treats (v : Serving ℕ (Ldterm ℕ)) : Type 0 where
+  pub record Treats (v : Serving ℕ (Discipline ℕ)) : Type 0 where
     pub up : v.again ≡ true → here.way ≡ Up
     pub more : v.again ≡ true → Leaves here v.acted
     pub over : v.again ≡ false → cost_of most v.acted.sent ≤ at_end here.way
 
   -- a call in which a message passes whole, or none
-  pub record Passes (v : Serving ℕ (Ldterm ℕ)) : Type 0 where
+  pub record Passes (v : Serving ℕ (Discipline ℕ)) : Type 0 where
     pub over : v.again ≡ false
     pub few : cost_of most v.acted.sent ≤ 25
 
-  treats-spare : here.way ≡ Up → (bytes : ℕ) (p : Ldterm ℕ) → is_some p.in_work ≡ true → Treats (treats plain here bytes 0 p)
+  treats-spare : here.way ≡ Up → (bytes : ℕ) (p : Discipline ℕ) → is_some p.in_work ≡ true → Treats (treats plain here bytes 0 p)
   treats-spare up bytes p work = let spares = stages-spare here (3 * bytes - stages_done p.stage) 0 p work in record { up = λ again. up; more = spares.more; over = λ ends. (let one = spares.over ends in let same = ap at_end up in omega (arith, one, same)) }
 
-  passes-few : (way : Way) (m : Message ℕ) (rest : List (Message ℕ)) (p : Ldterm ℕ) → Passes (passes plain here way m rest p)
+  passes-few : (way : Way) (m : Message ℕ) (rest : List (Message ℕ)) (p : Discipline ℕ) → Passes (passes plain here way m rest p)
   passes-few way m rest p = record { over = refl; few = one-few {C = ℕ} most 25 (toward way here) m (omega (arith, most-few (record { to = toward way here; shape = shape_of m }))) }
 
   nothing-few : cost_of {C = ℕ} most [] ≤ 25
@@ -68,8 +68,8 @@ module _ (here : Spot) where
       let n : Message ℕ = record m { control = None; body = Some (c ∷ given) } in
       one-few {C = ℕ} most 0 (toward Down here) n (omega (arith, data-down m.kind m.plain is))
 
-  module _ (again : Bool) (stop : Option ℕ) (p : Ldterm ℕ) where
-    abbrev call : Serving ℕ (Ldterm ℕ)
+  module _ (again : Bool) (stop : Option ℕ) (p : Discipline ℕ) where
+    abbrev call : Serving ℕ (Discipline ℕ)
     call = ldterm_serves plain here 0 again stop p
 
     input-treats : here.way ≡ Up → (ms : List (Message ℕ)) → passes_whole Up false (record p { read_queue = record p.read_queue { messages = ms } }) ≡ false → Treats (input_begins plain here stop 0 ms p)
@@ -79,7 +79,7 @@ module _ (here : Spot) where
         bytes : ℕ
         bytes = unwrap_or stop (length (cells_of m))
 
-        begun : Ldterm ℕ
+        begun : Discipline ℕ
         begun = record p { read_queue = left_with rest p.read_queue; in_work = Some m }
 
         at : (is : Bool) → not is ≡ false → Treats (cond is (treats plain here bytes 0 begun) (passes plain here Up m rest p))
@@ -93,14 +93,14 @@ module _ (here : Spot) where
         bytes : ℕ
         bytes = unwrap_or stop (length (cells_of m))
 
-        begun : Ldterm ℕ
+        begun : Discipline ℕ
         begun = record p { read_queue = left_with rest p.read_queue; in_work = Some m }
 
         at : (is : Bool) → not is ≡ true → Passes (cond is (treats plain here bytes 0 begun) (passes plain here Up m rest p))
         at true e = absurd (false≢true e)
         at false e = passes-few Up m rest p
 
-    abbrev down : List (Message ℕ) → Ldterm ℕ
+    abbrev down : List (Message ℕ) → Discipline ℕ
     down ms = record p { write_queue = record p.write_queue { messages = ms } }
 
     output-passes : (ms : List (Message ℕ)) → passes_whole Down again (down ms) ≡ true → Passes (output_serves plain here stop 0 ms p)
@@ -160,33 +160,33 @@ module _ (here : Spot) where
         at false whole = treated (serves-treat here.way again refl refl work whole) call.again refl
 
     -- what it may count on
-    whole-counts : (way : Way) (more : Bool) → passes_whole way more p ≡ true → turn_cost (record here { way = way }) more p ≡ 25
+    whole-counts : (way : Way) (more : Bool) → passes_whole way more p ≡ true → turn_cost (record here { way = way }) more (by_itself p) ≡ 25
     whole-counts Down more whole = refl
     whole-counts Up false whole = refl
     whole-counts Up true whole = absurd (false≢true whole)
 
-    bytes-count : (way : Way) (q : Ldterm ℕ) → way ≡ Up → turn_cost (record here { way = way }) true q ≡ needs q.stage
+    bytes-count : (way : Way) (q : Discipline ℕ) → way ≡ Up → turn_cost (record here { way = way }) true (by_itself q) ≡ needs q.stage
     bytes-count Down q up = absurd (cc up)
     bytes-count Up q up = refl
 
-    module _ (old new : StoreValue) (q : Ldterm ℕ) (more : Bool) (sent : List (Parcel ℕ)) (state : q ≡ call.acted.state) (parcels : sent ≡ call.acted.sent) (calls : more ≡ call.again) where
+    module _ (old new : StoreValue) (q : Discipline ℕ) (more : Bool) (sent : List (Parcel ℕ)) (state : q ≡ call.acted.state) (parcels : sent ≡ call.acted.sent) (calls : more ≡ call.again) where
       same-cost : cost_of most sent ≡ cost_of most call.acted.sent
       same-cost = ap (cost_of most) parcels
 
-      passed-room : (whole : passes_whole here.way again p ≡ true) → HasRoom old (turn_cost here again p) → FreesBlocks old new → HasRoom new (later_cost more (turn_cost here true q) sent)
+      passed-room : (whole : passes_whole here.way again p ≡ true) → HasRoom old (turn_cost here again (by_itself p)) → FreesBlocks old new → HasRoom new (later_cost more (turn_cost here true (by_itself q)) sent)
       passed-room whole room frees =
           let passes = serves-pass here.way again refl refl whole in
           let counts = whole-counts here.way again whole in
           let ends : more ≡ false = calls ∙ passes.over in
           let few = passes.few in
           let same = same-cost in
-          let takes : later_cost more (turn_cost here true q) sent ≡ cost_of most sent + 0 = ap (λ v. cost_of most sent + cond {A = ℕ} v (turn_cost here true q) 0) ends in
+          let takes : later_cost more (turn_cost here true (by_itself q)) sent ≡ cost_of most sent + 0 = ap (λ v. cost_of most sent + cond {A = ℕ} v (turn_cost here true (by_itself q)) 0) ends in
           record {
             mblks = (let r = room.mblks in let f = frees.mblks in omega (arith, counts, few, same, takes, r, f));
             dblks = (let r = room.dblks in let f = frees.dblks in omega (arith, counts, few, same, takes, r, f));
           }
 
-      treated-room : (whole : passes_whole here.way again p ≡ false) → (here.way ≡ Up → again ≡ true → is_some p.in_work ≡ true) → (more ≡ true → HasRoom new (leaves q.stage)) → (here.way ≡ Up → HasRoom new 1) → HasRoom new (later_cost more (turn_cost here true q) sent)
+      treated-room : (whole : passes_whole here.way again p ≡ false) → (here.way ≡ Up → again ≡ true → is_some p.in_work ≡ true) → (more ≡ true → HasRoom new (leaves q.stage)) → (here.way ≡ Up → HasRoom new 1) → HasRoom new (later_cost more (turn_cost here true (by_itself q)) sent)
       treated-room whole work behind at_last = at more refl
         where
           treats : Treats call
@@ -196,13 +196,13 @@ module _ (here : Spot) where
           last-room Up is = at_last is
           last-room Down is = record { mblks = omega arith; dblks = omega arith }
 
-          at : (v : Bool) → more ≡ v → HasRoom new (cost_of most sent + cond {A = ℕ} v (turn_cost here true q) 0)
+          at : (v : Bool) → more ≡ v → HasRoom new (cost_of most sent + cond {A = ℕ} v (turn_cost here true (by_itself q)) 0)
           at true goes =
               let room = behind goes in
               let left = treats.more (sym calls ∙ goes) in
               let counts = bytes-count here.way q (treats.up (sym calls ∙ goes)) in
-              let rest : needs q.stage ≡ needs call.acted.state.stage = ap (λ (v : Ldterm ℕ). needs v.stage) state in
-              let all : leaves q.stage ≡ leaves call.acted.state.stage = ap (λ (v : Ldterm ℕ). leaves v.stage) state in
+              let rest : needs q.stage ≡ needs call.acted.state.stage = ap (λ (v : Discipline ℕ). needs v.stage) state in
+              let all : leaves q.stage ≡ leaves call.acted.state.stage = ap (λ (v : Discipline ℕ). leaves v.stage) state in
               let same = same-cost in
               record {
                 mblks = (let r = room.mblks in omega (arith, left, counts, rest, all, same, r));
@@ -214,10 +214,10 @@ module _ (here : Spot) where
               let room = last-room here.way refl in
               record { mblks = (let r = room.mblks in omega (arith, most, same, r)); dblks = (let r = room.dblks in omega (arith, most, same, r)) }
 
-      pub call-room : (here.way ≡ Up → again ≡ true → is_some p.in_work ≡ true) → HasRoom old (turn_cost here again p) → (passes_whole here.way again p ≡ true → FreesBlocks old new)
-          → (more ≡ true → HasRoom new (leaves q.stage)) → (here.way ≡ Up → HasRoom new 1) → HasRoom new (later_cost more (turn_cost here true q) sent)
+      pub call-room : (here.way ≡ Up → again ≡ true → is_some p.in_work ≡ true) → HasRoom old (turn_cost here again (by_itself p)) → (passes_whole here.way again p ≡ true → FreesBlocks old new)
+          → (more ≡ true → HasRoom new (leaves q.stage)) → (here.way ≡ Up → HasRoom new 1) → HasRoom new (later_cost more (turn_cost here true (by_itself q)) sent)
       call-room work room frees behind at_last = at (passes_whole here.way again p) refl
         where
-          at : (whole : Bool) → passes_whole here.way again p ≡ whole → HasRoom new (later_cost more (turn_cost here true q) sent)
+          at : (whole : Bool) → passes_whole here.way again p ≡ whole → HasRoom new (later_cost more (turn_cost here true (by_itself q)) sent)
           at true whole = passed-room whole room (frees whole)
           at false whole = treated-room whole work behind at_last

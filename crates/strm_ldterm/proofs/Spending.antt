@@ -9,10 +9,10 @@ use Rattle.strm_types.specs.declared.spots.Spot.{Spot}
 use Rattle.strm_types.specs.Cells.{cells_made, plain}
 use Rattle.strm_types.specs.Budgets.{cost_of, most}
 use Rattle.strm_types.specs.Shapes.{shape_of}
-use Rattle.strm_types.specs.Deliver.{Acted, Parcel, toward}
+use Rattle.strm_types.specs.Deliver.{Acted, Parcel, toward, onward}
 use Rattle.strm_types.specs.Input.{begins_next, cells_left, left_of, made_of, next_stage, stage_at, stages, with_left}
 use Rattle.strm_types.specs.Keys.{restarts}
-use Rattle.strm_types.specs.Ldterms.{Ldterm, Stage, Between, Begun, Answered, onward, sends}
+use Rattle.strm_types.specs.Ldterms.{Discipline, Stage, Between, Begun, Answered, sends}
 use Rattle.strm_types.specs.Message.{Message, data_message}
 use Rattle.strm_types.specs.Queue.{is_full, is_none_left}
 use Rattle.strm_types.specs.Typing.{bare, echo_dir, echoed, echo_grows, echo_lost, echo_stands, gathered_up, is_lnext, stroke_at, struck}
@@ -23,7 +23,7 @@ use Rattle.strm_ldterm.proofs.Onward.{struck-sends}
 
 module _ (here : Spot) where
   abbrev pub Acts : Type 0
-  Acts = Acted ℕ (Ldterm ℕ)
+  Acts = Acted ℕ (Discipline ℕ)
 
   abbrev Costs : ℕ → List (Parcel ℕ) → Type 0
   Costs n ps = cost_of most ps ≤ 8 * n
@@ -39,7 +39,7 @@ module _ (here : Spot) where
   start-cost = one-few {C = ℕ} most 3 (toward Down here) (bare kinds.Start []) (omega arith)
 
   -- the message in work stays one
-  pub next-works : (made : ℕ) (p : Ldterm ℕ) → is_some (next_stage plain here made p).state.in_work ≡ is_some p.in_work
+  pub next-works : (made : ℕ) (p : Discipline ℕ) → is_some (next_stage plain here made p).state.in_work ≡ is_some p.in_work
   next-works made p = at p.stage
     where
       less : (rest : List ℕ) (work : Option (Message ℕ)) → is_some (option_map (left_of rest) work) ≡ is_some work
@@ -63,7 +63,7 @@ module _ (here : Spot) where
           new : List ℕ
           new = cells_made plain (echo_dir plain here) made (b ∷ bytes)
 
-          q : Ldterm ℕ
+          q : Discipline ℕ
           q = record p { stage = Between }
 
           by : (full echoing : Bool) → is_some (cond full (echo_lost plain here new q) (cond echoing (echo_grows plain here new q) (echo_stands plain here new q))).state.in_work ≡ is_some p.in_work
@@ -75,17 +75,17 @@ module _ (here : Spot) where
       at Between = left (cells_left p)
       at (Begun started c) =
           let stroke = stroke_at plain here c p in
-          ap is_some (strikes-stay plain here (λ (l : Ldterm ℕ). l.in_work ≡ p.in_work) (λ l stopped line gathered same. same) stroke.key (plain.mapped stroke.byte c) (record p { after_lnext = is_lnext stroke.key }) refl)
+          ap is_some (strikes-stay plain here (λ (l : Discipline ℕ). l.in_work ≡ p.in_work) (λ l stopped line gathered same. same) stroke.key (plain.mapped stroke.byte c) (record p { after_lnext = is_lnext stroke.key }) refl)
       at (Answered bytes) = echo bytes
 
   -- a stage that has sent something leaves enough for the rest of its byte, beside what is sent
   abbrev pub Leaves : Acts → Type 0
   Leaves t = cost_of most t.sent + needs t.state.stage ≤ leaves t.state.stage
 
-  next-leaves : (made : ℕ) (p : Ldterm ℕ) → is_none_left (next_stage plain here made p).sent ≡ false → Leaves (next_stage plain here made p)
+  next-leaves : (made : ℕ) (p : Discipline ℕ) → is_none_left (next_stage plain here made p).sent ≡ false → Leaves (next_stage plain here made p)
   next-leaves made p = at p.stage
     where
-      starts : (c : ℕ) (q : Ldterm ℕ) (begins : Bool) →
+      starts : (c : ℕ) (q : Discipline ℕ) (begins : Bool) →
           (let t = cond {A = Acts} begins (sends (onward Down here (bare kinds.Start []) ∷ []) (record q { stopped = false; stage = Begun true c })) (sends [] (record q { stage = Begun false c })) in
           is_none_left t.sent ≡ false → Leaves t)
       starts c q true sent = let few = start-cost in omega (arith, few)
@@ -102,7 +102,7 @@ module _ (here : Spot) where
           new : List ℕ
           new = cells_made plain (echo_dir plain here) made (b ∷ bytes)
 
-          q : Ldterm ℕ
+          q : Discipline ℕ
           q = record p { stage = Between }
 
           by : (full echoing : Bool) → (let t = cond full (echo_lost plain here new q) (cond echoing (echo_grows plain here new q) (echo_stands plain here new q)) in is_none_left t.sent ≡ false → Leaves t)
@@ -126,7 +126,7 @@ module _ (here : Spot) where
   gathered-few [] = none-few ℕ most 1
   gathered-few (c ∷ rest) = one-few {C = ℕ} most 1 (toward Up here) (data_message (c ∷ rest)) (omega arith)
 
-  step-spares : (n made : ℕ) (p : Ldterm ℕ) → (let t = next_stage plain here made p in
+  step-spares : (n made : ℕ) (p : Discipline ℕ) → (let t = next_stage plain here made p in
       is_some t.state.in_work ≡ true → Spares (stages plain here n (made + made_of t.gone) t.state) → Spares (stages plain here (suc n) made p))
   step-spares n made p still spares = by (is_none_left t.sent) refl
     where
@@ -140,7 +140,7 @@ module _ (here : Spot) where
       by true quiet = record { more = spares.more; over = spares.over }
       by false sent = record { more = λ e. next-leaves made p sent; over = λ e. absurd (false≢true (sym e ∙ still)) }
 
-  pub stages-spare : (n made : ℕ) (p : Ldterm ℕ) → is_some p.in_work ≡ true → Spares (stages plain here n made p)
+  pub stages-spare : (n made : ℕ) (p : Discipline ℕ) → is_some p.in_work ≡ true → Spares (stages plain here n made p)
   stages-spare zero made p work = record { more = λ e. absurd (false≢true e); over = λ e. gathered-few p.gathered }
   stages-spare (suc n) made p work =
       let t = next_stage plain here made p in

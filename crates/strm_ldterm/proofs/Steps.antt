@@ -7,9 +7,9 @@ use Rattle.strm_types.specs.declared.names.Way.TheVariants.{Up, Down}
 use Rattle.strm_types.specs.declared.rules.Fates.{Fates}
 use Rattle.strm_types.specs.declared.spots.Note.{Note}
 use Rattle.strm_types.specs.declared.spots.Note.TheVariants.{Enable}
-use Rattle.strm_types.specs.Deliver.{Acted, toward}
+use Rattle.strm_types.specs.Deliver.{Acted, toward, onward}
 use Rattle.strm_types.specs.Ldterms as ldterms
-use Rattle.strm_types.specs.Ldterms.{queued_at, sends, onward}
+use Rattle.strm_types.specs.Ldterms.{queued_at, sends}
 use Rattle.strm_types.specs.Message.{Message, is_high_priority, rank_of}
 use Rattle.strm_types.specs.Queue as plain
 use Rattle.strm_blocks.specs.Blocks.{StoreValue, IsStore, in_hand, dropped, token}
@@ -23,8 +23,7 @@ use Rattle.strm_frame.specs.declared.parcels.Sent.{Sent}
 use Rattle.strm_msg.specs.Messages.{IsChain}
 use Rattle.strm_types.specs.declared.spots.Spot.{Spot}
 use Rattle.strm_frame.proofs.Shifting.{shifts-joined}
-use Rattle.strm_ldterm.specs.declared.ldterm.Ldterm.{Ldterm}
-use Rattle.strm_ldterm.specs.Stands.{ldterm_in, keeps, EndsPlain, IsHeld}
+use Rattle.strm_ldterm.specs.Stands.{ldterm_in, keeps, EndsPlain, IsHeld, Paired}
 use Rattle.strm_ldterm.specs.Does.{Alters, Does}
 use Rattle.strm_ldterm.specs.Frames.{ldterm-frame}
 use Rattle.strm_ldterm.proofs.Beside.{held-quieter, read-plain, read-held, read-own, write-plain, write-held, write-own, without-same}
@@ -40,7 +39,7 @@ joined-hands s t i q q' k k' st can same changes frees =
     let h = shifts-joined s t i q q' st (record { apart = λ j. let a = can.apart j in omega arith }) changes frees in
     record { counts = λ j. let c = h.counts j in let e = same j in omega arith; others = λ j gone kept some. h.others j gone some }
 
-module _ (s t : StoreValue) (x : Ldterm) (i : ℕ) (q' : Queue) (acts : Acts) (f : Fates) (note : Bool) (st : IsStore s) (held : IsHeld s x) (can : CanPut s i (keeps x))
+module _ (s t : StoreValue) (x : Paired) (i : ℕ) (q' : Queue) (acts : Acts) (f : Fates) (note : Bool) (st : IsStore s) (held : IsHeld s x) (can : CanPut s i (keeps x))
     (frees : FreesBlocks s t) (none : sent_of acts.sent ≡ []) where
   framed : (ldterm_in (dropped s i) x ≡ ldterm_in s x) × IsHeld (dropped s i) x
   framed = ldterm-frame s (dropped s i) x (without-same s x i st can) held
@@ -52,7 +51,7 @@ module _ (s t : StoreValue) (x : Ldterm) (i : ℕ) (q' : Queue) (acts : Acts) (f
       record {
         state =
             read-plain (dropped s i) t x q' framed.1 changes
-            ∙ ap (λ (p : ldterms.Ldterm ℕ). record p { read_queue = queue_in t q' }) framed.0
+            ∙ ap (λ (p : ldterms.Discipline ℕ). record p { read_queue = queue_in t q' }) framed.0
             ∙ ap (λ (q : plain.Queue ℕ). record (ldterm_in s x) { read_queue = q }) is;
         notes = noted ∙ ap (λ v. cond {A = List Note} v (Enable Up ∷ []) []) enables;
         sent = no-parts t (sent_of acts.sent) none;
@@ -78,7 +77,7 @@ module _ (s t : StoreValue) (x : Ldterm) (i : ℕ) (q' : Queue) (acts : Acts) (f
       record {
         state =
             write-plain (dropped s i) t (record x { echoing = v }) q' quieter changes
-            ∙ ap (λ (y : ldterms.Ldterm ℕ). record y { write_queue = queue_in t q'; echoing = v }) framed.0
+            ∙ ap (λ (y : ldterms.Discipline ℕ). record y { write_queue = queue_in t q'; echoing = v }) framed.0
             ∙ ap (λ (q : plain.Queue ℕ). record p { write_queue = q; echoing = v }) is
             ∙ ap (λ (w : Bool). record p { write_queue = plain.put_on m p.write_queue; echoing = w }) stays;
         notes = noted ∙ ap (λ w. cond {A = List Note} w (Enable Down ∷ []) []) enables;
@@ -95,7 +94,7 @@ module _ (s t : StoreValue) (x : Ldterm) (i : ℕ) (q' : Queue) (acts : Acts) (f
       }
 
 -- after the module has altered
-module _ (s u : StoreValue) (x y : Ldterm) (i : ℕ) (st : IsStore s) (can : CanPut s i (keeps x)) (alters : Alters s u x y) where
+module _ (s u : StoreValue) (x y : Paired) (i : ℕ) (st : IsStore s) (can : CanPut s i (keeps x)) (alters : Alters s u x y) where
   pub still-can : CanPut u i (keeps y)
   still-can = record { apart = λ j. let a = can.apart j in let c = alters.hands.counts j in omega arith }
 
@@ -105,7 +104,7 @@ module _ (s u : StoreValue) (x y : Ldterm) (i : ℕ) (st : IsStore s) (can : Can
   pub still-chain : in_hand u i ≡ in_hand s i
   still-chain = let a = can.apart i in let one = once-self i in alters.hands.others i refl not-kept (omega arith)
 
-  pub alters-does : (t : StoreValue) (x' : Ldterm) (acts : Acts) (f f' : Fates) (is is' : Acted ℕ (ldterms.Ldterm ℕ)) → Does u t y x' i acts f f' is → is ≡ is' → Does s t x x' i acts f f' is'
+  pub alters-does : (t : StoreValue) (x' : Paired) (acts : Acts) (f f' : Fates) (is is' : Acted ℕ (ldterms.Discipline ℕ)) → Does u t y x' i acts f f' is → is ≡ is' → Does s t x x' i acts f f' is'
   alters-does t x' acts f f' is is' does same =
       subst (λ v. Does s t x x' i acts f f' v) same (record {
         state = does.state;
@@ -129,7 +128,7 @@ module _ (s u : StoreValue) (x y : Ldterm) (i : ℕ) (st : IsStore s) (can : Can
       })
 
 -- a message that passes
-pub passes-does : (s : StoreValue) (x : Ldterm) (z : Sent) (acts : Acts) (f : Fates) (here : Spot) (notes : List Note) → IsHeld s x → IsChain (in_hand s (token z.message)) → z.to ≡ toward here.way here
+pub passes-does : (s : StoreValue) (x : Paired) (z : Sent) (acts : Acts) (f : Fates) (here : Spot) (notes : List Note) → IsHeld s x → IsChain (in_hand s (token z.message)) → z.to ≡ toward here.way here
     → sent_of acts.sent ≡ z ∷ [] → acts.notes.items ≡ notes
     → Does s s x x (token z.message) acts f f (record (sends (onward here.way here (message_in s (token z.message)) ∷ []) (ldterm_in s x)) { notes = notes })
 passes-does s x z acts f here notes held chain to one noted = record {

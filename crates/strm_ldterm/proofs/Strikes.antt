@@ -12,8 +12,7 @@ use Rattle.strm_types.specs.declared.rules.Rule.TheVariants.{LineFull, LineOver}
 use Rattle.strm_types.specs.Typing.{added, dropped, lost}
 use Rattle.strm_blocks.specs.Blocks.{StoreValue}
 use Rattle.strm_frame.specs.Outboxes.{times_sent, parcels_in, AreChains}
-use Rattle.strm_ldterm.specs.declared.ldterm.Ldterm.{Ldterm}
-use Rattle.strm_ldterm.specs.Stands.{ldterm_in, IsHeld}
+use Rattle.strm_ldterm.specs.Stands.{ldterm_in, IsHeld, Paired}
 use Rattle.strm_ldterm.specs.Does.{Proceeds}
 
 pub told-append : (a b : List (Fate ℕ)) (f : Fates) → tallied (a ++ b) f ≡ tallied b (tallied a f)
@@ -21,7 +20,7 @@ told-append [] b f = refl
 told-append (x ∷ a) b f = told-append a b (counted_with x f)
 
 -- an ordinary byte, by the mode and the line
-module _ (here : Spot) (c : ℕ) (p : ldterms.Ldterm ℕ) where
+module _ (here : Spot) (c : ℕ) (p : ldterms.Discipline ℕ) where
   pub added-raw : icanon p.termios ≡ false → added plain here c p ≡ sends [] (record p { gathered = p.gathered ++ c ∷ [] })
   added-raw raw = rw raw refl
 
@@ -35,7 +34,7 @@ module _ (here : Spot) (c : ℕ) (p : ldterms.Ldterm ℕ) where
   added-over lines full still = rw (lines, full, still) refl
 
 -- only the line altered
-pub line-proceeds : (s : StoreValue) (x : Ldterm) (line line' : List ℕ) (f f' : Fates) (is : Acted ℕ (ldterms.Ldterm ℕ)) → IsHeld s x → line ≡ line' → record (ldterm_in s x) { line = line' } ≡ is.state
+pub line-proceeds : (s : StoreValue) (x : Paired) (line line' : List ℕ) (f f' : Fates) (is : Acted ℕ (ldterms.Discipline ℕ)) → IsHeld s x → line ≡ line' → record (ldterm_in s x) { line = line' } ≡ is.state
     → [] ≡ is.notes → [] ≡ is.sent → f' ≡ tallied is.gone f → Proceeds s s x (record x { line = line }) 1 [] [] f f' is
 unfolding times_sent parcels_in AreChains
 line-proceeds s x line line' f f' is held same state notes sent told = record {

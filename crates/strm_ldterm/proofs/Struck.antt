@@ -25,16 +25,19 @@ use Rattle.strm_types.proofs.StrikesStay.{strikes-stay}
 use Rattle.strm_blocks.specs.Blocks.{StoreValue, IsStore}
 use Rattle.strm_frame.specs.declared.parcels.Sent.{Sent}
 use Rattle.strm_ldterm.specs.declared.echoes.TheConstants.{ECHO_MAX}
-use Rattle.strm_ldterm.specs.declared.ldterm.Ldterm.{Ldterm}
 use Rattle.strm_ldterm.specs.declared.ldterm.Stage.{Stage}
 use Rattle.strm_ldterm.specs.declared.ldterm.Stage.TheVariants as stages
 use Rattle.strm_ldterm.specs.Does.{Proceeds}
 use Rattle.strm_ldterm.specs.Echoes.{MayLeave}
 use Rattle.strm_ldterm.specs.Quiet.{is_quiet}
-use Rattle.strm_ldterm.specs.Stands.{ldterm_in, stage_in}
+use Rattle.strm_ldterm.specs.Stands.{ldterm_in, stage_in, IsHeld, Paired}
 use Rattle.strm_ldterm.specs.Turns.{ahead, one_after, stages_left}
 use Rattle.strm_ldterm.proofs.Joining.{sent-ends, nothing-sent, proceeds-joined, to-stage, with-notes, from-other, takes-more}
 use Rattle.strm_ldterm.proofs.Turning.{Acts, ahead-one, ahead-two}
+
+-- it fits as before whether the next byte stands behind LNEXT or not
+pub held-lnext : (s : StoreValue) (x : Paired) (after : Bool) → IsHeld s x → IsHeld s (record x { after_lnext = after })
+held-lnext s x after h = record { read = h.read; write = h.write; apart = h.apart; work = h.work; gathers = h.gathers; echoes = h.echoes; once_each = h.once_each }
 
 -- an echo takes few blocks
 pub echo-chunks : (n : ℕ) → n ≤ ECHO_MAX → chunk_count n ≤ 24
@@ -42,11 +45,11 @@ unfolding chunk_count
 echo-chunks n few = omega arith
 
 -- a key leaves a message in work
-pub strikes-work : (here : Spot) (key : Key) (c : ℕ) (p : ldterms.Ldterm ℕ) → is_some (strikes plain here key c p).state.in_work ≡ is_some p.in_work
-strikes-work here key c p = ap is_some (strikes-stay plain here (λ (q : ldterms.Ldterm ℕ). q.in_work ≡ p.in_work) (λ q stopped line gathered holds. holds) key c p refl)
+pub strikes-work : (here : Spot) (key : Key) (c : ℕ) (p : ldterms.Discipline ℕ) → is_some (strikes plain here key c p).state.in_work ≡ is_some p.in_work
+strikes-work here key c p = ap is_some (strikes-stay plain here (λ (q : ldterms.Discipline ℕ). q.in_work ≡ p.in_work) (λ q stopped line gathered holds. holds) key c p refl)
 
 -- what a key leaves of the line, as far as its echo depends on it
-pub may-leave : (here : Spot) (key : Key) (c : ℕ) (p : ldterms.Ldterm ℕ) (line : List ℕ) → line ≡ (strikes plain here key c p).state.line → MayLeave key p.line line
+pub may-leave : (here : Spot) (key : Key) (c : ℕ) (p : ldterms.Discipline ℕ) (line : List ℕ) → line ≡ (strikes plain here key c p).state.line → MayLeave key p.line line
 may-leave here Erase c p line is = is
 may-leave here Werase c p line is = is
 may-leave here Reprint c p line is = is
@@ -62,7 +65,7 @@ may-leave here Lnext c p line is = tt
 may-leave here Delimiter c p line is = tt
 may-leave here Ordinary c p line is = tt
 
-module _ (here : Spot) (started : Bool) (byte : ℕ) (p : ldterms.Ldterm ℕ) where
+module _ (here : Spot) (started : Bool) (byte : ℕ) (p : ldterms.Discipline ℕ) where
   -- what a stroke does, without its echo, and with it
   abbrev pub key_does : Stroke → Acts
   key_does stroke = strikes plain here stroke.key stroke.byte (record p { after_lnext = is_lnext stroke.key })
@@ -100,14 +103,14 @@ module _ (here : Spot) (started : Bool) (byte : ℕ) (p : ldterms.Ldterm ℕ) wh
       ∙ ap struck_by same
 
 -- no more than one note each
-pub wakes-short : (here : Spot) (started : Bool) (p : ldterms.Ldterm ℕ) → length (wakes plain here started p) ≤ 1
+pub wakes-short : (here : Spot) (started : Bool) (p : ldterms.Discipline ℕ) → length (wakes plain here started p) ≤ 1
 wakes-short here started p = at (started && not (is_none_left p.write_queue.messages))
   where
     at : (v : Bool) → length (cond {A = List Note} v (Enable Down ∷ []) []) ≤ 1
     at true = omega arith
     at false = omega arith
 
-pub echoed-short : (here : Spot) (bytes : List ℕ) (p : ldterms.Ldterm ℕ) → length (echoed plain here 0 bytes p).notes ≤ 1
+pub echoed-short : (here : Spot) (bytes : List ℕ) (p : ldterms.Discipline ℕ) → length (echoed plain here 0 bytes p).notes ≤ 1
 echoed-short here [] p = omega arith
 echoed-short here (b ∷ bytes) p = at (is_full 0 p.write_queue) p.echoing
   where
@@ -140,12 +143,12 @@ not-lnext Lnext e = absurd (false≢true (sym e))
 not-lnext Delimiter e = refl
 not-lnext Ordinary e = refl
 
-module _ (s s2 : StoreValue) (x x2 : Ldterm) (here : Spot) (started : Bool) (byte : ℕ) (stroke : Stroke) (woken : List Note) (t t2 : Fates)
+module _ (s s2 : StoreValue) (x x2 : Paired) (here : Spot) (started : Bool) (byte : ℕ) (stroke : Stroke) (woken : List Note) (t t2 : Fates)
     (same : stroke ≡ stroke_at plain here byte (ldterm_in s x)) (wake : woken ≡ wakes plain here started (ldterm_in s x)) where
-  abbrev p : ldterms.Ldterm ℕ
+  abbrev p : ldterms.Discipline ℕ
   p = ldterm_in s x
 
-  pub quiet-proceeds : (s3 : StoreValue) (x4 : Ldterm) (lnext : Bool) (notes : List Note) (bytes : List ℕ) (n : ℕ) (t3 : Fates) → IsStore s2 → lnext ≡ is_lnext stroke.key
+  pub quiet-proceeds : (s3 : StoreValue) (x4 : Paired) (lnext : Bool) (notes : List Note) (bytes : List ℕ) (n : ℕ) (t3 : Fates) → IsStore s2 → lnext ≡ is_lnext stroke.key
       → bytes ≡ echo_of x.termios x.line x2.line stroke
       → Proceeds s s2 (record x { after_lnext = lnext }) x2 1 [] [] t t2 (strikes plain here stroke.key stroke.byte (record p { after_lnext = lnext }))
       → Proceeds s2 s3 (record x2 { stage = stages.Between }) x4 n notes [] t2 t3 (echoed plain here 0 bytes (ldterm_in s2 (record x2 { stage = stages.Between })))
@@ -160,7 +163,7 @@ module _ (s s2 : StoreValue) (x x2 : Ldterm) (here : Spot) (started : Bool) (byt
       let staged : Proceeds s s2 x (record x2 { stage = stages.Between }) 1 woken [] t t2 is2 =
       with-notes s s2 x (record x2 { stage = stages.Between }) 1 [] [] t t2 (record key { state = record key.state { stage = Between } }) woken
       (to-stage s s2 x x2 1 [] [] t t2 key stages.Between does) in
-      let line : x2.line ≡ key.state.line = ap (λ (q : ldterms.Ldterm ℕ). q.line) does.state in
+      let line : x2.line ≡ key.state.line = ap (λ (q : ldterms.Discipline ℕ). q.line) does.state in
       takes-more s s3 x x4 (1 + n) 25 (woken ++ notes) [] t t3 (one_after (struck plain here started byte p) (next_stage plain here 0)) (omega arith)
       (subst (Proceeds s s3 x x4 (1 + n) (woken ++ notes) [] t t3)
       (struck-echoed here started byte p stroke woken bytes same wake none (echo ∙ ap (λ l. echo_of x.termios x.line l stroke) line))
@@ -186,7 +189,7 @@ pub short-chunk : (n : ℕ) → n ≤ 3 → chunk_count n ≤ 1
 unfolding chunk_count
 short-chunk n few = omega arith
 
-pub answer-proceeds : (s s' : StoreValue) (x x' : Ldterm) (here : Spot) (echo : ArrayVec ℕ) (dest : Stage) (bytes : List ℕ) (n : ℕ) (notes : List Note) (t t' : Fates)
+pub answer-proceeds : (s s' : StoreValue) (x x' : Paired) (here : Spot) (echo : ArrayVec ℕ) (dest : Stage) (bytes : List ℕ) (n : ℕ) (notes : List Note) (t t' : Fates)
     → x.stage ≡ stages.Answered echo → dest ≡ stages.Between → bytes ≡ echo.items → n ≤ 1
     → Proceeds s s' (record x { stage = dest }) x' n notes [] t t' (echoed plain here 0 bytes (ldterm_in s (record x { stage = dest })))
     → Proceeds s s' x x' 1 notes [] t t' (next_stage plain here 0 (ldterm_in s x))
@@ -199,7 +202,7 @@ answer-proceeds s s' x x' here echo dest bytes n notes t t' is between same few 
     ∙ sym (ap (λ (st : Stage). stage_at plain here (stage_in st) 0 p) is))
     (from-other s s' x x' n notes [] t t' (echoed plain here 0 bytes (record p { stage = stage_in dest })) x.after_lnext dest a))
 
-pub next-short : (here : Spot) (p : ldterms.Ldterm ℕ) → stages_left p.stage ≡ 1 → length (next_stage plain here 0 p).notes ≤ 1
+pub next-short : (here : Spot) (p : ldterms.Discipline ℕ) → stages_left p.stage ≡ 1 → length (next_stage plain here 0 p).notes ≤ 1
 next-short here p one = at p.stage one
   where
     at : (stage : ldterms.Stage ℕ) → stages_left stage ≡ 1 → length (stage_at plain here stage 0 p).notes ≤ 1
@@ -207,10 +210,10 @@ next-short here p one = at p.stage one
     at (Begun started c) e = absurd (omega arith)
     at (Answered echo) e = echoed-short here echo (record p { stage = Between })
 
-module _ (s s2 : StoreValue) (x x2 : Ldterm) (woken : List Note) (sent : List Sent) (t t2 : Fates) (is : Acts)
-    (a : Proceeds s s2 x x2 2 woken sent t t2 is) (next : ldterms.Ldterm ℕ → Acts) where
+module _ (s s2 : StoreValue) (x x2 : Paired) (woken : List Note) (sent : List Sent) (t t2 : Fates) (is : Acts)
+    (a : Proceeds s s2 x x2 2 woken sent t t2 is) (next : ldterms.Discipline ℕ → Acts) where
   -- a key that has sent nothing after all is echoed
-  pub then-answers : (s3 : StoreValue) (x3 : Ldterm) (notes : List Note) (t3 : Fates) → IsStore s2 → sent ≡ [] → Proceeds s2 s3 x2 x3 1 notes [] t2 t3 (next (ldterm_in s2 x2))
+  pub then-answers : (s3 : StoreValue) (x3 : Paired) (notes : List Note) (t3 : Fates) → IsStore s2 → sent ≡ [] → Proceeds s2 s3 x2 x3 1 notes [] t2 t3 (next (ldterm_in s2 x2))
       → Proceeds s s3 x x3 26 (woken ++ notes) sent t t3 (one_after is next)
   then-answers s3 x3 notes t3 st none b =
       subst (λ out. Proceeds s s3 x x3 26 (woken ++ notes) out t t3 (one_after is next)) (sym none)
@@ -226,11 +229,11 @@ some-left [] v e iff = absurd (false≢true (sym e ∙ iff.1 refl))
 some-left (x ∷ xs) v e iff = refl
 
 -- what is left of a byte
-pub begun-ahead : (here : Spot) (p : ldterms.Ldterm ℕ) (started : Bool) (byte : ℕ) → p.stage ≡ Begun started byte → one_after (struck plain here started byte p) (next_stage plain here 0) ≡ ahead here (stages_left p.stage) p
+pub begun-ahead : (here : Spot) (p : ldterms.Discipline ℕ) (started : Bool) (byte : ℕ) → p.stage ≡ Begun started byte → one_after (struck plain here started byte p) (next_stage plain here 0) ≡ ahead here (stages_left p.stage) p
 begun-ahead here p started byte is =
     ap (λ st. one_after (stage_at plain here st 0 p) (next_stage plain here 0)) (sym is)
     ∙ sym (ahead-two here p)
     ∙ ap (λ n. ahead here n p) (sym (ap stages_left is))
 
-pub answered-ahead : (here : Spot) (p : ldterms.Ldterm ℕ) → stages_left p.stage ≡ 1 → next_stage plain here 0 p ≡ ahead here (stages_left p.stage) p
+pub answered-ahead : (here : Spot) (p : ldterms.Discipline ℕ) → stages_left p.stage ≡ 1 → next_stage plain here 0 p ≡ ahead here (stages_left p.stage) p
 answered-ahead here p one = sym (ahead-one here p) ∙ ap (λ n. ahead here n p) (sym one)

@@ -9,11 +9,11 @@ use Rattle.strm_types.specs.declared.rules.Fates.{Fates}
 use Rattle.strm_types.specs.declared.spots.Note.{Note}
 use Rattle.strm_types.specs.declared.spots.Spot.{Spot}
 use Rattle.strm_types.specs.declared.termios.Termios.{Termios}
-use Rattle.strm_types.specs.Deliver.{Acted, Parcel, toward}
+use Rattle.strm_types.specs.Deliver.{Acted, Parcel, toward, onward}
 use Rattle.strm_types.specs.Flush.{is_data_kind}
 use Rattle.strm_types.specs.Flushing.{flush_message, read_flush}
 use Rattle.strm_types.specs.Ldterms as ldterms
-use Rattle.strm_types.specs.Ldterms.{both, onward, read_flushed, sends}
+use Rattle.strm_types.specs.Ldterms.{both, read_flushed, sends}
 use Rattle.strm_types.specs.Message.{data_message}
 use Rattle.strm_types.specs.Options.{mode_message}
 use Rattle.strm_types.specs.TakenUp.{ends_lines, input_flushed, line_up, read_mode_of, taken_up}
@@ -26,8 +26,7 @@ use Rattle.strm_frame.specs.declared.parcels.Sent.{Sent}
 use Rattle.strm_frame.specs.Hands.{AreIn, CanPut, HasRoom}
 use Rattle.strm_frame.specs.Outboxes.{message_in, sent_of, times_sent, parcels_in, AreChains}
 use Rattle.strm_frame.proofs.Handing.{once-self, one-chains, one-parts}
-use Rattle.strm_ldterm.specs.declared.ldterm.Ldterm.{Ldterm}
-use Rattle.strm_ldterm.specs.Stands.{ldterm_in, keeps, IsHeld}
+use Rattle.strm_ldterm.specs.Stands.{ldterm_in, keeps, IsHeld, Paired}
 use Rattle.strm_ldterm.specs.Does.{Does, Flushes, Proceeds, Puts}
 use Rattle.strm_ldterm.specs.TakingUp.{flush_takes, line_takes, termios_set}
 use Rattle.strm_ldterm.proofs.Joining.{with-notes}
@@ -35,11 +34,11 @@ use Rattle.strm_ldterm.proofs.Passing.{read-sends}
 use Rattle.strm_ldterm.proofs.Proceeding.{chains-joined, parcels-joined, proceeds-both, times-joined}
 use Rattle.strm_ldterm.proofs.Sends.{sends-none, times-one}
 
-pub can-kept : (s : StoreValue) (x : Ldterm) (i : ℕ) → CanPut s i (keeps x) → AreIn s (λ _. 0) (keeps x)
+pub can-kept : (s : StoreValue) (x : Paired) (i : ℕ) → CanPut s i (keeps x) → AreIn s (λ _. 0) (keeps x)
 can-kept s x i can = record { apart = λ j. let a = can.apart j in omega arith }
 
 -- a put that takes no block
-pub does-puts : (s t : StoreValue) (x x' : Ldterm) (i most : ℕ) (acts : Acts) (f f' : Fates) (is : Acted ℕ (ldterms.Ldterm ℕ)) → Does s t x x' i acts f f' is
+pub does-puts : (s t : StoreValue) (x x' : Paired) (i most : ℕ) (acts : Acts) (f f' : Fates) (is : Acted ℕ (ldterms.Discipline ℕ)) → Does s t x x' i acts f f' is
     → Puts s t x x' i most acts f f' is
 does-puts s t x x' i most acts f f' is did = record {
   state = did.state;
@@ -55,7 +54,7 @@ does-puts s t x x' i most acts f f' is did = record {
 }
 
 -- what was flushed, where nothing is sent
-pub flushes-proceeds : (s t : StoreValue) (x y : Ldterm) (notes : List Note) (f f' : Fates) (a : Acted ℕ (ldterms.Ldterm ℕ)) → Flushes s t x y notes f f' a → a.sent ≡ [] → Proceeds s t x y 0 notes [] f f' a
+pub flushes-proceeds : (s t : StoreValue) (x y : Paired) (notes : List Note) (f f' : Fates) (a : Acted ℕ (ldterms.Discipline ℕ)) → Flushes s t x y notes f f' a → a.sent ≡ [] → Proceeds s t x y 0 notes [] f f' a
 unfolding times_sent parcels_in AreChains
 flushes-proceeds s t x y notes f f' a did none = record {
   state = did.state;
@@ -72,7 +71,7 @@ flushes-proceeds s t x y notes f f' a did none = record {
 }
 
 -- one step that may note something, and then another one
-pub noted-both : (s t u : StoreValue) (x y z : Ldterm) (n k : ℕ) (notes : List Note) (a b : List Sent) (f f1 f2 : Fates) (is : Acted ℕ (ldterms.Ldterm ℕ)) (next : ldterms.Ldterm ℕ → Acted ℕ (ldterms.Ldterm ℕ))
+pub noted-both : (s t u : StoreValue) (x y z : Paired) (n k : ℕ) (notes : List Note) (a b : List Sent) (f f1 f2 : Fates) (is : Acted ℕ (ldterms.Discipline ℕ)) (next : ldterms.Discipline ℕ → Acted ℕ (ldterms.Discipline ℕ))
     → IsStore t → AreIn s (λ _. 0) (keeps x) → (next is.state).notes ≡ [] → Proceeds s t x y n notes a f f1 is → Proceeds t u y z k [] b f1 f2 (next (ldterm_in t y))
     → Proceeds s u x z (n + k) notes (a ++ b) f f2 (both is next)
 noted-both s t u x y z n k notes a b f f1 f2 is next st kept none first second =
@@ -83,7 +82,7 @@ noted-both s t u x y z n k notes a b f f1 f2 is next st kept none first second =
     subst (λ v. Proceeds s u x z (n + k) notes (a ++ b) f f2 (record (both bare next) { notes = v })) (first.noted ∙ sym (append-nil is.notes) ∙ ap (λ v. is.notes ++ v) (sym none)) noted
 
 -- and the message goes on last
-pub puts-behind : (s u : StoreValue) (x z : Ldterm) (last : Sent) (here : Spot) (takes most : ℕ) (notes : List Note) (sent : List Sent) (acts : Acts) (f f' : Fates) (a : Acted ℕ (ldterms.Ldterm ℕ)) (all : List (Parcel ℕ))
+pub puts-behind : (s u : StoreValue) (x z : Paired) (last : Sent) (here : Spot) (takes most : ℕ) (notes : List Note) (sent : List Sent) (acts : Acts) (f f' : Fates) (a : Acted ℕ (ldterms.Discipline ℕ)) (all : List (Parcel ℕ))
     → IsStore s → CanPut s (token last.message) (keeps x) → IsChain (in_hand s (token last.message)) → last.to ≡ toward Up here → Proceeds s u x z takes notes sent f f' a
     → acts.notes.items ≡ notes → sent_of acts.sent ≡ sent ++ last ∷ [] → a.sent ++ onward Up here (message_in s (token last.message)) ∷ [] ≡ all → takes ≤ most
     → Puts s u x z (token last.message) most acts f f' (record a { sent = all })
@@ -116,21 +115,21 @@ puts-behind s u x z last here takes most notes sent acts f f' a all st can chain
     }
 
 -- what is kept is in hand still, and so many blocks are free
-pub noted-kept : (s t : StoreValue) (x y : Ldterm) (n : ℕ) (notes : List Note) (a : List Sent) (f f' : Fates) (is : Acted ℕ (ldterms.Ldterm ℕ)) → AreIn s (λ _. 0) (keeps x) → Proceeds s t x y n notes a f f' is
+pub noted-kept : (s t : StoreValue) (x y : Paired) (n : ℕ) (notes : List Note) (a : List Sent) (f f' : Fates) (is : Acted ℕ (ldterms.Discipline ℕ)) → AreIn s (λ _. 0) (keeps x) → Proceeds s t x y n notes a f f' is
     → AreIn t (λ _. 0) (keeps y)
 noted-kept s t x y n notes a f f' is kept did = record { apart = λ i. let c = did.hands.counts i in let k = kept.apart i in omega arith }
 
-pub noted-room : (s t : StoreValue) (x y : Ldterm) (n k : ℕ) (notes : List Note) (a : List Sent) (f f' : Fates) (is : Acted ℕ (ldterms.Ldterm ℕ)) → Proceeds s t x y n notes a f f' is → HasRoom s (n + k) → HasRoom t k
+pub noted-room : (s t : StoreValue) (x y : Paired) (n k : ℕ) (notes : List Note) (a : List Sent) (f f' : Fates) (is : Acted ℕ (ldterms.Discipline ℕ)) → Proceeds s t x y n notes a f f' is → HasRoom s (n + k) → HasRoom t k
 noted-room s t x y n k notes a f f' is did room = record { mblks = (let a = did.mblks in let b = room.mblks in omega arith); dblks = (let a = did.dblks in let b = room.dblks in omega arith) }
 
 -- input is flushed, where the command says so
-abbrev told : Spot → ldterms.Ldterm ℕ → Acted ℕ (ldterms.Ldterm ℕ)
+abbrev told : Spot → ldterms.Discipline ℕ → Acted ℕ (ldterms.Discipline ℕ)
 told here p = sends (onward Up here (flush_message (read_flush None)) ∷ []) p
 
-abbrev flushed_by : Bool → Spot → ldterms.Ldterm ℕ → Acted ℕ (ldterms.Ldterm ℕ)
+abbrev flushed_by : Bool → Spot → ldterms.Discipline ℕ → Acted ℕ (ldterms.Discipline ℕ)
 flushed_by flushes here p = cond flushes (both (read_flushed here up_alone p) (told here)) (sends [] p)
 
-pub input-flushes : (s t u : StoreValue) (x y : Ldterm) (here : Spot) (command : ℕ) (z : Sent) (notes : List Note) (f f' : Fates) → IsStore t → AreIn s (λ _. 0) (keeps x) → (command == TCSETSF) ≡ true
+pub input-flushes : (s t u : StoreValue) (x y : Paired) (here : Spot) (command : ℕ) (z : Sent) (notes : List Note) (f f' : Fates) → IsStore t → AreIn s (λ _. 0) (keeps x) → (command == TCSETSF) ≡ true
     → Flushes s t x y notes f f' (read_flushed here up_alone (ldterm_in s x)) → Proceeds t u y y 1 [] (z ∷ []) f' f' (told here (ldterm_in t y))
     → Proceeds s u x y (flush_takes command) notes (z ∷ []) f f' (input_flushed here command (ldterm_in s x))
 input-flushes s t u x y here command z notes f f' st kept is did sent =
@@ -139,19 +138,19 @@ input-flushes s t u x y here command z notes f f' st kept is did sent =
     let all = noted-both s t u x y y 0 1 notes [] (z ∷ []) f f' f' (read_flushed here up_alone p) (told here) st kept refl first sent in
     subst (λ (b : Bool). Proceeds s u x y (cond b 1 0) notes (z ∷ []) f f' (flushed_by b here p)) (sym is) all
 
-pub input-stays : (s : StoreValue) (x : Ldterm) (here : Spot) (command : ℕ) (notes : List Note) (f : Fates) → (command == TCSETSF) ≡ false → Proceeds s s x x 0 notes [] f f (sends [] (ldterm_in s x))
+pub input-stays : (s : StoreValue) (x : Paired) (here : Spot) (command : ℕ) (notes : List Note) (f : Fates) → (command == TCSETSF) ≡ false → Proceeds s s x x 0 notes [] f f (sends [] (ldterm_in s x))
     → Proceeds s s x x (flush_takes command) notes [] f f (input_flushed here command (ldterm_in s x))
 input-stays s x here command notes f is same = subst (λ (b : Bool). Proceeds s s x x (cond b 1 0) notes [] f f (flushed_by b here (ldterm_in s x))) (sym is) same
 
 -- With the line flushed none goes up: two blocks are enough in any case.
-flushed-line : (s t : StoreValue) (x y : Ldterm) (here : Spot) (command : ℕ) → ldterm_in t y ≡ (input_flushed here command (ldterm_in s x)).state → flush_takes command + line_takes y.line ≤ 1
-flushed-line s t x y here command same = at (command == TCSETSF) (ap (λ (p : ldterms.Ldterm ℕ). p.line) same)
+flushed-line : (s t : StoreValue) (x y : Paired) (here : Spot) (command : ℕ) → ldterm_in t y ≡ (input_flushed here command (ldterm_in s x)).state → flush_takes command + line_takes y.line ≤ 1
+flushed-line s t x y here command same = at (command == TCSETSF) (ap (λ (p : ldterms.Discipline ℕ). p.line) same)
   where
     at : (b : Bool) → y.line ≡ (flushed_by b here (ldterm_in s x)).state.line → cond {A = ℕ} b 1 0 + line_takes y.line ≤ 1
     at true line = let none = ap length line in omega arith
     at false line = omega arith
 
-module _ (s t : StoreValue) (x y : Ldterm) (here : Spot) (command : ℕ) (notes : List Note) (a : List Sent) (f f1 : Fates)
+module _ (s t : StoreValue) (x y : Paired) (here : Spot) (command : ℕ) (notes : List Note) (a : List Sent) (f f1 : Fates)
     (did : Proceeds s t x y (flush_takes command) notes a f f1 (input_flushed here command (ldterm_in s x))) where
   pub takes-two : flush_takes command + (line_takes y.line + 1) ≤ 2
   takes-two = let few = flushed-line s t x y here command did.state in omega arith
@@ -162,7 +161,7 @@ module _ (s t : StoreValue) (x y : Ldterm) (here : Spot) (command : ℕ) (notes 
       record { mblks = (let a = did.mblks in let b = room.mblks in omega arith); dblks = (let a = did.dblks in let b = room.dblks in omega arith) }
 
 -- the whole, where the message goes on last
-pub takes-up : (s t u v : StoreValue) (x y z : Ldterm) (here : Spot) (command most : ℕ) (termios : Termios) (notes : List Note) (a b : List Sent) (mode last : Sent) (acts : Acts) (f f1 : Fates)
+pub takes-up : (s t u v : StoreValue) (x y z : Paired) (here : Spot) (command most : ℕ) (termios : Termios) (notes : List Note) (a b : List Sent) (mode last : Sent) (acts : Acts) (f f1 : Fates)
     → IsStore s → IsStore t → IsStore u → CanPut s (token last.message) (keeps x) → IsChain (in_hand s (token last.message)) → last.to ≡ toward Up here
     → Proceeds s t x y (flush_takes command) notes a f f1 (input_flushed here command (ldterm_in s x))
     → Proceeds t u y z (line_takes y.line) [] b f1 f1 (termios_set here termios (ldterm_in t y))
@@ -173,9 +172,9 @@ takes-up s t u v x y z here command most termios notes a b mode last acts f f1 s
     let p = ldterm_in s x in
     let kept = can-kept s x (token last.message) can in
     let kept_t = noted-kept s t x y (flush_takes command) notes a f f1 (input_flushed here command p) kept flush in
-    let modes : ldterms.Ldterm ℕ → Acted ℕ (ldterms.Ldterm ℕ) = λ r. sends (onward Up here (mode_message (read_mode_of termios) (tostop termios)) ∷ []) r in
+    let modes : ldterms.Discipline ℕ → Acted ℕ (ldterms.Discipline ℕ) = λ r. sends (onward Up here (mode_message (read_mode_of termios) (tostop termios)) ∷ []) r in
     let inner = proceeds-both t u v y z z (line_takes y.line) 1 b (mode ∷ []) f1 f1 f1 (termios_set here termios (ldterm_in t y)) modes st_u kept_t set told in
-    let next : ldterms.Ldterm ℕ → Acted ℕ (ldterms.Ldterm ℕ) = λ q. both (termios_set here termios q) modes in
+    let next : ldterms.Discipline ℕ → Acted ℕ (ldterms.Discipline ℕ) = λ q. both (termios_set here termios q) modes in
     let whole = noted-both s t v x y z (flush_takes command) (line_takes y.line + 1) notes a (b ++ mode ∷ []) f f1 f1 (input_flushed here command p) next st_t kept refl flush inner in
     let two = takes-two s t x y here command notes a f f1 flush in
     let q = (input_flushed here command p).state in
@@ -187,12 +186,12 @@ takes-up s t u v x y z here command most termios notes a b mode last acts f f1 s
     (omega (arith, two, few))
 
 -- the termios and the line are beside what it holds
-pub held-set : (s : StoreValue) (x : Ldterm) (termios : Termios) (line : List ℕ) → IsHeld s x → IsHeld s (record x { termios = termios; line = line })
+pub held-set : (s : StoreValue) (x : Paired) (termios : Termios) (line : List ℕ) → IsHeld s x → IsHeld s (record x { termios = termios; line = line })
 held-set s x termios line h = record { read = h.read; write = h.write; apart = h.apart; work = h.work; gathers = h.gathers; echoes = h.echoes; once_each = h.once_each }
 
 -- Where lines are made still, or none is there, nothing goes up.
-module _ (s : StoreValue) (x : Ldterm) (here : Spot) (termios : Termios) (f : Fates) (held : IsHeld s x) where
-  abbrev set_by : Bool → Acted ℕ (ldterms.Ldterm ℕ)
+module _ (s : StoreValue) (x : Paired) (here : Spot) (termios : Termios) (f : Fates) (held : IsHeld s x) where
+  abbrev set_by : Bool → Acted ℕ (ldterms.Discipline ℕ)
   set_by ends = let p = ldterm_in s x in sends (cond ends (line_up here p.line) []) (record p { termios = termios; line = cond ends [] p.line })
 
   none-up : (ends : Bool) → x.line ≡ cond ends [] x.line → [] ≡ cond ends (line_up here x.line) [] → Proceeds s s x (record x { termios = termios }) (line_takes x.line) [] [] f f (set_by ends)
@@ -212,7 +211,7 @@ module _ (s : StoreValue) (x : Ldterm) (here : Spot) (termios : Termios) (f : Fa
       at ends (c ∷ more) none = absurd (omega arith)
 
 -- Where they end one goes up in a block.
-pub line-sent : (s t : StoreValue) (x y : Ldterm) (z : Sent) (here : Spot) (termios : Termios) (f : Fates) → ends_lines x.termios termios ≡ true → (length x.line ≡ 0 → ⊥)
+pub line-sent : (s t : StoreValue) (x y : Paired) (z : Sent) (here : Spot) (termios : Termios) (f : Fates) → ends_lines x.termios termios ≡ true → (length x.line ≡ 0 → ⊥)
     → (let p = ldterm_in s x in Proceeds s t x y 1 [] (z ∷ []) f f (sends (onward Up here (data_message p.line) ∷ []) (record p { termios = termios; line = [] })))
     → Proceeds s t x y (line_takes x.line) [] (z ∷ []) f f (termios_set here termios (ldterm_in s x))
 line-sent s t x y z here termios f is some did =

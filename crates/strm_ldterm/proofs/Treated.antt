@@ -10,14 +10,14 @@ use Rattle.strm_types.specs.Cells.{plain}
 use Rattle.strm_types.specs.Input.{begins_next, cells_left, next_stage, stage_at, with_left}
 use Rattle.strm_types.specs.Keys.{restarts}
 use Rattle.strm_types.specs.Ldterms as ldterms
-use Rattle.strm_types.specs.Ldterms.{Between, Begun, Answered, onward, sends}
+use Rattle.strm_types.specs.Deliver.{onward}
+use Rattle.strm_types.specs.Ldterms.{Between, Begun, Answered, sends}
 use Rattle.strm_types.specs.Queue.{is_none_left}
 use Rattle.strm_types.specs.Typing.{bare, stroke_at}
 use Rattle.strm_blocks.specs.Blocks.{StoreValue, IsStore}
 use Rattle.strm_frame.specs.declared.parcels.Sent.{Sent}
-use Rattle.strm_ldterm.specs.declared.ldterm.Ldterm.{Ldterm}
 use Rattle.strm_ldterm.specs.Does.{Proceeds}
-use Rattle.strm_ldterm.specs.Stands.{ldterm_in, stage_in}
+use Rattle.strm_ldterm.specs.Stands.{ldterm_in, stage_in, Paired}
 use Rattle.strm_ldterm.specs.Turns.{ahead, leaves, needs, stages_left}
 use Rattle.strm_ldterm.proofs.Joining.{proceeds-joined, sent-ends, takes-more}
 
@@ -37,7 +37,7 @@ few-needs (Begun started c) = omega arith
 few-needs (Answered echo) = omega arith
 
 -- a byte that begins has two stages left
-pub begins-left : (here : Spot) (left : List ℕ) (p : ldterms.Ldterm ℕ) → 0 < length left → stages_left (begins_next plain here left p).state.stage ≡ 2
+pub begins-left : (here : Spot) (left : List ℕ) (p : ldterms.Discipline ℕ) → 0 < length left → stages_left (begins_next plain here left p).state.stage ≡ 2
 begins-left here [] p some = absurd (omega arith)
 begins-left here (c ∷ rest) p some = at (p.stopped && restarts p.termios (stroke_at plain here c (with_left rest p)))
   where
@@ -45,13 +45,13 @@ begins-left here (c ∷ rest) p some = at (p.stopped && restarts p.termios (stro
     at true = refl
     at false = refl
 
-pub next-begins : (here : Spot) (p : ldterms.Ldterm ℕ) → stages_left p.stage ≡ 0 → begins_next plain here (cells_left p) p ≡ next_stage plain here 0 p
+pub next-begins : (here : Spot) (p : ldterms.Discipline ℕ) → stages_left p.stage ≡ 0 → begins_next plain here (cells_left p) p ≡ next_stage plain here 0 p
 next-begins here p none = ap (λ st. stage_at plain here st 0 p) (sym (none-under-way p.stage none))
 
-module _ (s s1 : StoreValue) (x x1 : Ldterm) (here : Spot) (sent : List Sent) (t : Fates)
+module _ (s s1 : StoreValue) (x x1 : Paired) (here : Spot) (sent : List Sent) (t : Fates)
     (none : stages_left (stage_in x.stage) ≡ 0)
     (a : Proceeds s s1 x x1 1 [] sent t t (begins_next plain here (cells_left (ldterm_in s x)) (ldterm_in s x))) where
-  abbrev p : ldterms.Ldterm ℕ
+  abbrev p : ldterms.Discipline ℕ
   p = ldterm_in s x
 
   -- where it has started output
@@ -62,10 +62,10 @@ module _ (s s1 : StoreValue) (x x1 : Ldterm) (here : Spot) (sent : List Sent) (t
 
   module _ (some : 0 < length (cells_left p)) where
     pub begun-left : stages_left (stage_in x1.stage) ≡ 2
-    begun-left = ap (λ (q : ldterms.Ldterm ℕ). stages_left q.stage) a.state ∙ begins-left here (cells_left p) p some
+    begun-left = ap (λ (q : ldterms.Discipline ℕ). stages_left q.stage) a.state ∙ begins-left here (cells_left p) p some
 
     -- and the rest of it
-    pub byte-goes-on : (s2 : StoreValue) (x2 : Ldterm) (notes : List Note) (out : List Sent) (t2 : Fates) → IsStore s1 → sent ≡ []
+    pub byte-goes-on : (s2 : StoreValue) (x2 : Paired) (notes : List Note) (out : List Sent) (t2 : Fates) → IsStore s1 → sent ≡ []
         → Proceeds s1 s2 x1 x2 26 notes out t t2 (ahead here (stages_left (stage_in x1.stage)) (ldterm_in s1 x1)) → Proceeds s s2 x x2 27 notes out t t2 (ahead here 3 p)
     byte-goes-on s2 x2 notes out t2 st quiet b =
         proceeds-joined s s1 x x1 1 [] t t (next_stage plain here 0 p) st

@@ -24,7 +24,6 @@ use Rattle.strm_frame.specs.declared.service.Served.{Served}
 use Rattle.strm_frame.specs.Outboxes.{sent_of}
 use Rattle.strm_frame.specs.Hands.{HasRoom}
 use Rattle.strm_frame.specs.Serves.{stop_at, stop_of}
-use Rattle.strm_ldterm.specs.declared.ldterm.Ldterm.{Ldterm}
 use Rattle.strm_ldterm.specs.Began.{BeganWork}
 use Rattle.strm_ldterm.specs.Bounds.{passes_whole}
 use Rattle.strm_ldterm.specs.Called.{ServesAs, TreatsAs, at_work, bytes_of_way}
@@ -32,7 +31,7 @@ use Rattle.strm_ldterm.specs.Does.{Proceeds}
 use Rattle.strm_ldterm.specs.Resting.{ldterm-rests}
 use Rattle.strm_ldterm.specs.Served.{IsServed}
 use Rattle.strm_ldterm.specs.FreeBefore.{IsFreeBefore, all_free}
-use Rattle.strm_ldterm.specs.Stands.{keeps, ldterm_in, stage_in, IsHeld}
+use Rattle.strm_ldterm.specs.Stands.{keeps, ldterm_in, stage_in, IsHeld, Paired}
 use Rattle.strm_ldterm.specs.Turns.{bytes_on, leaves, needs, stages_left}
 use Rattle.strm_ldterm.proofs.Bytes.{all-left, kept-some, takes-any, none-begun, none-done}
 use Rattle.strm_ldterm.proofs.Joining.{proceeds-joined}
@@ -43,7 +42,7 @@ pub cells-within : (m : Message ℕ) → length (cells_of m) ≤ size_of m
 unfolding size_of
 cells-within m = omega arith
 
-module _ (here : Spot) (again : Bool) (stop : Option ℕ) (p : ldterms.Ldterm ℕ) where
+module _ (here : Spot) (again : Bool) (stop : Option ℕ) (p : ldterms.Discipline ℕ) where
   abbrev at_way : Way → Spot
   at_way way = record here { way = way }
 
@@ -82,7 +81,7 @@ some-left-room : (s : StoreValue) (stage : ldterms.Stage ℕ) → HasRoom s (lea
 some-left-room s stage room = let some = leaves-some stage in record { mblks = (let r = room.mblks in omega (arith, r, some)); dblks = (let r = room.dblks in omega (arith, r, some)) }
 
 -- before a byte of a message that has come into work
-pub begun-later : (s s1 : StoreValue) (x x1 : Ldterm) (t : Fates) (next : ℕ → ldterms.Ldterm ℕ → Acted ℕ (ldterms.Ldterm ℕ)) (q : ldterms.Ldterm ℕ) (byte : ℕ) → IsStore s1
+pub begun-later : (s s1 : StoreValue) (x x1 : Paired) (t : Fates) (next : ℕ → ldterms.Discipline ℕ → Acted ℕ (ldterms.Discipline ℕ)) (q : ldterms.Discipline ℕ) (byte : ℕ) → IsStore s1
     → Proceeds s s1 x x1 0 [] [] t t (ldterms.sends [] q) → IsFreeBefore s1 x1 t next (ldterm_in s1 x1) byte → IsFreeBefore s x t next q byte
 begun-later s s1 x x1 t next q byte st works f = record {
   before = f.before;
@@ -98,9 +97,9 @@ begun-later s s1 x x1 t next q byte st works f = record {
   free = f.free;
 }
 
-module _ (s s' : StoreValue) (here : Spot) (x x' : Ldterm) (again : Bool) (t : Fates) where
+module _ (s s' : StoreValue) (here : Spot) (x x' : Paired) (again : Bool) (t : Fates) where
   -- a message passed whole, or none
-  pub whole-serves : (served : Served) (sent : Outbox) (bytes : ℕ) (v : Serving ℕ (ldterms.Ldterm ℕ)) → served.acts.notes.items ≡ [] → served.acts.sent ≡ sent → served.bytes ≡ bytes → served.stopped ≡ false → served.again ≡ false
+  pub whole-serves : (served : Served) (sent : Outbox) (bytes : ℕ) (v : Serving ℕ (ldterms.Discipline ℕ)) → served.acts.notes.items ≡ [] → served.acts.sent ≡ sent → served.bytes ≡ bytes → served.stopped ≡ false → served.again ≡ false
       → ldterm_serves plain here 0 again None (ldterm_in s x) ≡ v → Proceeds s s' x x' 0 [] (sent_of sent) t t v.acted → bytes ≡ v.bytes → v.again ≡ false → (here.way ≡ Up → HasRoom s 1) → passes_whole here.way again (ldterm_in s x) ≡ true
       → ServesAs s s' here x x' again served t t
   whole-serves served sent bytes v no-notes same-sent same-bytes goes-on ends is a size over room passed =
@@ -108,11 +107,11 @@ module _ (s s' : StoreValue) (here : Spot) (x x' : Ldterm) (again : Bool) (t : F
       let whole : ldterm_serves plain here 0 again (stop_of served) p ≡ v = ap (λ b. ldterm_serves plain here 0 again (stop_at b served.bytes) p) goes-on ∙ is in
       record {
         does =
-            subst (λ (w : Serving ℕ (ldterms.Ldterm ℕ)). Proceeds s s' x x' (all_free s) served.acts.notes.items (sent_of served.acts.sent) t t w.acted) (sym whole)
+            subst (λ (w : Serving ℕ (ldterms.Discipline ℕ)). Proceeds s s' x x' (all_free s) served.acts.notes.items (sent_of served.acts.sent) t t w.acted) (sym whole)
             (subst (λ ns. Proceeds s s' x x' (all_free s) ns (sent_of served.acts.sent) t t v.acted) (sym no-notes)
             (subst (λ (o : Outbox). Proceeds s s' x x' (all_free s) [] (sent_of o) t t v.acted) (sym same-sent) (takes-any s s' x x' 0 [] (sent_of sent) t t v.acted a)));
-        bytes = same-bytes ∙ size ∙ sym (ap (λ (w : Serving ℕ (ldterms.Ldterm ℕ)). w.bytes) whole);
-        again_is = ends ∙ sym over ∙ sym (ap (λ (w : Serving ℕ (ldterms.Ldterm ℕ)). w.again) whole);
+        bytes = same-bytes ∙ size ∙ sym (ap (λ (w : Serving ℕ (ldterms.Discipline ℕ)). w.bytes) whole);
+        again_is = ends ∙ sym over ∙ sym (ap (λ (w : Serving ℕ (ldterms.Discipline ℕ)). w.again) whole);
         begun = λ none. absurd (false≢true (sym none ∙ passed));
         stops = λ e. absurd (false≢true (sym goes-on ∙ e));
         ends = λ e. absurd (false≢true (sym goes-on ∙ e));
@@ -122,19 +121,19 @@ module _ (s s' : StoreValue) (here : Spot) (x x' : Ldterm) (again : Bool) (t : F
         whole = λ e. record { mblks = (let f = a.mblks in omega arith); dblks = (let f = a.dblks in omega arith) };
       }
 
-module _ (s s' : StoreValue) (here : Spot) (x x' : Ldterm) (served : Served) (t t' : Fates) (way : here.way ≡ Up) where
+module _ (s s' : StoreValue) (here : Spot) (x x' : Paired) (served : Served) (t t' : Fates) (way : here.way ≡ Up) where
   -- one more call
   pub again-treats : (again : Bool) → again ≡ true → TreatsAs s s' here x x' served t t' → ServesAs s s' here x x' again served t t'
   again-treats again more b =
       let whole = again-serves here again (stop_of served) (ldterm_in s x) way more in
       record {
-        does = subst (λ (w : Serving ℕ (ldterms.Ldterm ℕ)). Proceeds s s' x x' (all_free s) served.acts.notes.items (sent_of served.acts.sent) t t' w.acted) (sym whole) b.does;
-        bytes = b.bytes ∙ sym (ap (λ (w : Serving ℕ (ldterms.Ldterm ℕ)). w.bytes) whole);
-        again_is = b.again ∙ sym (ap (λ (w : Serving ℕ (ldterms.Ldterm ℕ)). w.again) whole);
+        does = subst (λ (w : Serving ℕ (ldterms.Discipline ℕ)). Proceeds s s' x x' (all_free s) served.acts.notes.items (sent_of served.acts.sent) t t' w.acted) (sym whole) b.does;
+        bytes = b.bytes ∙ sym (ap (λ (w : Serving ℕ (ldterms.Discipline ℕ)). w.bytes) whole);
+        again_is = b.again ∙ sym (ap (λ (w : Serving ℕ (ldterms.Discipline ℕ)). w.again) whole);
         begun = λ goes byte within.
             let same : at_work here.way again (ldterm_in s x) ≡ ldterm_in s x = ap (λ w. at_work w again (ldterm_in s x)) way ∙ ap (λ v. at_work Up v (ldterm_in s x)) more in
             subst (λ n. IsFreeBefore s x t n (at_work here.way again (ldterm_in s x)) byte) (sym (ap (bytes_of_way here) way))
-            (subst (λ (q : ldterms.Ldterm ℕ). IsFreeBefore s x t (bytes_on here) q byte) (sym same) (b.begun byte within));
+            (subst (λ (q : ldterms.Discipline ℕ). IsFreeBefore s x t (bytes_on here) q byte) (sym same) (b.begun byte within));
         stops = b.stops;
         ends = λ e.
             let left = ap (λ w. bytes_left w again (ldterm_in s x)) way ∙ ap (λ v. bytes_left Up v (ldterm_in s x)) more in
@@ -147,22 +146,22 @@ module _ (s s' : StoreValue) (here : Spot) (x x' : Ldterm) (served : Served) (t 
       }
 
   -- the first call of a turn, whose message has come into work
-  pub work-treats : (s1 : StoreValue) (x1 : Ldterm) (bytes : ℕ) → IsStore s1 → stages_left (stage_in x.stage) ≡ 0 → BeganWork s s1 here x x1 bytes → TreatsAs s1 s' here x1 x' served t t' → ServesAs s s' here x x' false served t t'
+  pub work-treats : (s1 : StoreValue) (x1 : Paired) (bytes : ℕ) → IsStore s1 → stages_left (stage_in x.stage) ≡ 0 → BeganWork s s1 here x x1 bytes → TreatsAs s1 s' here x1 x' served t t' → ServesAs s s' here x x' false served t t'
   work-treats s1 x1 bytes st between w b =
       let p = ldterm_in s x in
       let p1 = ldterm_in s1 x1 in
       let works = w.works t in
       let stage : stages_left p1.stage ≡ 0 = ap stages_left w.stage ∙ between in
-      let left : length (cells_left p1) ≡ bytes = ap (λ (q : ldterms.Ldterm ℕ). length (cells_left q)) works.state ∙ sym w.size in
+      let left : length (cells_left p1) ≡ bytes = ap (λ (q : ldterms.Discipline ℕ). length (cells_left q)) works.state ∙ sym w.size in
       let size : bytes ≡ to_treat p1 = sym left ∙ sym (all-left p1 stage) in
       let whole = first-serves here false (stop_of served) p way refl ∙ w.treated (stop_of served) ∙ ap (λ n. treats plain here (unwrap_or (stop_of served) n) 0 p1) size in
       record {
         does =
-            subst (λ (v : Serving ℕ (ldterms.Ldterm ℕ)). Proceeds s s' x x' (all_free s) served.acts.notes.items (sent_of served.acts.sent) t t' v.acted) (sym whole)
+            subst (λ (v : Serving ℕ (ldterms.Discipline ℕ)). Proceeds s s' x x' (all_free s) served.acts.notes.items (sent_of served.acts.sent) t t' v.acted) (sym whole)
             (takes-any s s' x x' (0 + all_free s1) served.acts.notes.items (sent_of served.acts.sent) t t' _
             (proceeds-joined s s1 x x1 0 [] t t _ st works s' x' (all_free s1) served.acts.notes.items (sent_of served.acts.sent) t' (λ q. (treats plain here (unwrap_or (stop_of served) (to_treat p1)) 0 p1).acted) b.does));
-        bytes = b.bytes ∙ sym (ap (λ (v : Serving ℕ (ldterms.Ldterm ℕ)). v.bytes) whole);
-        again_is = b.again ∙ sym (ap (λ (v : Serving ℕ (ldterms.Ldterm ℕ)). v.again) whole);
+        bytes = b.bytes ∙ sym (ap (λ (v : Serving ℕ (ldterms.Discipline ℕ)). v.bytes) whole);
+        again_is = b.again ∙ sym (ap (λ (v : Serving ℕ (ldterms.Discipline ℕ)). v.again) whole);
         begun = λ goes byte within.
             let none = none-begun (stage_in x.stage) between in
             let none1 = none-begun (stage_in x1.stage) stage in
@@ -170,7 +169,7 @@ module _ (s s' : StoreValue) (here : Spot) (x x' : Ldterm) (served : Served) (t 
             ap (λ ms. at_work Up false (record p { read_queue = record p.read_queue { messages = ms } })) w.first in
             let same : at_work here.way false p ≡ record p { read_queue = left_with w.rest p.read_queue; in_work = Some w.message } = ap (λ v. at_work v false p) way ∙ begins in
             subst (λ n. IsFreeBefore s x t n (at_work here.way false p) byte) (sym (ap (bytes_of_way here) way))
-            (subst (λ (q : ldterms.Ldterm ℕ). IsFreeBefore s x t (bytes_on here) q byte) (sym same)
+            (subst (λ (q : ldterms.Discipline ℕ). IsFreeBefore s x t (bytes_on here) q byte) (sym same)
             (begun-later s s1 x x1 t (bytes_on here) _ byte st works (b.begun byte (omega (arith, within, none, none1)))));
         stops = b.stops;
         ends = λ e.
@@ -189,15 +188,15 @@ module _ (s s' : StoreValue) (here : Spot) (x x' : Ldterm) (served : Served) (t 
       }
 
 -- Behind a call that isn't called again nothing of a turn is under way. Behind one that is, a message is in work.
-pub served-behind : (s s' : StoreValue) (here : Spot) (x x' : Ldterm) (again : Bool) (served : Served) (t t' : Fates) → ServesAs s s' here x x' again served t t'
+pub served-behind : (s s' : StoreValue) (here : Spot) (x x' : Paired) (again : Bool) (served : Served) (t t' : Fates) → ServesAs s s' here x x' again served t t'
     → IsServed here.way again (ldterm_in s x) → IsServed here.way served.again (ldterm_in s' x')
 served-behind s s' here x x' again served t t' did is =
     let by = ldterm_serves plain here 0 again (stop_of served) (ldterm_in s x) in
     subst (λ v. IsServed here.way v (ldterm_in s' x')) (sym did.again_is)
-    (subst (λ (p : ldterms.Ldterm ℕ). IsServed here.way by.again p) (sym did.does.state) (serves-served plain here 0 again (stop_of served) (ldterm_in s x) is))
+    (subst (λ (p : ldterms.Discipline ℕ). IsServed here.way by.again p) (sym did.does.state) (serves-served plain here 0 again (stop_of served) (ldterm_in s x) is))
 
 -- What a call needs, of the state before it: a message in work where it is one more in its turn, and else nothing in hand and no byte begun.
-module _ (s : StoreValue) (x : Ldterm) (way : Way) (again : Bool) (is : IsServed way again (ldterm_in s x)) where
+module _ (s : StoreValue) (x : Paired) (way : Way) (again : Bool) (is : IsServed way again (ldterm_in s x)) where
   pub more-works : way ≡ Up → again ≡ true → is_some x.in_work ≡ true
   more-works up more = sym (kept-some s x.in_work) ∙ again-works way again (ldterm_in s x) up more is
 
@@ -221,5 +220,5 @@ module _ (s : StoreValue) (x : Ldterm) (way : Way) (again : Bool) (is : IsServed
   first-between first = ap stages_left (first-idle way again (ldterm_in s x) first is).3
 
 -- there is a message in work then
-pub work-in : (s s1 : StoreValue) (here : Spot) (x x1 : Ldterm) (bytes : ℕ) (t : Fates) → BeganWork s s1 here x x1 bytes → is_some x1.in_work ≡ true
-work-in s s1 here x x1 bytes t w = sym (kept-some s1 x1.in_work) ∙ ap (λ (q : ldterms.Ldterm ℕ). is_some q.in_work) (w.works t).state
+pub work-in : (s s1 : StoreValue) (here : Spot) (x x1 : Paired) (bytes : ℕ) (t : Fates) → BeganWork s s1 here x x1 bytes → is_some x1.in_work ≡ true
+work-in s s1 here x x1 bytes t w = sym (kept-some s1 x1.in_work) ∙ ap (λ (q : ldterms.Discipline ℕ). is_some q.in_work) (w.works t).state

@@ -10,10 +10,10 @@ use Rattle.strm_types.specs.declared.rules.Fates.{Fates}
 use Rattle.strm_types.specs.declared.spots.Note.{Note}
 use Rattle.strm_types.specs.declared.spots.Spot.{Spot}
 use Rattle.strm_types.specs.Cells.{plain}
-use Rattle.strm_types.specs.Deliver.{Parcel, tallied}
+use Rattle.strm_types.specs.Deliver.{Parcel, tallied, onward}
 use Rattle.strm_types.specs.Input.{back_on, cells_left, finished, left_of, to_treat, treats}
 use Rattle.strm_types.specs.Ldterms as ldterms
-use Rattle.strm_types.specs.Ldterms.{Between, onward, sends}
+use Rattle.strm_types.specs.Ldterms.{Between, sends}
 use Rattle.strm_types.specs.Message.{Message, data_message}
 use Rattle.strm_types.specs.Queue as queues
 use Rattle.strm_types.specs.Queue.{is_none_left}
@@ -25,13 +25,12 @@ use Rattle.strm_frame.specs.declared.parcels.Sent.{Sent}
 use Rattle.strm_frame.specs.declared.service.Served.{Served}
 use Rattle.strm_frame.specs.Hands.{HasRoom}
 use Rattle.strm_frame.specs.Outboxes.{sent_of}
-use Rattle.strm_ldterm.specs.declared.ldterm.Ldterm.{Ldterm}
 use Rattle.strm_ldterm.specs.Called.{TreatsAs}
 use Rattle.strm_ldterm.specs.Does.{Proceeds}
 use Rattle.strm_ldterm.specs.FreeBefore.{all_free, blocks_for, blocks_grown, echo_size}
 use Rattle.strm_ldterm.specs.Outgone.{data_of}
 use Rattle.strm_ldterm.specs.PlainRuns.{MayPass, is_plain}
-use Rattle.strm_ldterm.specs.Stands.{IsHeld, ldterm_in, stage_in}
+use Rattle.strm_ldterm.specs.Stands.{IsHeld, ldterm_in, stage_in, Paired}
 use Rattle.strm_ldterm.specs.Turns.{ahead, leaves, one_after, stages_left}
 use Rattle.strm_ldterm.proofs.Bytes.{all-left, begun-on, none-begun, none-done, ran-none, takes-any}
 use Rattle.strm_ldterm.proofs.Calls.{treats-as, treats-ended}
@@ -61,7 +60,7 @@ fewer-fill : (n m : ℕ) → n ≤ m → blocks_for n ≤ blocks_for m
 fewer-fill n m few = omega arith
 
 -- so many bytes are gathered where none were
-pub grown-from-none : (p q : ldterms.Ldterm ℕ) (k m : ℕ) → length q.gathered ≡ k → length p.gathered ≡ 0 → echo_size q ≡ echo_size p → k ≤ m → blocks_grown p q ≤ blocks_for m
+pub grown-from-none : (p q : ldterms.Discipline ℕ) (k m : ℕ) → length q.gathered ≡ k → length p.gathered ≡ 0 → echo_size q ≡ echo_size p → k ≤ m → blocks_grown p q ≤ blocks_for m
 grown-from-none p q k m long none echo few = omega (arith, fewer-fill k m few, ap blocks_for long, ap blocks_for none, ap blocks_for echo)
 
 -- what a call says in which a message went on itself
@@ -71,7 +70,7 @@ whole-is served sent bytes goes size on last =
     let with : Outbox → ℕ → Bool → Bool → Served = λ o n stopped again. record { acts = record { notes = served.acts.notes; sent = o }; bytes = n; stopped = stopped; again = again } in
     ap (λ o. with o served.bytes served.stopped served.again) goes ∙ ap (λ n. with sent n served.stopped served.again) size ∙ ap (λ v. with sent bytes v served.again) on ∙ ap (with sent bytes false) last
 
-module _ (here : Spot) (p : ldterms.Ldterm ℕ) (between : stages_left p.stage ≡ 0) (may : MayPass p) (some : 0 < length (cells_left p)) where
+module _ (here : Spot) (p : ldterms.Discipline ℕ) (between : stages_left p.stage ≡ 0) (may : MayPass p) (some : 0 < length (cells_left p)) where
   abbrev cells : List ℕ
   cells = cells_left p
 
@@ -131,9 +130,9 @@ module _ (here : Spot) (p : ldterms.Ldterm ℕ) (between : stages_left p.stage �
       let q = (done_as here false false front p).state in
       let same : length (p.gathered ++ front) ≡ suc k = omega (arith, length-append p.gathered front, ap length may.first, long) in
       let grown : blocks_grown p q ≤ blocks_for n = grown-from-none p q (suc k) n same (ap length may.first) refl few in
-      subst (λ j. blocks_grown p (ahead here (3 * j) p).state ≤ blocks_for n) long (subst (λ (w : ldterms.Ldterm ℕ). blocks_grown p w ≤ blocks_for n) (sym so.state) grown)
+      subst (λ j. blocks_grown p (ahead here (3 * j) p).state ≤ blocks_for n) long (subst (λ (w : ldterms.Discipline ℕ). blocks_grown p w ≤ blocks_for n) (sym so.state) grown)
 
-  pub whole-done : (s s' : StoreValue) (x x' : Ldterm) (sent : List Sent) (t : Fates) → Proceeds s s' x x' 0 [] sent t t ends → Proceeds s s' x x' 0 [] sent t t (one_after (ahead here (3 * n) p) (finished plain here))
+  pub whole-done : (s s' : StoreValue) (x x' : Paired) (sent : List Sent) (t : Fates) → Proceeds s s' x x' 0 [] sent t t ends → Proceeds s s' x x' 0 [] sent t t (one_after (ahead here (3 * n) p) (finished plain here))
   whole-done s s' x x' sent t did =
       let u = ahead here (3 * n) p in
       let joined : Acts → Acts = λ v. record { state = v.state; notes = u.notes ++ v.notes; sent = v.sent; gone = u.gone ++ v.gone } in
@@ -154,7 +153,7 @@ module _ (here : Spot) (p : ldterms.Ldterm ℕ) (between : stages_left p.stage �
       })
 
 -- A call in which it went up.
-pub whole-treats : (s s' : StoreValue) (here : Spot) (x x' : Ldterm) (t : Fates) (bytes : ℕ) (notes : ArrayVec Note) (sent : Outbox) → IsHeld s x → stages_left (stage_in x.stage) ≡ 0 → bytes ≡ length (cells_left (ldterm_in s x))
+pub whole-treats : (s s' : StoreValue) (here : Spot) (x x' : Paired) (t : Fates) (bytes : ℕ) (notes : ArrayVec Note) (sent : Outbox) → IsHeld s x → stages_left (stage_in x.stage) ≡ 0 → bytes ≡ length (cells_left (ldterm_in s x))
     → 0 < bytes → MayPass (ldterm_in s x) → HasRoom s (STOP_BLOCKS + blocks_for bytes) → notes.items ≡ []
     → Proceeds s s' x x' 0 [] (sent_of sent) t t (sends (onward Up here (data_of 0 (cells_left (ldterm_in s x))) ∷ []) (record (ldterm_in s x) { in_work = None }))
     → TreatsAs s s' here x x' (record { acts = record { notes = notes; sent = sent }; bytes = bytes; stopped = false; again = false }) t t
@@ -168,7 +167,7 @@ whole-treats s s' here x x' t bytes notes sent held between size some may room q
     let one : HasRoom s 1 = record { mblks = (let r = room.mblks in omega arith); dblks = (let r = room.dblks in omega arith) } in
     let none = none-begun (stage_in x.stage) between in
     let after : to_treat (ldterm_in s' x') ≡ 0 = ap to_treat did.state ∙ ap (λ st. to_treat (record p { in_work = None; stage = st })) stage in
-    let last : leaves (stage_in x'.stage) ≡ 1 = ap (λ (q : ldterms.Ldterm ℕ). leaves q.stage) did.state ∙ ap leaves stage in
+    let last : leaves (stage_in x'.stage) ≡ 1 = ap (λ (q : ldterms.Discipline ℕ). leaves q.stage) did.state ∙ ap leaves stage in
     treats-as s s' here x x' t t (record { acts = record { notes = notes; sent = sent }; bytes = bytes; stopped = false; again = false }) _
     (ap (λ k. treats plain here k 0 p) (all-left p between) ∙ treats-ended here p (3 * m) m (omega (arith, done)) (nothing-before here p between may there))
     (subst (λ ns. Proceeds s s' x x' (all_free s) ns (sent_of sent) t t (one_after (ahead here (3 * m) p) (finished plain here))) (sym quiet) all)

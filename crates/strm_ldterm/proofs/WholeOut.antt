@@ -12,10 +12,10 @@ use Rattle.strm_types.specs.declared.rules.Fates.{Fates}
 use Rattle.strm_types.specs.declared.spots.Note.{Note}
 use Rattle.strm_types.specs.declared.spots.Spot.{Spot}
 use Rattle.strm_types.specs.Cells.{plain}
-use Rattle.strm_types.specs.Deliver.{Acted}
+use Rattle.strm_types.specs.Deliver.{Acted, onward}
 use Rattle.strm_types.specs.Input.{back_on, cells_left, left_of}
 use Rattle.strm_types.specs.Ldterms as ldterms
-use Rattle.strm_types.specs.Ldterms.{onward, sends}
+use Rattle.strm_types.specs.Ldterms.{sends}
 use Rattle.strm_types.specs.Message.{Message, cells_of}
 use Rattle.strm_types.specs.Output.{Output, posts, wrapped}
 use Rattle.strm_types.specs.OutputTurns.{output_dir, with_given}
@@ -28,13 +28,12 @@ use Rattle.strm_frame.specs.declared.parcels.Outbox.{Outbox}
 use Rattle.strm_frame.specs.declared.parcels.Sent.{Sent}
 use Rattle.strm_frame.specs.Hands.{HasRoom}
 use Rattle.strm_frame.specs.Outboxes.{sent_of}
-use Rattle.strm_ldterm.specs.declared.ldterm.Ldterm.{Ldterm}
 use Rattle.strm_ldterm.specs.Called.{ServesAs}
 use Rattle.strm_ldterm.specs.Does.{Proceeds}
 use Rattle.strm_ldterm.specs.FreeBefore.{all_free, blocks_for, blocks_grown}
 use Rattle.strm_ldterm.specs.Outgone.{BeganOutput, data_of, let_go}
 use Rattle.strm_ldterm.specs.Posting.{is_printed, poured}
-use Rattle.strm_ldterm.specs.Stands.{IsHeld, ldterm_in, stage_in}
+use Rattle.strm_ldterm.specs.Stands.{IsHeld, ldterm_in, stage_in, Paired}
 use Rattle.strm_ldterm.specs.Turns.{one_after, stages_left}
 use Rattle.strm_ldterm.proofs.Bytes.{takes-any}
 use Rattle.strm_ldterm.proofs.FreeBefore.{all-front}
@@ -54,7 +53,7 @@ first-all (b ∷ rest) one kind few =
     let none : bytes_of rest ≡ [] = no-bytes (bytes_of rest) (omega (arith, few, ap length shown, length-append b.bytes (bytes_of rest))) in
     shown ∙ ap (λ l. b.bytes ++ l) none ∙ append-nil b.bytes
 
-module _ (here : Spot) (p : ldterms.Ldterm ℕ) (band : ℕ) (low : p.column ≤ COLUMN_MAX) (few : length (cells_left p) ≤ 256) (all : AllByRecursion (λ b. is_printed p.termios b ≡ true) (cells_left p)) (none : p.gathered ≡ []) where
+module _ (here : Spot) (p : ldterms.Discipline ℕ) (band : ℕ) (low : p.column ≤ COLUMN_MAX) (few : length (cells_left p) ≤ 256) (all : AllByRecursion (λ b. is_printed p.termios b ≡ true) (cells_left p)) (none : p.gathered ≡ []) where
   abbrev cells : List ℕ
   cells = cells_left p
 
@@ -65,7 +64,7 @@ module _ (here : Spot) (p : ldterms.Ldterm ℕ) (band : ℕ) (low : p.column ≤
   column = wrapped (p.column + n)
 
   abbrev Acts : Type 0
-  Acts = Acted ℕ (ldterms.Ldterm ℕ)
+  Acts = Acted ℕ (ldterms.Discipline ℕ)
 
   abbrev given : Output ℕ
   given = record { given = cells; column = column; told = [] }
@@ -90,7 +89,7 @@ module _ (here : Spot) (p : ldterms.Ldterm ℕ) (band : ℕ) (low : p.column ≤
       ∙ ap (λ q. shape given (data_of band cells ∷ []) q []) (back-nothing p.in_work rest p.write_queue (omega (arith, length-drop n cells)))
       ∙ ap (λ g. shape given (data_of band cells ∷ []) p.write_queue g) (sym none)
 
-  pub whole-went : (s t : StoreValue) (x y : Ldterm) (bytes : ℕ) (sent : List Sent) (f : Fates) → bytes ≡ n → 0 < n → Proceeds s t x y 0 [] sent f f (sends (onward Down here (data_of band cells) ∷ []) (record p { in_work = None }))
+  pub whole-went : (s t : StoreValue) (x y : Paired) (bytes : ℕ) (sent : List Sent) (f : Fates) → bytes ≡ n → 0 < n → Proceeds s t x y 0 [] sent f f (sends (onward Down here (data_of band cells) ∷ []) (record p { in_work = None }))
       → Proceeds s t x (record y { column = column }) 0 [] sent f f (one_after (poured here bytes p) (let_go here band))
   whole-went s t x y bytes sent f size some did =
       subst (λ k. Proceeds s t x (record y { column = column }) 0 [] sent f f (one_after (poured here k p) (let_go here band))) (sym size)
@@ -106,7 +105,7 @@ module _ (here : Spot) (p : ldterms.Ldterm ℕ) (band : ℕ) (low : p.column ≤
       grown-from-none p (poured here byte p).state byte n (same ∙ omega (arith, ap length none, long)) (ap length none) refl within
 
 -- A call in which it went down.
-pub whole-serves-out : (s s1 s3 : StoreValue) (here : Spot) (x x1 x3 : Ldterm) (bytes band : ℕ) (notes : ArrayVec Note) (sent : Outbox) (t : Fates) (way : here.way ≡ Down) (between : stages_left (stage_in x.stage) ≡ 0)
+pub whole-serves-out : (s s1 s3 : StoreValue) (here : Spot) (x x1 x3 : Paired) (bytes band : ℕ) (notes : ArrayVec Note) (sent : Outbox) (t : Fates) (way : here.way ≡ Down) (between : stages_left (stage_in x.stage) ≡ 0)
     (b : BeganOutput s s1 here x x1 bytes band) (st1 : IsStore s1) (quiet : notes.items ≡ []) → IsHeld s1 x1 → x1.column ≤ COLUMN_MAX → bytes ≤ 256 → bytes ≡ length (cells_left (ldterm_in s1 x1))
     → AllByRecursion (λ c. is_printed x1.termios c ≡ true) (cells_left (ldterm_in s1 x1)) → HasRoom s1 (STOP_BLOCKS + blocks_for bytes)
     → Proceeds s1 s3 x1 x3 0 [] (sent_of sent) t t (one_after (poured here bytes (ldterm_in s1 x1)) (let_go here band))
@@ -115,8 +114,8 @@ whole-serves-out s s1 s3 here x x1 x3 bytes band notes sent t way between b st1 
     let p1 = ldterm_in s1 x1 in
     let whole : bytes + 0 ≡ bytes = omega arith in
     let is = in-work s s1 s3 here x x1 x3 bytes bytes 0 band notes sent t t way between b whole st1 quiet in
-    let none : p1.gathered ≡ [] = ap (λ (q : ldterms.Ldterm ℕ). q.gathered) is ∙ b.none in
-    let next : ldterms.Ldterm ℕ → Acted ℕ (ldterms.Ldterm ℕ) = λ q. one_after (poured here bytes q) (let_go here band) in
+    let none : p1.gathered ≡ [] = ap (λ (q : ldterms.Discipline ℕ). q.gathered) is ∙ b.none in
+    let next : ldterms.Discipline ℕ → Acted ℕ (ldterms.Discipline ℕ) = λ q. one_after (poured here bytes q) (let_go here band) in
     let joined = proceeds-joined s s1 x x1 0 [] t t (sends [] _) st1 (b.works t) s3 x3 0 [] (sent_of sent) t next go in
     bytes-serve s s1 s3 here x x1 x3 bytes bytes 0 band notes sent t t way between b whole st1 quiet
     (takes-any s s3 x x3 0 [] (sent_of sent) t t _ joined) (λ more. absurd (omega arith))

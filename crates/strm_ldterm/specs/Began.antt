@@ -16,14 +16,13 @@ use Rattle.strm_frame.specs.declared.parcels.Sent.{Sent}
 use Rattle.strm_frame.specs.Outboxes.{sent_of}
 use Rattle.strm_ldterm.specs.declared.turn_starts.InputBegun.{InputBegun}
 use Rattle.strm_ldterm.specs.declared.turn_starts.InputBegun.TheVariants as begun
-use Rattle.strm_ldterm.specs.declared.ldterm.Ldterm.{Ldterm}
 use Rattle.strm_ldterm.specs.Bounds.{passes_whole}
 use Rattle.strm_ldterm.specs.Does.{Proceeds}
-use Rattle.strm_ldterm.specs.Stands.{ldterm_in}
+use Rattle.strm_ldterm.specs.Stands.{ldterm_in, Paired}
 
-module _ (old new : StoreValue) (here : Spot) (x x' : Ldterm) where
+module _ (old new : StoreValue) (here : Spot) (x x' : Paired) where
   -- what the definition says, where it may stop after so many bytes
-  abbrev pub input_of : Option ℕ → Serving ℕ (ldterms.Ldterm ℕ)
+  abbrev pub input_of : Option ℕ → Serving ℕ (ldterms.Discipline ℕ)
   input_of stop = let p = ldterm_in old x in input_begins plain here stop 0 p.read_queue.messages p
 
   -- Nothing stood there, or a message passes whole: these parcels, of so many bytes. The turn isn't called again.

@@ -5,7 +5,7 @@ use Rattle.strm_types.specs.declared.names.Way.TheVariants.{Up, Down}
 use Rattle.strm_types.specs.declared.spots.Spot.{Spot}
 use Rattle.strm_types.specs.declared.termios.Termios.{Termios}
 use Rattle.strm_types.specs.Input.{is_data}
-use Rattle.strm_types.specs.Ldterms.{Ldterm}
+use Rattle.strm_types.specs.Ldterms.{Discipline, Ldterm}
 use Rattle.strm_types.specs.Message.{Message, cells_of}
 use Rattle.strm_types.specs.Queue.{is_none_left}
 use Rattle.strm_types.specs.Termios.{opost}
@@ -16,7 +16,7 @@ abbrev pub goes_out : Termios → Message ℕ → Bool
 goes_out t m = is_data m.kind && (opost t && not (is_none_left (cells_of m)))
 
 -- whether the first message of its queue of a way passes whole, in this call, or none stands there
-abbrev pub passes_whole : Way → Bool → Ldterm ℕ → Bool
+abbrev pub passes_whole : Way → Bool → Discipline ℕ → Bool
 passes_whole Down again p = none_out p.write_queue.messages
   where
     none_out : List (Message ℕ) → Bool

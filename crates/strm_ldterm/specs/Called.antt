@@ -22,27 +22,26 @@ use Rattle.strm_frame.specs.declared.service.Served.{Served}
 use Rattle.strm_frame.specs.Hands.{HasRoom}
 use Rattle.strm_frame.specs.Outboxes.{sent_of}
 use Rattle.strm_frame.specs.Serves.{least_free, stop_of}
-use Rattle.strm_ldterm.specs.declared.ldterm.Ldterm.{Ldterm}
 use Rattle.strm_ldterm.specs.declared.service_calls.Run.{Run}
 use Rattle.strm_ldterm.specs.declared.service_calls.Run.TheVariants as run
 use Rattle.strm_ldterm.specs.Bounds.{passes_whole}
 use Rattle.strm_ldterm.specs.Does.{Proceeds}
 use Rattle.strm_ldterm.specs.FreeBefore.{IsFreeBefore, all_free}
 use Rattle.strm_ldterm.specs.Posting.{poured}
-use Rattle.strm_ldterm.specs.Stands.{ldterm_in, stage_in}
+use Rattle.strm_ldterm.specs.Stands.{ldterm_in, stage_in, Paired}
 use Rattle.strm_ldterm.specs.Turns.{ahead, bytes_on, leaves, stages_left, under_way}
 
 -- a call treats bytes of the first message of its queue, or goes on with the message in work
-abbrev pub at_work : Way → Bool → ldterms.Ldterm ℕ → ldterms.Ldterm ℕ
+abbrev pub at_work : Way → Bool → ldterms.Discipline ℕ → ldterms.Discipline ℕ
 at_work Up true p = p
 at_work way again p = taken (ldterms.queue_at way p).messages
   where
-    taken : List (Message ℕ) → ldterms.Ldterm ℕ
+    taken : List (Message ℕ) → ldterms.Discipline ℕ
     taken [] = p
     taken (m ∷ rest) = record (ldterms.with_queue_at way (left_with rest (ldterms.queue_at way p)) p) { in_work = Some m }
 
 -- what so many bytes do, by the queue's way
-abbrev pub bytes_of_way : Spot → Way → ℕ → ldterms.Ldterm ℕ → Acted ℕ (ldterms.Ldterm ℕ)
+abbrev pub bytes_of_way : Spot → Way → ℕ → ldterms.Discipline ℕ → Acted ℕ (ldterms.Discipline ℕ)
 bytes_of_way here Up = bytes_on here
 bytes_of_way here Down = poured here
 
@@ -50,7 +49,7 @@ bytes_of_way here Down = poured here
 abbrev pub begun_in : ℕ → Bool → ℕ → ℕ
 begun_in bytes again before = bytes + (if again then 1 else 0) - before
 
-module _ (old new : StoreValue) (here : Spot) (x x' : Ldterm) where
+module _ (old new : StoreValue) (here : Spot) (x x' : Paired) where
   -- Of so many bytes some were treated, and nothing was sent. Before each of them blocks enough are free. Bytes are left only where blocks are
   -- few, and not all of them where blocks were many.
   pub record RunsOut (bytes left : ℕ) (notes : List Note) (t t' : Fates) : Type 0 where
@@ -77,7 +76,7 @@ module _ (old new : StoreValue) (here : Spot) (x x' : Ldterm) where
   RunAs bytes t t' (run.Into acts left) = RunsInto bytes left acts.notes.items (sent_of acts.sent) t t'
 
   -- what the definition says of a call that stopped, or went as far as it may
-  abbrev pub treated_by : Option ℕ → Serving ℕ (ldterms.Ldterm ℕ)
+  abbrev pub treated_by : Option ℕ → Serving ℕ (ldterms.Discipline ℕ)
   treated_by stop = let p = ldterm_in old x in treats plain here (unwrap_or stop (to_treat p)) 0 p
 
   -- It treated no more bytes than there were, and those that had begun are among them.
@@ -99,7 +98,7 @@ module _ (old new : StoreValue) (here : Spot) (x x' : Ldterm) where
     pub room : HasRoom new (leaves (stage_in x'.stage))
 
   -- what the definition says of a call, which stopped or went as far as it may
-  abbrev pub served_by : Bool → Option ℕ → Serving ℕ (ldterms.Ldterm ℕ)
+  abbrev pub served_by : Bool → Option ℕ → Serving ℕ (ldterms.Discipline ℕ)
   served_by again stop = ldterm_serves plain here 0 again stop (ldterm_in old x)
 
   -- A call of the service procedure of a queue did what the definition says. Before each byte that it begins blocks enough are free, unless a

@@ -10,11 +10,10 @@ use Rattle.strm_frame.specs.declared.modules.Acts.{Acts}
 use Rattle.strm_frame.specs.declared.parcels.Sent.{Sent}
 use Rattle.strm_frame.specs.Hands.{Handles, Hands, OnlyOwn, SamePool, Spends}
 use Rattle.strm_frame.specs.Outboxes.{sent_of, times_sent, parcels_in, AreChains}
-use Rattle.strm_ldterm.specs.declared.ldterm.Ldterm.{Ldterm}
-use Rattle.strm_ldterm.specs.Stands.{ldterm_in, owns, keeps, IsHeld}
+use Rattle.strm_ldterm.specs.Stands.{ldterm_in, owns, keeps, IsHeld, Paired}
 
 -- The module and its own lists changed, and nothing else. No message came in hand, and no block was taken.
-pub record Alters (old new : StoreValue) (x x' : Ldterm) : Type 0 where
+pub record Alters (old new : StoreValue) (x x' : Paired) : Type 0 where
   pub held : IsHeld new x'
   pub own : OnlyOwn old new (owns x) (owns x')
   pub fewer : (i : ℕ) → keeps x' i ≤ keeps x i
@@ -23,7 +22,7 @@ pub record Alters (old new : StoreValue) (x x' : Ldterm) : Type 0 where
   pub pool : SamePool old new
 
 -- A put did what a definition says: `message` has gone, and what is sent on has come in hand. No block was taken.
-pub record Does (old new : StoreValue) (x x' : Ldterm) (message : ℕ) (acts : Acts) (t t' : Fates) (is : Acted ℕ (plain.Ldterm ℕ)) : Type 0 where
+pub record Does (old new : StoreValue) (x x' : Paired) (message : ℕ) (acts : Acts) (t t' : Fates) (is : Acted ℕ (plain.Discipline ℕ)) : Type 0 where
   pub state : ldterm_in new x' ≡ is.state
   pub notes : acts.notes.items ≡ is.notes
   pub sent : parcels_in new (sent_of acts.sent) ≡ is.sent
@@ -36,7 +35,7 @@ pub record Does (old new : StoreValue) (x x' : Ldterm) (message : ℕ) (acts : A
   pub pool : SamePool old new
 
 -- The same, where at most so many blocks of each kind were taken.
-pub record Puts (old new : StoreValue) (x x' : Ldterm) (message most : ℕ) (acts : Acts) (t t' : Fates) (is : Acted ℕ (plain.Ldterm ℕ)) : Type 0 where
+pub record Puts (old new : StoreValue) (x x' : Paired) (message most : ℕ) (acts : Acts) (t t' : Fates) (is : Acted ℕ (plain.Discipline ℕ)) : Type 0 where
   pub state : ldterm_in new x' ≡ is.state
   pub notes : acts.notes.items ≡ is.notes
   pub sent : parcels_in new (sent_of acts.sent) ≡ is.sent
@@ -49,7 +48,7 @@ pub record Puts (old new : StoreValue) (x x' : Ldterm) (message most : ℕ) (act
   pub pool : SamePool old new
 
 -- The module altered as a definition says, what has gone was told, and nothing was sent.
-pub record Flushes (old new : StoreValue) (x x' : Ldterm) (notes : List Note) (t t' : Fates) (is : Acted ℕ (plain.Ldterm ℕ)) : Type 0 where
+pub record Flushes (old new : StoreValue) (x x' : Paired) (notes : List Note) (t t' : Fates) (is : Acted ℕ (plain.Discipline ℕ)) : Type 0 where
   pub state : ldterm_in new x' ≡ is.state
   pub noted : notes ≡ is.notes
   pub told : t' ≡ tallied is.gone t
@@ -57,7 +56,7 @@ pub record Flushes (old new : StoreValue) (x x' : Ldterm) (notes : List Note) (t
 
 -- A stage of a turn did what a definition says: what is sent has come in hand, and nothing has gone from there but what the module kept. At
 -- most so many blocks of each kind were taken.
-pub record Proceeds (old new : StoreValue) (x x' : Ldterm) (takes : ℕ) (notes : List Note) (sent : List Sent) (t t' : Fates) (is : Acted ℕ (plain.Ldterm ℕ)) : Type 0 where
+pub record Proceeds (old new : StoreValue) (x x' : Paired) (takes : ℕ) (notes : List Note) (sent : List Sent) (t t' : Fates) (is : Acted ℕ (plain.Discipline ℕ)) : Type 0 where
   pub state : ldterm_in new x' ≡ is.state
   pub noted : notes ≡ is.notes
   pub parcels : parcels_in new sent ≡ is.sent

@@ -8,9 +8,8 @@ use Rattle.strm_types.specs.Ldterms as ldterms
 use Rattle.strm_types.specs.Message.{Message, cells_of}
 use Rattle.strm_blocks.specs.Blocks.{StoreValue, free_m, free_d}
 use Rattle.strm_frame.specs.Hands.{HasRoom}
-use Rattle.strm_ldterm.specs.declared.ldterm.Ldterm.{Ldterm}
 use Rattle.strm_ldterm.specs.Does.{Proceeds}
-use Rattle.strm_ldterm.specs.Stands.{ldterm_in}
+use Rattle.strm_ldterm.specs.Stands.{ldterm_in, Paired}
 
 -- all blocks of a store that are free
 abbrev pub all_free : StoreValue → ℕ
@@ -27,15 +26,15 @@ last_size (m ∷ []) = length (cells_of m)
 last_size (m ∷ n ∷ ms) = last_size (n ∷ ms)
 
 -- how many bytes of echo stand last on the write queue
-abbrev pub echo_size : ldterms.Ldterm ℕ → ℕ
+abbrev pub echo_size : ldterms.Discipline ℕ → ℕ
 echo_size p = if p.echoing then last_size p.write_queue.messages else 0
 
 -- How many blocks more what is gathered and the turn's echo fill than they did: each takes a block at its first byte, and a further one where
 -- the last one is full.
-abbrev pub blocks_grown : ldterms.Ldterm ℕ → ldterms.Ldterm ℕ → ℕ
+abbrev pub blocks_grown : ldterms.Discipline ℕ → ldterms.Discipline ℕ → ℕ
 blocks_grown p q = blocks_for (length q.gathered) - blocks_for (length p.gathered) + (blocks_for (echo_size q) - blocks_for (echo_size p))
 
-module _ (old : StoreValue) (x : Ldterm) (t : Fates) (next : ℕ → ldterms.Ldterm ℕ → Acted ℕ (ldterms.Ldterm ℕ)) (start : ldterms.Ldterm ℕ) where
+module _ (old : StoreValue) (x : Paired) (t : Fates) (next : ℕ → ldterms.Discipline ℕ → Acted ℕ (ldterms.Discipline ℕ)) (start : ldterms.Discipline ℕ) where
   -- Before a byte of a call begins 32 blocks of each kind are free. Some of the bytes before it lead from the beginning of the call to a store, and those
   -- from there on to the byte fill no more blocks than are free there beside the 32. That is what is certain: a block that these empty isn't counted, as its
   -- bytes may be another message's too; and of what the module itself keeps the store is known by the messages, and not by how many blocks they have.
@@ -44,7 +43,7 @@ module _ (old : StoreValue) (x : Ldterm) (t : Fates) (next : ℕ → ldterms.Ldt
     pub more : ℕ
     pub is : byte ≡ before + more
     pub store : StoreValue
-    pub there : Ldterm
+    pub there : Paired
     pub notes : List Note
     pub told : Fates
     pub reached : Proceeds old store x there (all_free old) notes [] t told (next before start)

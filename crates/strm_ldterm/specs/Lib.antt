@@ -1,6 +1,5 @@
 pub mod Echoes
 pub mod Stands
-pub mod Calls
 pub mod Does
 pub mod Frames
 pub mod Resting
@@ -12,7 +11,6 @@ pub mod Quiet
 pub mod Began
 pub mod Becoming
 pub mod SignalKeys
-pub mod Popped
 pub mod Called
 pub mod Served
 pub mod ServedLaws

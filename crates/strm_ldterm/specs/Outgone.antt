@@ -5,10 +5,10 @@ use Rattle.strm_types.specs.declared.names.Way.TheVariants.{Down}
 use Rattle.strm_types.specs.declared.rules.Fates.{Fates}
 use Rattle.strm_types.specs.declared.spots.Spot.{Spot}
 use Rattle.strm_types.specs.Cells.{plain}
-use Rattle.strm_types.specs.Deliver.{Acted}
+use Rattle.strm_types.specs.Deliver.{Acted, onward}
 use Rattle.strm_types.specs.Input.{back_on}
 use Rattle.strm_types.specs.Ldterms as ldterms
-use Rattle.strm_types.specs.Ldterms.{onward, sends}
+use Rattle.strm_types.specs.Ldterms.{sends}
 use Rattle.strm_types.specs.Message.{Message, cells_of}
 use Rattle.strm_types.specs.OutputTurns.{output_serves, with_given}
 use Rattle.strm_types.specs.Queue.{left_with}
@@ -19,10 +19,9 @@ use Rattle.strm_frame.specs.declared.parcels.Sent.{Sent}
 use Rattle.strm_frame.specs.Outboxes.{sent_of}
 use Rattle.strm_ldterm.specs.declared.turn_starts.OutputBegun.{OutputBegun}
 use Rattle.strm_ldterm.specs.declared.turn_starts.OutputBegun.TheVariants as begun
-use Rattle.strm_ldterm.specs.declared.ldterm.Ldterm.{Ldterm}
 use Rattle.strm_ldterm.specs.Bounds.{passes_whole}
 use Rattle.strm_ldterm.specs.Does.{Proceeds}
-use Rattle.strm_ldterm.specs.Stands.{ldterm_in}
+use Rattle.strm_ldterm.specs.Stands.{ldterm_in, Paired}
 
 -- M_DATA of a band
 abbrev pub data_of : ℕ → List ℕ → Message ℕ
@@ -30,13 +29,13 @@ data_of band bytes = record { kind = kinds.Data; band = band; control = None; bo
 
 -- What was gathered goes down as one M_DATA of a band, where there is any, and what is left of the message in work goes back to the front of
 -- the write queue.
-abbrev pub let_go : Spot → ℕ → ldterms.Ldterm ℕ → Acted ℕ (ldterms.Ldterm ℕ)
+abbrev pub let_go : Spot → ℕ → ldterms.Discipline ℕ → Acted ℕ (ldterms.Discipline ℕ)
 let_go here band p =
     sends (map (onward Down here) (with_given p.gathered (data_of band []))) (record p { gathered = []; in_work = None; write_queue = back_on p.in_work p.write_queue })
 
-module _ (old new : StoreValue) (here : Spot) (x x' : Ldterm) where
+module _ (old new : StoreValue) (here : Spot) (x x' : Paired) where
   -- what the definition says, where it may stop after so many bytes
-  abbrev pub output_of : Option ℕ → Serving ℕ (ldterms.Ldterm ℕ)
+  abbrev pub output_of : Option ℕ → Serving ℕ (ldterms.Discipline ℕ)
   output_of stop = let p = ldterm_in old x in output_serves plain here stop 0 p.write_queue.messages p
 
   -- Nothing stood there, or a message passes whole: these parcels, of so many bytes.

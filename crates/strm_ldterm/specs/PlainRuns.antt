@@ -10,7 +10,7 @@ use Rattle.strm_types.specs.Deliver.{Acted}
 use Rattle.strm_types.specs.Echo.{is_control}
 use Rattle.strm_types.specs.Input.{cells_left, with_left}
 use Rattle.strm_types.specs.Keys.{carriage_return, lowered, newline, stripped}
-use Rattle.strm_types.specs.Ldterms.{Ldterm, sends}
+use Rattle.strm_types.specs.Ldterms.{Discipline, sends}
 use Rattle.strm_types.specs.Queue.{count_of, flow_of}
 use Rattle.strm_types.specs.Termios.{echo, icanon, icrnl, igncr, inlcr, isig, istrip, iuclc, ixon}
 use Rattle.strm_types.specs.Typing.{echo_grows, echo_stands}
@@ -36,20 +36,20 @@ abbrev pub is_raw : Termios → Bool
 is_raw t = not (has_keys t) && (not (turns_ends t) && (not (echo t) && (not (istrip t) && not (iuclc t))))
 
 -- it stands in the line, or waits to go up where no lines are made
-abbrev pub typed_run : List ℕ → Ldterm ℕ → Ldterm ℕ
+abbrev pub typed_run : List ℕ → Discipline ℕ → Discipline ℕ
 typed_run run p = if icanon p.termios then record p { line = p.line ++ run } else record p { gathered = p.gathered ++ run }
 
 -- and is echoed as itself
-abbrev pub run_echoed : Spot → List ℕ → Ldterm ℕ → Acted ℕ (Ldterm ℕ)
+abbrev pub run_echoed : Spot → List ℕ → Discipline ℕ → Acted ℕ (Discipline ℕ)
 run_echoed here run p = if echo p.termios then (if p.echoing then echo_grows plain here run p else echo_stands plain here run p) else sends [] p
 
 -- what a run does that is taken off the front of the message in work
-abbrev pub run_done : Spot → List ℕ → Ldterm ℕ → Acted ℕ (Ldterm ℕ)
+abbrev pub run_done : Spot → List ℕ → Discipline ℕ → Acted ℕ (Discipline ℕ)
 run_done here run p = run_echoed here run (typed_run run (with_left (drop (length run) (cells_left p)) p))
 
 -- So many plain bytes may be treated at once: output isn't stopped, no LNEXT stands before them, the line has room for them, and band 0 of
 -- the write queue isn't full before the last one is echoed.
-pub record MayRun (bytes : ℕ) (p : Ldterm ℕ) : Type 0 where
+pub record MayRun (bytes : ℕ) (p : Discipline ℕ) : Type 0 where
   pub running : p.stopped ≡ false
   pub free : p.after_lnext ≡ false
   pub line : icanon p.termios ≡ true → length p.line + bytes ≤ LINE_MAX
@@ -57,7 +57,7 @@ pub record MayRun (bytes : ℕ) (p : Ldterm ℕ) : Type 0 where
 
 -- What is left of the message in work goes up as it is: each of its bytes is plain in raw mode, output isn't stopped, no LNEXT stands before them,
 -- nothing waits to go up before them, and no echo of the turn stands.
-pub record MayPass (p : Ldterm ℕ) : Type 0 where
+pub record MayPass (p : Discipline ℕ) : Type 0 where
   pub raw : is_raw p.termios ≡ true
   pub running : p.stopped ≡ false
   pub free : p.after_lnext ≡ false

@@ -18,10 +18,9 @@ use Rattle.strm_blocks.specs.Blocks.{StoreValue}
 use Rattle.strm_frame.specs.Hands.{HasRoom}
 use Rattle.strm_frame.specs.Serves.{least_free}
 use Rattle.strm_ldterm.specs.declared.output_runs.Flow.{Flow}
-use Rattle.strm_ldterm.specs.declared.ldterm.Ldterm.{Ldterm}
 use Rattle.strm_ldterm.specs.FreeBefore.{IsFreeBefore, all_free}
 use Rattle.strm_ldterm.specs.Does.{Proceeds}
-use Rattle.strm_ldterm.specs.Stands.{ldterm_in}
+use Rattle.strm_ldterm.specs.Stands.{ldterm_in, Paired}
 
 -- A byte that goes out as itself and moves the carriage on by a column, wherever it stands.
 abbrev pub is_printed : Termios → ℕ → Bool
@@ -35,7 +34,7 @@ bytes_given (Spaces columns) = replicate columns space
 bytes_given Nothing = []
 
 -- The first bytes of the message in work go out, so many: what they give is gathered, behind what was gathered before.
-abbrev pub poured : Spot → ℕ → ldterms.Ldterm ℕ → Acted ℕ (ldterms.Ldterm ℕ)
+abbrev pub poured : Spot → ℕ → ldterms.Discipline ℕ → Acted ℕ (ldterms.Discipline ℕ)
 poured here n p =
     let cells = cells_left p in
     let t = posts plain (output_dir plain here) 0 p.termios p.column (take n cells) in
@@ -58,7 +57,7 @@ module _ (here : Spot) (t : Termios) where
     pub column : new.column ≡ (out_of old.column (take n bytes)).column
     pub told : f' ≡ tallied (out_of old.column (take n bytes)).told f
 
-module _ (old new : StoreValue) (here : Spot) (x x' : Ldterm) where
+module _ (old new : StoreValue) (here : Spot) (x x' : Paired) where
   -- Of so many bytes of the message in work all went out but those that are left. Before each of them blocks enough are free, and before the
   -- next one they are few; where they were many one went out.
   pub record PoursAs (bytes left : ℕ) (t t' : Fates) : Type 0 where

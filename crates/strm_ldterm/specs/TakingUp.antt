@@ -4,7 +4,7 @@ use Rattle.strm_types.specs.declared.ioctls.TheConstants.{TCSETSF}
 use Rattle.strm_types.specs.declared.spots.Spot.{Spot}
 use Rattle.strm_types.specs.declared.termios.Termios.{Termios}
 use Rattle.strm_types.specs.Deliver.{Acted}
-use Rattle.strm_types.specs.Ldterms.{Ldterm, sends}
+use Rattle.strm_types.specs.Ldterms.{Discipline, sends}
 use Rattle.strm_types.specs.TakenUp.{ends_lines, line_up}
 
 -- an M_FLUSH where a command flushes input, and a line where there is one
@@ -15,7 +15,7 @@ abbrev pub line_takes : List ℕ → ℕ
 line_takes line = min 1 (length line)
 
 -- the termios is set, and where lines are made no longer the unfinished one goes up
-abbrev pub termios_set : Spot → Termios → Ldterm ℕ → Acted ℕ (Ldterm ℕ)
+abbrev pub termios_set : Spot → Termios → Discipline ℕ → Acted ℕ (Discipline ℕ)
 termios_set here t p =
     let ends = ends_lines p.termios t in
     sends (if ends then line_up here p.line else []) (record p { termios = t; line = if ends then [] else p.line })

@@ -4,7 +4,7 @@ use Rattle.strm_types.specs.declared.spots.Spot.{Spot}
 use Rattle.strm_types.specs.Cells.{plain}
 use Rattle.strm_types.specs.Deliver.{Acted}
 use Rattle.strm_types.specs.Input.{next_stage}
-use Rattle.strm_types.specs.Ldterms.{Ldterm, Stage, Between, Begun, Answered, sends}
+use Rattle.strm_types.specs.Ldterms.{Discipline, Stage, Between, Begun, Answered, sends}
 use Rattle.strm_types.specs.Queue.{is_none_left}
 
 -- how many stages of a byte that has begun are left, and whether one has begun
@@ -18,19 +18,19 @@ under_way Between = 0
 under_way _ = 1
 
 -- one thing and then another, unless the first one sends something
-abbrev pub one_after : Acted ℕ (Ldterm ℕ) → (Ldterm ℕ → Acted ℕ (Ldterm ℕ)) → Acted ℕ (Ldterm ℕ)
+abbrev pub one_after : Acted ℕ (Discipline ℕ) → (Discipline ℕ → Acted ℕ (Discipline ℕ)) → Acted ℕ (Discipline ℕ)
 one_after t next = if is_none_left t.sent then joined (next t.state) else t
   where
-    joined : Acted ℕ (Ldterm ℕ) → Acted ℕ (Ldterm ℕ)
+    joined : Acted ℕ (Discipline ℕ) → Acted ℕ (Discipline ℕ)
     joined u = record { state = u.state; notes = t.notes ++ u.notes; sent = u.sent; gone = t.gone ++ u.gone }
 
 -- so many stages, up to the first one that sends something
-abbrev pub ahead : Spot → ℕ → Ldterm ℕ → Acted ℕ (Ldterm ℕ)
+abbrev pub ahead : Spot → ℕ → Discipline ℕ → Acted ℕ (Discipline ℕ)
 ahead here zero p = sends [] p
 ahead here (suc n) p = one_after (next_stage plain here 0 p) (ahead here n)
 
 -- so many bytes, behind what is left of one that has begun
-abbrev pub bytes_on : Spot → ℕ → Ldterm ℕ → Acted ℕ (Ldterm ℕ)
+abbrev pub bytes_on : Spot → ℕ → Discipline ℕ → Acted ℕ (Discipline ℕ)
 bytes_on here n p = ahead here (stages_left p.stage + 3 * n) p
 
 -- How many blocks of each kind the rest of a byte takes at most, beside one in which the bytes that are gathered may become a packet, and how
@@ -46,7 +46,7 @@ leaves (Begun started c) = 31
 leaves (Answered echo) = 26
 
 -- how many notes a call may tell of at most, from where it is: of output that was started, and of the echo that begins
-abbrev pub notes_left : Ldterm ℕ → ℕ
+abbrev pub notes_left : Discipline ℕ → ℕ
 notes_left p = of_stage p.stage + (if p.echoing then 0 else 1)
   where
     of_stage : Stage ℕ → ℕ

@@ -14,12 +14,13 @@ ghost use Rattle.strm_types.specs.Options.{mode_number, tostop_number};
 ghost use Rattle.strm_types.specs.Tables.{ldterm_does};
 ghost use Rattle.strm_types.specs.TakenUp.{ends_lines, input_flushed, read_mode_of, taken_up};
 ghost use Rattle.strm_types.specs.Termios.{tostop};
-ghost use Rattle.strm_blocks.specs.Blocks.{in_hand, block_at, token};
+ghost use Rattle.strm_blocks.specs.Blocks.{StoreValue, in_hand, block_at, token};
 ghost use Rattle.strm_msg.specs.Messages.{IsChain};
 ghost use Rattle.strm_frame.specs.Hands.{AreIn, CanPut, HasRoom};
+ghost use Rattle.strm_frame.specs.declared.queue_pair.QueuePair.{QueuePair};
 ghost use Rattle.strm_frame.specs.Outboxes.{message_in};
 ghost use Rattle.strm_ldterm.specs.Does.{Proceeds, Puts};
-ghost use Rattle.strm_ldterm.specs.Stands.{ldterm_in, keeps, IsHeld};
+ghost use Rattle.strm_ldterm.specs.Stands.{ldterm_in, keeps, IsHeld, Paired, paired};
 ghost use Rattle.strm_ldterm.specs.TakingUp.{flush_takes, line_takes, termios_set};
 
 use crate::flushes::flush_read;
@@ -31,7 +32,7 @@ use arrayvec::ArrayVec;
 use bitflags::Flags;
 use strm_blocks::{Blocks, InHand};
 use strm_frame::ioctls::{header_of, payload_of, sets_termios};
-use strm_frame::{Acts, Outbox, Sent};
+use strm_frame::{Acts, Outbox, QueuePair, Sent};
 use strm_types::{Fates, FlushAsked, Ioc, LocalModes, MsgKind, Note, Spot, TCSETSF, Termios, Way};
 
 // The read modes of a head, by their numbers (streamio(7I): I_SRDOPT): a stream of bytes, and a message a read.
@@ -79,36 +80,34 @@ fn tostop_of(termios: &Termios) -> u8
 }
 
 // A message goes on at once.
-fn go_on<B: Blocks>(ldterm: &Ldterm, store: &B, here: Spot, message: InHand) -> Acts
-    requires held { IsHeld (B.value store.now) ldterm.now }
-    requires can_put { CanPut (B.value store.now) (token message) (keeps ldterm.now) }
-    requires chain { IsChain (in_hand (B.value store.now) (token message)) }
+fn go_on(here: Spot, message: InHand) -> Acts
     requires inside { 0 < here.at }
     requires small { here.at ≤ MODULES }
-    ensures { (f : Fates) → let s = B.value store.now in let m = message_in s (token message) in
-        Puts s s ldterm.now ldterm.now (token message) (own_at ldterm_does here m) result f f
-        (goes_on here m (ldterm_in s ldterm.now)) }
+    ensures { (s : StoreValue) (x : Paired) (f : Fates) → IsHeld s x → IsChain (in_hand s (token message)) →
+        let m = message_in s (token message) in
+        Puts s s x x (token message) (own_at ldterm_does here m) result f f (goes_on here m (ldterm_in s x)) }
 {
-    pass_on(ldterm, store, here, ArrayVec::new(), message)
+    pass_on(here, ArrayVec::new(), message)
 }
 
 // TCSETSF: what waits to be read is flushed, with the line, and an M_FLUSH goes up. It says whether queues before have room again.
 fn flush_input<B: Blocks>(
     ldterm: &mut Ldterm,
+    queues: &mut QueuePair,
     store: &mut B,
     here: Spot,
     command: u32,
     told: &mut Fates,
 ) -> (bool, Option<Sent>)
-    requires held { IsHeld (B.value store.old) ldterm.old }
-    requires kept { AreIn (B.value store.old) (λ _. 0) (keeps ldterm.old) }
+    requires held { IsHeld (B.value store.old) (paired ldterm.old queues.old) }
+    requires kept { AreIn (B.value store.old) (λ _. 0) (keeps (paired ldterm.old queues.old)) }
     requires inside { 0 < here.at }
     requires small { here.at ≤ MODULES }
     requires room { HasRoom (B.value store.old) 1 }
     ensures { let s = B.value store.old in
-        Proceeds s (B.value store.new) ldterm.old ldterm.new (flush_takes command)
+        Proceeds s (B.value store.new) (paired ldterm.old queues.old) (paired ldterm.new queues.new) (flush_takes command)
         (if result.0 then Room Up ∷ [] else []) (option_to_list result.1) told.old told.new
-        (input_flushed here command (ldterm_in s ldterm.old)) }
+        (input_flushed here command (ldterm_in s (paired ldterm.old queues.old))) }
 {
     if !flushes_input(command) {
         return (false, None);
@@ -119,9 +118,9 @@ fn flush_input<B: Blocks>(
         band: None,
     };
     store.audit();
-    let room = flush_read(ldterm, store, here, up_alone, told);
+    let room = flush_read(ldterm, queues, store, here, up_alone, told);
     store.audit();
-    let flush = send_up(ldterm, store, here, MsgKind::Flush, &[1]);
+    let flush = send_up(store, here, MsgKind::Flush, &[1]);
     (room, Some(flush))
 }
 
@@ -132,14 +131,13 @@ fn set_termios<B: Blocks>(
     here: Spot,
     termios: Termios,
 ) -> Option<Sent>
-    requires held { IsHeld (B.value store.old) ldterm.old }
-    requires kept { AreIn (B.value store.old) (λ _. 0) (keeps ldterm.old) }
     requires inside { 0 < here.at }
     requires small { here.at ≤ MODULES }
     requires room { HasRoom (B.value store.old) (line_takes ldterm.old.line) }
-    ensures { (f : Fates) → let s = B.value store.old in
-        Proceeds s (B.value store.new) ldterm.old ldterm.new (line_takes ldterm.old.line) []
-        (option_to_list result) f f (termios_set here termios (ldterm_in s ldterm.old)) }
+    ensures { (q : QueuePair) (f : Fates) → let s = B.value store.old in let x = paired ldterm.old q in
+        IsHeld s x → AreIn s (λ _. 0) (keeps x) →
+        Proceeds s (B.value store.new) x (paired ldterm.new q) (line_takes ldterm.old.line) [] (option_to_list result) f f
+        (termios_set here termios (ldterm_in s x)) }
 {
     let ends = ends_lines(&ldterm.termios, &termios);
     ldterm.termios = termios;
@@ -158,14 +156,15 @@ fn set_termios<B: Blocks>(
 // TOSTOP, and the answer goes on.
 fn take_up<B: Blocks>(
     ldterm: &mut Ldterm,
+    queues: &mut QueuePair,
     store: &mut B,
     here: Spot,
     set: (u32, Termios),
     message: InHand,
     told: &mut Fates,
 ) -> Acts
-    requires held { IsHeld (B.value store.old) ldterm.old }
-    requires can_put { CanPut (B.value store.old) (token message) (keeps ldterm.old) }
+    requires held { IsHeld (B.value store.old) (paired ldterm.old queues.old) }
+    requires can_put { CanPut (B.value store.old) (token message) (keeps (paired ldterm.old queues.old)) }
     requires chain { IsChain (in_hand (B.value store.old) (token message)) }
     requires acked { is_acked (message_in (B.value store.old) (token message)) ≡ true }
     requires up { here.way ≡ Up }
@@ -173,16 +172,16 @@ fn take_up<B: Blocks>(
     requires small { here.at ≤ MODULES }
     requires room { HasRoom (B.value store.old) 2 }
     ensures { let s = B.value store.old in let m = message_in s (token message) in
-        Puts s (B.value store.new) ldterm.old ldterm.new (token message) (own_at ldterm_does here m) result told.old told.new
-        (taken_up here set.0 set.1 m (ldterm_in s ldterm.old)) }
+        Puts s (B.value store.new) (paired ldterm.old queues.old) (paired ldterm.new queues.new) (token message) (own_at ldterm_does here m) result
+        told.old told.new
+        (taken_up here set.0 set.1 m (ldterm_in s (paired ldterm.old queues.old))) }
 {
     store.audit();
-    let (room, flush) = flush_input(ldterm, store, here, set.0, told);
+    let (room, flush) = flush_input(ldterm, queues, store, here, set.0, told);
     store.audit();
     let line = set_termios(ldterm, store, here, set.1);
     store.audit();
     let mode = send_up(
-        ldterm,
         store,
         here,
         MsgKind::Setopts,
@@ -205,14 +204,15 @@ fn take_up<B: Blocks>(
 // An answer that comes up, by its header: the termios that a command set is taken up, where the answer has one.
 fn obey<B: Blocks>(
     ldterm: &mut Ldterm,
+    queues: &mut QueuePair,
     store: &mut B,
     here: Spot,
     ioc: Ioc,
     message: InHand,
     told: &mut Fates,
 ) -> Acts
-    requires held { IsHeld (B.value store.old) ldterm.old }
-    requires can_put { CanPut (B.value store.old) (token message) (keeps ldterm.old) }
+    requires held { IsHeld (B.value store.old) (paired ldterm.old queues.old) }
+    requires can_put { CanPut (B.value store.old) (token message) (keeps (paired ldterm.old queues.old)) }
     requires chain { IsChain (in_hand (B.value store.old) (token message)) }
     requires acked { is_acked (message_in (B.value store.old) (token message)) ≡ true }
     requires up { here.way ≡ Up }
@@ -220,31 +220,41 @@ fn obey<B: Blocks>(
     requires small { here.at ≤ MODULES }
     requires room { HasRoom (B.value store.old) 2 }
     ensures { let s = B.value store.old in let m = message_in s (token message) in
-        Puts s (B.value store.new) ldterm.old ldterm.new (token message) (own_at ldterm_does here m) result told.old told.new
-        (told_by_header here (Some ioc) m (ldterm_in s ldterm.old)) }
+        Puts s (B.value store.new) (paired ldterm.old queues.old) (paired ldterm.new queues.new) (token message) (own_at ldterm_does here m) result
+        told.old told.new
+        (told_by_header here (Some ioc) m (ldterm_in s (paired ldterm.old queues.old))) }
 {
     store.audit();
     if !sets_termios(ioc.command) {
-        return go_on(ldterm, store, here, message);
+        return go_on(here, message);
     }
     let given = payload_of(store, &message);
     let Some(termios) = Termios::read(given.as_slice()) else {
-        return go_on(ldterm, store, here, message);
+        return go_on(here, message);
     };
-    take_up(ldterm, store, here, (ioc.command, termios), message, told)
+    take_up(
+        ldterm,
+        queues,
+        store,
+        here,
+        (ioc.command, termios),
+        message,
+        told,
+    )
 }
 
 // What passes at once on its way up: an M_IOCACK is looked at.
 fn pass_up<B: Blocks>(
     ldterm: &mut Ldterm,
+    queues: &mut QueuePair,
     store: &mut B,
     here: Spot,
     kind: MsgKind,
     message: InHand,
     told: &mut Fates,
 ) -> Acts
-    requires held { IsHeld (B.value store.old) ldterm.old }
-    requires can_put { CanPut (B.value store.old) (token message) (keeps ldterm.old) }
+    requires held { IsHeld (B.value store.old) (paired ldterm.old queues.old) }
+    requires can_put { CanPut (B.value store.old) (token message) (keeps (paired ldterm.old queues.old)) }
     requires chain { IsChain (in_hand (B.value store.old) (token message)) }
     requires kind { kind ≡ (block_at 0 (in_hand (B.value store.old) (token message))).kind }
     requires up { here.way ≡ Up }
@@ -252,41 +262,44 @@ fn pass_up<B: Blocks>(
     requires small { here.at ≤ MODULES }
     requires room { HasRoom (B.value store.old) (own_at ldterm_does here (message_in (B.value store.old) (token message))) }
     ensures { let s = B.value store.old in let m = message_in s (token message) in
-        Puts s (B.value store.new) ldterm.old ldterm.new (token message) (own_at ldterm_does here m) result told.old told.new
-        (passes_on_way Up here m (ldterm_in s ldterm.old)) }
+        Puts s (B.value store.new) (paired ldterm.old queues.old) (paired ldterm.new queues.new) (token message) (own_at ldterm_does here m) result
+        told.old told.new
+        (passes_on_way Up here m (ldterm_in s (paired ldterm.old queues.old))) }
 {
     store.audit();
     if !is_iocack(kind) {
-        return go_on(ldterm, store, here, message);
+        return go_on(here, message);
     }
     let Some(ioc) = header_of(store, &message) else {
-        return go_on(ldterm, store, here, message);
+        return go_on(here, message);
     };
-    obey(ldterm, store, here, ioc, message, told)
+    obey(ldterm, queues, store, here, ioc, message, told)
 }
 
 /// What passes at once. On its way up an M_IOCACK is looked at: it tells the termios that was set. It takes two blocks of each kind at most.
 pub(crate) fn pass<B: Blocks>(
     ldterm: &mut Ldterm,
+    queues: &mut QueuePair,
     store: &mut B,
     here: Spot,
     kind: MsgKind,
     message: InHand,
     told: &mut Fates,
 ) -> Acts
-    requires held { IsHeld (B.value store.old) ldterm.old }
-    requires can_put { CanPut (B.value store.old) (token message) (keeps ldterm.old) }
+    requires held { IsHeld (B.value store.old) (paired ldterm.old queues.old) }
+    requires can_put { CanPut (B.value store.old) (token message) (keeps (paired ldterm.old queues.old)) }
     requires chain { IsChain (in_hand (B.value store.old) (token message)) }
     requires kind { kind ≡ (block_at 0 (in_hand (B.value store.old) (token message))).kind }
     requires inside { 0 < here.at }
     requires small { here.at ≤ MODULES }
     requires room { HasRoom (B.value store.old) (own_at ldterm_does here (message_in (B.value store.old) (token message))) }
     ensures { let s = B.value store.old in let m = message_in s (token message) in
-        Puts s (B.value store.new) ldterm.old ldterm.new (token message) (own_at ldterm_does here m) result told.old told.new
-        (passes_on_way here.way here m (ldterm_in s ldterm.old)) }
+        Puts s (B.value store.new) (paired ldterm.old queues.old) (paired ldterm.new queues.new) (token message) (own_at ldterm_does here m) result
+        told.old told.new
+        (passes_on_way here.way here m (ldterm_in s (paired ldterm.old queues.old))) }
 {
     match here.way {
-        Way::Down => go_on(ldterm, store, here, message),
-        Way::Up => pass_up(ldterm, store, here, kind, message, told),
+        Way::Down => go_on(here, message),
+        Way::Up => pass_up(ldterm, queues, store, here, kind, message, told),
     }
 }

@@ -1,6 +1,6 @@
 //! A byte of the message in work begins (ldterm(7M); termio(7I): IXON, IXANY).
 
-ghost use Rattle.std.specs.Prelude.{ℕ, ◌≡◌, ◌≤◌, ◌<◌, ◌∷◌, [], length, drop, IfSome, MatchOption};
+ghost use Rattle.std.specs.Prelude.{◌≡◌, ◌≤◌, ◌<◌, ◌∷◌, [], length, drop, IfSome, MatchOption};
 ghost use Rattle.strm_types.specs.declared.rules.Fates.{Fates};
 ghost use Rattle.strm_types.specs.declared.limits.TheConstants.{MODULES};
 ghost use Rattle.strm_types.specs.Cells.{plain};
@@ -9,11 +9,13 @@ ghost use Rattle.strm_types.specs.Ldterms.{sends};
 ghost use Rattle.strm_types.specs.Message.{cells_of};
 ghost use Rattle.strm_types.specs.Typing.{begins};
 ghost use Rattle.strm_blocks.specs.Blocks.{IsFreshName, IsInHand, banded, block_at, dropped, held, in_hand, token};
+ghost use Rattle.strm_queue.specs.Stored.{FreesBlocks};
 ghost use Rattle.strm_frame.specs.Hands.{AreIn, HasRoom};
+ghost use Rattle.strm_frame.specs.declared.queue_pair.QueuePair.{QueuePair};
 ghost use Rattle.strm_frame.specs.Outboxes.{message_in, sent_of};
 ghost use Rattle.strm_ldterm.specs.Becoming.{Becomes, IsFronted};
 ghost use Rattle.strm_ldterm.specs.Does.{Proceeds};
-ghost use Rattle.strm_ldterm.specs.Stands.{ldterm_in, keeps, IsData, IsHeld};
+ghost use Rattle.strm_ldterm.specs.Stands.{ldterm_in, keeps, IsData, IsHeld, paired};
 
 use crate::ldterm::{Ldterm, Stage};
 use crate::sending_keys::make;
@@ -86,14 +88,14 @@ fn take_byte<B: Blocks>(store: &mut B, message: InHand) -> (InHand, Option<u8>)
 
 /// Takes the next byte of the message in work, if there is one. A block that this empties is freed, unless it is the message's last.
 pub(crate) fn next_byte<B: Blocks>(ldterm: &mut Ldterm, store: &mut B) -> Option<u8>
-    requires held { IsHeld (B.value store.old) ldterm.old }
-    requires kept { AreIn (B.value store.old) (λ _. 0) (keeps ldterm.old) }
-    ensures did { (f : Fates) → let s = B.value store.old in let p = ldterm_in s ldterm.old in
-        Proceeds s (B.value store.new) ldterm.old ldterm.new 0 [] [] f f
-        (sends [] (with_left (drop 1 (cells_left p)) p)) }
-    ensures byte { let p = ldterm_in (B.value store.old) ldterm.old in let cells = cells_left p in
-        MatchOption result ((cells ≡ []) × (with_left (drop 1 cells) p ≡ p)) (λ byte. cells ≡ byte ∷ drop 1 cells) }
+    requires is { IfSome ldterm.old.in_work (λ m. IsData (B.value store.old) (token m)) }
+    ensures did { (q : QueuePair) (f : Fates) → let s = B.value store.old in let x = paired ldterm.old q in let p = ldterm_in s x in
+        IsHeld s x → AreIn s (λ _. 0) (keeps x) →
+        Proceeds s (B.value store.new) x (paired ldterm.new q) 0 [] [] f f (sends [] (with_left (drop 1 (cells_left p)) p)) }
+    ensures byte { (q : QueuePair) → let s = B.value store.old in let x = paired ldterm.old q in let p = ldterm_in s x in let cells = cells_left p in
+        IsHeld s x → MatchOption result ((cells ≡ []) × (with_left (drop 1 cells) p ≡ p)) (λ byte. cells ≡ byte ∷ drop 1 cells) }
     ensures front { IfSome ldterm.new.in_work (λ m. IsFronted (B.value store.new) (token m)) }
+    ensures frees { FreesBlocks (B.value store.old) (B.value store.new) }
 {
     let Some(message) = ldterm.in_work.take() else {
         return None;
@@ -107,14 +109,11 @@ pub(crate) fn next_byte<B: Blocks>(ldterm: &mut Ldterm, store: &mut B) -> Option
 
 // A byte begins. Where output is stopped, and the byte starts it, an M_START goes down.
 fn begin_with<B: Blocks>(ldterm: &mut Ldterm, store: &mut B, here: Spot, byte: u8) -> Outbox
-    requires held { IsHeld (B.value store.old) ldterm.old }
-    requires kept { AreIn (B.value store.old) (λ _. 0) (keeps ldterm.old) }
     requires inside { 0 < here.at }
     requires small { here.at ≤ MODULES }
     requires room { HasRoom (B.value store.old) 1 }
-    ensures { (f : Fates) → let s = B.value store.old in
-        Proceeds s (B.value store.new) ldterm.old ldterm.new 1 [] (sent_of result) f f
-        (begins plain here byte (ldterm_in s ldterm.old)) }
+    ensures { (q : QueuePair) (f : Fates) → let s = B.value store.old in let x = paired ldterm.old q in IsHeld s x → AreIn s (λ _. 0) (keeps x) →
+        Proceeds s (B.value store.new) x (paired ldterm.new q) 1 [] (sent_of result) f f (begins plain here byte (ldterm_in s x)) }
 {
     let stroke = stroke_of(&ldterm.termios, ldterm.after_lnext, byte);
     let started = ldterm.stopped && restarts(&ldterm.termios, stroke);
@@ -133,14 +132,13 @@ fn begin_with<B: Blocks>(ldterm: &mut Ldterm, store: &mut B, here: Spot, byte: u
 /// The next byte of the message in work begins. Where output is stopped, and the byte starts it, an M_START goes down. Where no byte
 /// is left, nothing happens. It takes a block at most. All bytes of a message cost a step each, and one for each of its blocks.
 pub(crate) fn begin<B: Blocks>(ldterm: &mut Ldterm, store: &mut B, here: Spot) -> Outbox
-    requires held { IsHeld (B.value store.old) ldterm.old }
-    requires kept { AreIn (B.value store.old) (λ _. 0) (keeps ldterm.old) }
+    requires is { IfSome ldterm.old.in_work (λ m. IsData (B.value store.old) (token m)) }
     requires inside { 0 < here.at }
     requires small { here.at ≤ MODULES }
     requires room { HasRoom (B.value store.old) 1 }
-    ensures { (f : Fates) → let s = B.value store.old in let p = ldterm_in s ldterm.old in
-        Proceeds s (B.value store.new) ldterm.old ldterm.new 1 [] (sent_of result) f f
-        (begins_next plain here (cells_left p) p) }
+    ensures { (q : QueuePair) (f : Fates) → let s = B.value store.old in let x = paired ldterm.old q in let p = ldterm_in s x in
+        IsHeld s x → AreIn s (λ _. 0) (keeps x) →
+        Proceeds s (B.value store.new) x (paired ldterm.new q) 1 [] (sent_of result) f f (begins_next plain here (cells_left p) p) }
 {
     let Some(byte) = next_byte(ldterm, store) else {
         return Outbox::none();

@@ -4,17 +4,19 @@ ghost use Rattle.std.specs.Prelude.{◌≡◌, [], ◌∷◌, if◌then◌else�
 ghost use Rattle.strm_types.specs.declared.names.Way.TheVariants.{Up, Down};
 ghost use Rattle.strm_types.specs.declared.rules.Rule.TheVariants.{Flushed};
 ghost use Rattle.strm_types.specs.declared.spots.Note.TheVariants.{Room};
-ghost use Rattle.strm_types.specs.Deliver.{Goes, counted_with, tallied};
+ghost use Rattle.strm_types.specs.Deliver.{Goes, counted_with};
 ghost use Rattle.strm_types.specs.Emptied.{of_data, cells_gone, queue_behind, writer_goes};
 ghost use Rattle.strm_types.specs.Ldterms.{takes_band_0, line_flushed, read_flushed, write_flushed};
 ghost use Rattle.strm_types.specs.Names.{direction_at};
 ghost use Rattle.strm_blocks.specs.Blocks.{StoreValue};
 ghost use Rattle.strm_queue.specs.Stored.{queue_in, messages_on, IsReady, Changes, FreesBlocks};
-ghost use Rattle.strm_ldterm.specs.Stands.{ldterm_in, IsHeld};
+ghost use Rattle.strm_frame.specs.declared.queue_pair.QueuePair.{QueuePair};
+ghost use Rattle.strm_ldterm.specs.Stands.{ldterm_in, IsHeld, paired};
 ghost use Rattle.strm_ldterm.specs.Does.{Flushes};
 
 use crate::ldterm::Ldterm;
 use strm_blocks::Blocks;
+use strm_frame::QueuePair;
 use strm_queue::Queue;
 use strm_queue::emptying::{Chosen, empty, going};
 use strm_types::{Band, Dir, Fates, FlushAsked, Rule, Side, Spot, Way};
@@ -62,8 +64,8 @@ fn flush_queue<B: Blocks>(
 
 /// The unfinished line goes, where a flush takes band 0.
 pub(crate) fn flush_line(ldterm: &mut Ldterm, here: Spot, band: Option<Band>, told: &mut Fates)
-    ensures { (s : StoreValue) → IsHeld s ldterm.old →
-        Flushes s s ldterm.old ldterm.new [] told.old told.new (line_flushed here band (ldterm_in s ldterm.old)) }
+    ensures { (s : StoreValue) (q : QueuePair) → IsHeld s (paired ldterm.old q) →
+        Flushes s s (paired ldterm.old q) (paired ldterm.new q) [] told.old told.new (line_flushed here band (ldterm_in s (paired ldterm.old q))) }
 {
     if !takes_band_0(band) || ldterm.line.len() == 0 {
         return;
@@ -75,21 +77,23 @@ pub(crate) fn flush_line(ldterm: &mut Ldterm, here: Spot, band: Option<Band>, to
 /// FLUSHR: what waits to go up goes, and with band 0 the unfinished line. It says whether queues before have room again.
 pub(crate) fn flush_read<B: Blocks>(
     ldterm: &mut Ldterm,
+    queues: &mut QueuePair,
     store: &mut B,
     here: Spot,
     asked: FlushAsked,
     told: &mut Fates,
 ) -> bool
-    requires held { IsHeld (B.value store.old) ldterm.old }
+    requires held { IsHeld (B.value store.old) (paired ldterm.old queues.old) }
     ensures { let s = B.value store.old in
-        Flushes s (B.value store.new) ldterm.old ldterm.new (if result then Room Up ∷ [] else []) told.old told.new
-        (read_flushed here asked (ldterm_in s ldterm.old)) }
+        Flushes s (B.value store.new) (paired ldterm.old queues.old) (paired ldterm.new queues.new) (if result then Room Up ∷ [] else []) told.old
+        told.new
+        (read_flushed here asked (ldterm_in s (paired ldterm.old queues.old))) }
 {
     if !asked.for_read {
         return false;
     }
     let direction = direction_at(Way::Up, here.side);
-    let room = flush_queue(store, &mut ldterm.read_queue, direction, asked.band, told);
+    let room = flush_queue(store, &mut queues.read, direction, asked.band, told);
     flush_line(ldterm, here, asked.band, told);
     room
 }
@@ -97,15 +101,17 @@ pub(crate) fn flush_read<B: Blocks>(
 /// FLUSHW: what waits to go down goes, with the turn's echo where band 0 goes. It says whether queues before have room again.
 pub(crate) fn flush_write<B: Blocks>(
     ldterm: &mut Ldterm,
+    queues: &mut QueuePair,
     store: &mut B,
     here: Spot,
     asked: FlushAsked,
     told: &mut Fates,
 ) -> bool
-    requires held { IsHeld (B.value store.old) ldterm.old }
+    requires held { IsHeld (B.value store.old) (paired ldterm.old queues.old) }
     ensures { let s = B.value store.old in
-        Flushes s (B.value store.new) ldterm.old ldterm.new (if result then Room Down ∷ [] else []) told.old told.new
-        (write_flushed here asked (ldterm_in s ldterm.old)) }
+        Flushes s (B.value store.new) (paired ldterm.old queues.old) (paired ldterm.new queues.new) (if result then Room Down ∷ [] else []) told.old
+        told.new
+        (write_flushed here asked (ldterm_in s (paired ldterm.old queues.old))) }
 {
     if !asked.for_write {
         return false;
@@ -113,5 +119,5 @@ pub(crate) fn flush_write<B: Blocks>(
     let whole = takes_band_0(asked.band);
     ldterm.echoing &= !whole;
     let direction = direction_at(Way::Down, here.side);
-    flush_queue(store, &mut ldterm.write_queue, direction, asked.band, told)
+    flush_queue(store, &mut queues.write, direction, asked.band, told)
 }

@@ -1,5 +1,5 @@
-//! The line discipline of a terminal, the module `ldterm` (ldterm(7M), termio(7I)): keys, the unfinished line, echo, and its two
-//! queues on a store of blocks.
+//! The line discipline of a terminal, the module `ldterm` (ldterm(7M), termio(7I)): keys, the unfinished line, echo, and what it does
+//! with the two queues that its stream gives it.
 #![tactic(auto)]
 
 mod answers;
@@ -18,7 +18,6 @@ mod module;
 mod output;
 mod output_runs;
 mod plain_runs;
-mod pops;
 mod posts;
 mod puts;
 mod reads;
@@ -33,9 +32,8 @@ mod wholes;
 mod write_turns;
 
 pub use echoes::{ECHO_MAX, Echo, RUN_MAX, echo_of};
-pub use ldterm::{Ldterm, Stage, Tables, name};
+pub use ldterm::{Ldterm, Stage, name};
 pub use lines::Line;
-pub use pops::clear;
 pub use posts::post;
 pub use puts::put;
 pub use sending_keys::{end_file, end_line, stop};

@@ -1,7 +1,7 @@
 //! Keys that send nothing: what they do to the unfinished line, and bytes that are gathered where no lines are made (termio(7I):
 //! "Canonical Mode Input Processing", "Non-Canonical Mode Input Processing", "Special Characters").
 
-ghost use Rattle.std.specs.Prelude.{ℕ, ◌≡◌, ◌≤◌, ◌<◌, ◌∷◌, ◌++◌, List, [], true, length};
+ghost use Rattle.std.specs.Prelude.{ℕ, ◌≡◌, ◌≤◌, ◌<◌, ◌∷◌, ◌++◌, List, [], true, length, IfSome};
 ghost use Rattle.strm_types.specs.declared.rules.Rule.TheVariants.{EraseKey, Erased, Killed};
 ghost use Rattle.strm_types.specs.Cells.{plain};
 ghost use Rattle.strm_types.specs.Deliver.{tallied};
@@ -11,9 +11,10 @@ ghost use Rattle.strm_types.specs.declared.rules.Fates.{Fates};
 ghost use Rattle.strm_types.specs.Ldterms as ldterms;
 ghost use Rattle.strm_types.specs.Ldterms.{sends};
 ghost use Rattle.strm_types.specs.Typing.{added, dropped, edits, lost, strikes};
-ghost use Rattle.strm_blocks.specs.Blocks.{StoreValue};
+ghost use Rattle.strm_blocks.specs.Blocks.{StoreValue, token};
 ghost use Rattle.strm_frame.specs.Hands.{AreIn, HasRoom};
-ghost use Rattle.strm_ldterm.specs.Stands.{ldterm_in, keeps, IsHeld};
+ghost use Rattle.strm_frame.specs.declared.queue_pair.QueuePair.{QueuePair};
+ghost use Rattle.strm_ldterm.specs.Stands.{ldterm_in, keeps, IsGathered, IsHeld, paired};
 ghost use Rattle.strm_ldterm.specs.Does.{Proceeds};
 ghost use Rattle.strm_ldterm.specs.Quiet.{is_quiet, is_dropped};
 
@@ -36,7 +37,7 @@ fn tell_lost(told: &mut Fates, here: Spot, rule: Rule, bytes: usize)
 // The rule by which a key is dropped.
 fn rule_of_dropped(key: Key) -> Rule
     requires { is_dropped key ≡ true }
-    ensures { (c : ℕ) (p : ldterms.Ldterm ℕ) (here : Spot) → strikes plain here key c p ≡ dropped plain here result c p }
+    ensures { (c : ℕ) (p : ldterms.Discipline ℕ) (here : Spot) → strikes plain here key c p ≡ dropped plain here result c p }
 {
     match key {
         Key::Start => Rule::FlowKey,
@@ -50,8 +51,9 @@ fn rule_of_dropped(key: Key) -> Rule
 // A key that is dropped, by its rule.
 fn strike_dropped(ldterm: &Ldterm, here: Spot, key: Key, byte: u8, told: &mut Fates)
     requires { is_dropped key ≡ true }
-    ensures { (s : StoreValue) → IsHeld s ldterm.now →
-        Proceeds s s ldterm.now ldterm.now 1 [] [] told.old told.new (strikes plain here key byte (ldterm_in s ldterm.now)) }
+    ensures { (s : StoreValue) (q : QueuePair) → IsHeld s (paired ldterm.now q) →
+        Proceeds s s (paired ldterm.now q) (paired ldterm.now q) 1 [] [] told.old told.new
+        (strikes plain here key byte (ldterm_in s (paired ldterm.now q))) }
 {
     let _ = ldterm;
     let _ = byte;
@@ -69,8 +71,9 @@ fn tell_edit(told: &mut Fates, here: Spot, rule: Rule, bytes: usize)
 
 // ERASE takes the last byte of the line.
 fn strike_erase(ldterm: &mut Ldterm, here: Spot, byte: u8, told: &mut Fates)
-    ensures { (s : StoreValue) → IsHeld s ldterm.old →
-        Proceeds s s ldterm.old ldterm.new 1 [] [] told.old told.new (edits plain here ErasesByte Erased byte (ldterm_in s ldterm.old)) }
+    ensures { (s : StoreValue) (q : QueuePair) → IsHeld s (paired ldterm.old q) →
+        Proceeds s s (paired ldterm.old q) (paired ldterm.new q) 1 [] [] told.old told.new
+        (edits plain here ErasesByte Erased byte (ldterm_in s (paired ldterm.old q))) }
 {
     let _ = byte;
     let gone = ldterm.line.erase_byte();
@@ -79,8 +82,9 @@ fn strike_erase(ldterm: &mut Ldterm, here: Spot, byte: u8, told: &mut Fates)
 
 // WERASE takes the last word of the line, and the blanks behind it.
 fn strike_werase(ldterm: &mut Ldterm, here: Spot, byte: u8, told: &mut Fates)
-    ensures { (s : StoreValue) → IsHeld s ldterm.old →
-        Proceeds s s ldterm.old ldterm.new 1 [] [] told.old told.new (edits plain here ErasesWord Erased byte (ldterm_in s ldterm.old)) }
+    ensures { (s : StoreValue) (q : QueuePair) → IsHeld s (paired ldterm.old q) →
+        Proceeds s s (paired ldterm.old q) (paired ldterm.new q) 1 [] [] told.old told.new
+        (edits plain here ErasesWord Erased byte (ldterm_in s (paired ldterm.old q))) }
 {
     let _ = byte;
     let gone = ldterm.line.erase_word();
@@ -89,8 +93,9 @@ fn strike_werase(ldterm: &mut Ldterm, here: Spot, byte: u8, told: &mut Fates)
 
 // KILL takes the whole line.
 fn strike_kill(ldterm: &mut Ldterm, here: Spot, byte: u8, told: &mut Fates)
-    ensures { (s : StoreValue) → IsHeld s ldterm.old →
-        Proceeds s s ldterm.old ldterm.new 1 [] [] told.old told.new (edits plain here ErasesAll Killed byte (ldterm_in s ldterm.old)) }
+    ensures { (s : StoreValue) (q : QueuePair) → IsHeld s (paired ldterm.old q) →
+        Proceeds s s (paired ldterm.old q) (paired ldterm.new q) 1 [] [] told.old told.new
+        (edits plain here ErasesAll Killed byte (ldterm_in s (paired ldterm.old q))) }
 {
     let _ = byte;
     let gone = ldterm.line.clear();
@@ -101,8 +106,9 @@ fn strike_kill(ldterm: &mut Ldterm, here: Spot, byte: u8, told: &mut Fates)
 // else the line is lost with it.
 fn add_to_line(ldterm: &mut Ldterm, here: Spot, byte: u8, told: &mut Fates)
     requires { icanon ldterm.old.termios ≡ true }
-    ensures { (s : StoreValue) → IsHeld s ldterm.old →
-        Proceeds s s ldterm.old ldterm.new 1 [] [] told.old told.new (added plain here byte (ldterm_in s ldterm.old)) }
+    ensures { (s : StoreValue) (q : QueuePair) → IsHeld s (paired ldterm.old q) →
+        Proceeds s s (paired ldterm.old q) (paired ldterm.new q) 1 [] [] told.old told.new
+        (added plain here byte (ldterm_in s (paired ldterm.old q))) }
 {
     if ldterm.line.has_room() {
         ldterm.line.push(byte);
@@ -119,14 +125,13 @@ fn add_to_line(ldterm: &mut Ldterm, here: Spot, byte: u8, told: &mut Fates)
 /// Bytes that are typed where no lines are made wait to go up together, behind those that wait already. At least one comes at a time and at
 /// most 256, and they take one block of each kind at most.
 pub(crate) fn gather<B: Blocks>(ldterm: &mut Ldterm, store: &mut B, bytes: &[u8])
-    requires held { IsHeld (B.value store.old) ldterm.old }
-    requires kept { AreIn (B.value store.old) (λ _. 0) (keeps ldterm.old) }
+    requires gathers { IfSome ldterm.old.gathered (λ m. IsGathered (B.value store.old) (token m)) }
     requires some { 0 < length bytes.now }
     requires few { length bytes.now ≤ 256 }
     requires room { HasRoom (B.value store.old) 1 }
-    ensures { (f : Fates) → let s = B.value store.old in let p = ldterm_in s ldterm.old in
-        Proceeds s (B.value store.new) ldterm.old ldterm.new 1 [] [] f f
-        (sends [] (record p { gathered = p.gathered ++ bytes.now })) }
+    ensures { (q : QueuePair) (f : Fates) → let s = B.value store.old in let x = paired ldterm.old q in let p = ldterm_in s x in
+        IsHeld s x → AreIn s (λ _. 0) (keeps x) →
+        Proceeds s (B.value store.new) x (paired ldterm.new q) 1 [] [] f f (sends [] (record p { gathered = p.gathered ++ bytes.now })) }
 {
     match ldterm.gathered.take() {
         Some(message) => ldterm.gathered = Some(grow(store, message, bytes)),
@@ -146,11 +151,10 @@ fn strike_ordinary<B: Blocks>(
     byte: u8,
     told: &mut Fates,
 )
-    requires held { IsHeld (B.value store.old) ldterm.old }
-    requires kept { AreIn (B.value store.old) (λ _. 0) (keeps ldterm.old) }
+    requires gathers { IfSome ldterm.old.gathered (λ m. IsGathered (B.value store.old) (token m)) }
     requires room { HasRoom (B.value store.old) 1 }
-    ensures { let s = B.value store.old in
-        Proceeds s (B.value store.new) ldterm.old ldterm.new 1 [] [] told.old told.new (added plain here byte (ldterm_in s ldterm.old)) }
+    ensures { (q : QueuePair) → let s = B.value store.old in let x = paired ldterm.old q in IsHeld s x → AreIn s (λ _. 0) (keeps x) →
+        Proceeds s (B.value store.new) x (paired ldterm.new q) 1 [] [] told.old told.new (added plain here byte (ldterm_in s x)) }
 {
     if ldterm.termios.lflag.contains(LocalModes::ICANON) {
         add_to_line(ldterm, here, byte, told);
@@ -169,13 +173,11 @@ pub(crate) fn strike_quiet<B: Blocks>(
     byte: u8,
     told: &mut Fates,
 )
-    requires held { IsHeld (B.value store.old) ldterm.old }
-    requires kept { AreIn (B.value store.old) (λ _. 0) (keeps ldterm.old) }
+    requires gathers { IfSome ldterm.old.gathered (λ m. IsGathered (B.value store.old) (token m)) }
     requires room { HasRoom (B.value store.old) 1 }
     requires quiet { is_quiet key ≡ true }
-    ensures { let s = B.value store.old in
-        Proceeds s (B.value store.new) ldterm.old ldterm.new 1 [] [] told.old told.new
-        (strikes plain here key byte (ldterm_in s ldterm.old)) }
+    ensures { (q : QueuePair) → let s = B.value store.old in let x = paired ldterm.old q in IsHeld s x → AreIn s (λ _. 0) (keeps x) →
+        Proceeds s (B.value store.new) x (paired ldterm.new q) 1 [] [] told.old told.new (strikes plain here key byte (ldterm_in s x)) }
 {
     match key {
         Key::Erase => strike_erase(ldterm, here, byte, told),

@@ -13,12 +13,13 @@ ghost use Rattle.strm_types.specs.Queue.{count_of, flow_of};
 ghost use Rattle.strm_types.specs.Termios.{icanon};
 ghost use Rattle.strm_blocks.specs.Blocks.{IsInHand, token};
 ghost use Rattle.strm_frame.specs.Hands.{AreIn, HasRoom};
+ghost use Rattle.strm_frame.specs.declared.queue_pair.QueuePair.{QueuePair};
 ghost use Rattle.strm_frame.specs.Outboxes.{message_in};
 ghost use Rattle.strm_ldterm.specs.Becoming.{Becomes, IsFronted};
 ghost use Rattle.strm_ldterm.specs.Does.{Proceeds};
 ghost use Rattle.strm_ldterm.specs.FreeBefore.{blocks_grown};
 ghost use Rattle.strm_ldterm.specs.PlainRuns.{MayRun, has_keys, is_plain, run_echoed, turns_ends, typed_run};
-ghost use Rattle.strm_ldterm.specs.Stands.{IsData, IsHeld, keeps, ldterm_in, stage_in};
+ghost use Rattle.strm_ldterm.specs.Stands.{IsData, IsGathered, IsHeld, keeps, ldterm_in, stage_in, paired};
 ghost use Rattle.strm_ldterm.specs.Turns.{ahead, bytes_on, stages_left};
 
 use crate::echoes::RUN_MAX;
@@ -30,6 +31,7 @@ use crate::standing_echo::stand_run;
 use arrayvec::ArrayVec;
 use bitflags::Flags;
 use strm_blocks::{Blocks, InHand};
+use strm_frame::QueuePair;
 use strm_queue::standing::count;
 use strm_types::{
     Band, Fates, InputModes, LINE_MAX, LocalModes, Note, STOP_BLOCKS, Spot, Termios, Way,
@@ -171,13 +173,12 @@ pub(crate) fn take_front<B: Blocks>(
     most: usize,
     run: &mut ArrayVec<u8, RUN_MAX>,
 )
-    requires held { IsHeld (B.value store.old) ldterm.old }
-    requires kept { AreIn (B.value store.old) (λ _. 0) (keeps ldterm.old) }
+    requires is { IfSome ldterm.old.in_work (λ m. IsData (B.value store.old) (token m)) }
     requires fresh { run.old.items ≡ [] }
-    ensures did { (f : Fates) → let s = B.value store.old in let p = ldterm_in s ldterm.old in
-        Proceeds s (B.value store.new) ldterm.old ldterm.new 0 [] [] f f
-        (sends [] (with_left (drop (length run.new.items) (cells_left p)) p)) }
-    ensures front { let cells = cells_left (ldterm_in (B.value store.old) ldterm.old) in
+    ensures did { (q : QueuePair) (f : Fates) → let s = B.value store.old in let x = paired ldterm.old q in let p = ldterm_in s x in
+        IsHeld s x → AreIn s (λ _. 0) (keeps x) →
+        Proceeds s (B.value store.new) x (paired ldterm.new q) 0 [] [] f f (sends [] (with_left (drop (length run.new.items) (cells_left p)) p)) }
+    ensures front { (q : QueuePair) → let cells = cells_left (ldterm_in (B.value store.old) (paired ldterm.old q)) in
         cells ≡ run.new.items ++ drop (length run.new.items) cells }
     ensures plain { AllByRecursion (λ b. slice_index_or odd.now b true ≡ false) run.new.items }
     ensures few { length run.new.items ≤ most }
@@ -207,19 +208,19 @@ pub(crate) fn run_most<B: Blocks>(store: &B) -> usize
 
 // How many bytes more leave band 0 of the write queue at its high-water mark, so that it isn't full before the last of them; 0 where it
 // is full.
-fn echo_room<B: Blocks>(ldterm: &Ldterm, store: &B) -> usize
-    requires { IsHeld (B.value store.now) ldterm.now }
-    ensures { let q = (ldterm_in (B.value store.now) ldterm.now).write_queue in
+fn echo_room<B: Blocks>(ldterm: &Ldterm, queues: &QueuePair, store: &B) -> usize
+    requires { IsHeld (B.value store.now) (paired ldterm.now queues.now) }
+    ensures { let q = (ldterm_in (B.value store.now) (paired ldterm.now queues.now)).write_queue in
         0 < result → count_of 0 q.messages + result ≤ (flow_of 0 q).high }
 {
-    let counted = count(store, &ldterm.write_queue, Band(0));
-    (ldterm.write_queue.flows.at(Band(0)).high as usize).saturating_sub(counted)
+    let counted = count(store, &queues.write, Band(0));
+    (queues.write.flows.at(Band(0)).high as usize).saturating_sub(counted)
 }
 
 // How many plain bytes may be treated at once, where any may.
-fn run_room<B: Blocks>(ldterm: &Ldterm, store: &B) -> usize
-    requires { IsHeld (B.value store.now) ldterm.now }
-    ensures may { 0 < result → MayRun result (ldterm_in (B.value store.now) ldterm.now) }
+fn run_room<B: Blocks>(ldterm: &Ldterm, queues: &QueuePair, store: &B) -> usize
+    requires { IsHeld (B.value store.now) (paired ldterm.now queues.now) }
+    ensures may { 0 < result → MayRun result (ldterm_in (B.value store.now) (paired ldterm.now queues.now)) }
     ensures few { result ≤ 256 }
     ensures many { 0 < result → HasRoom (B.value store.now) (STOP_BLOCKS + 2) }
 {
@@ -235,20 +236,18 @@ fn run_room<B: Blocks>(ldterm: &Ldterm, store: &B) -> usize
     if !ldterm.termios.lflag.contains(LocalModes::ECHO) {
         return typed;
     }
-    typed.min(echo_room(ldterm, store))
+    typed.min(echo_room(ldterm, queues, store))
 }
 
 // Plain bytes stand in the line, or wait to go up together where no lines are made.
 fn type_run<B: Blocks>(ldterm: &mut Ldterm, store: &mut B, run: &[u8])
-    requires held { IsHeld (B.value store.old) ldterm.old }
-    requires kept { AreIn (B.value store.old) (λ _. 0) (keeps ldterm.old) }
+    requires gathers { IfSome ldterm.old.gathered (λ m. IsGathered (B.value store.old) (token m)) }
     requires some { 0 < length run.now }
     requires few { length run.now ≤ 256 }
     requires line { icanon ldterm.old.termios ≡ true → length ldterm.old.line + length run.now ≤ LINE_MAX }
     requires room { HasRoom (B.value store.old) 1 }
-    ensures { (f : Fates) → let s = B.value store.old in
-        Proceeds s (B.value store.new) ldterm.old ldterm.new 1 [] [] f f
-        (sends [] (typed_run run.now (ldterm_in s ldterm.old))) }
+    ensures { (q : QueuePair) (f : Fates) → let s = B.value store.old in let x = paired ldterm.old q in IsHeld s x → AreIn s (λ _. 0) (keeps x) →
+        Proceeds s (B.value store.new) x (paired ldterm.new q) 1 [] [] f f (sends [] (typed_run run.now (ldterm_in s x))) }
 {
     if ldterm.termios.lflag.contains(LocalModes::ICANON) {
         ldterm.line.extend(run);
@@ -260,23 +259,24 @@ fn type_run<B: Blocks>(ldterm: &mut Ldterm, store: &mut B, run: &[u8])
 // Plain bytes are echoed as themselves under ECHO, where band 0 of the write queue has room for them.
 fn echo_run<B: Blocks>(
     ldterm: &mut Ldterm,
+    queues: &mut QueuePair,
     store: &mut B,
     here: Spot,
     run: &[u8],
     told: &mut Fates,
 ) -> ArrayVec<Note, 4>
-    requires held { IsHeld (B.value store.old) ldterm.old }
-    requires kept { AreIn (B.value store.old) (λ _. 0) (keeps ldterm.old) }
+    requires held { IsHeld (B.value store.old) (paired ldterm.old queues.old) }
+    requires kept { AreIn (B.value store.old) (λ _. 0) (keeps (paired ldterm.old queues.old)) }
     requires work { is_some ldterm.old.in_work ≡ true }
     requires few { length run.now ≤ 256 }
     requires room { HasRoom (B.value store.old) 1 }
     ensures { let s = B.value store.old in
-        Proceeds s (B.value store.new) ldterm.old ldterm.new 1 result.items [] told.old told.new
-        (run_echoed here run.now (ldterm_in s ldterm.old)) }
+        Proceeds s (B.value store.new) (paired ldterm.old queues.old) (paired ldterm.new queues.new) 1 result.items [] told.old told.new
+        (run_echoed here run.now (ldterm_in s (paired ldterm.old queues.old))) }
 {
     if ldterm.termios.lflag.contains(LocalModes::ECHO) {
         told.tell_made(direction_at(Way::Down, here.side), run.len());
-        return stand_run(ldterm, store, run);
+        return stand_run(ldterm, queues, store, run);
     }
     ArrayVec::new()
 }
@@ -286,25 +286,26 @@ fn echo_run<B: Blocks>(
 /// most, and there are some only where each of them begins with `STOP_BLOCKS` free. The cost is a step for each byte, and a pass over a table of 256 bytes.
 pub(crate) fn treat_run<B: Blocks>(
     ldterm: &mut Ldterm,
+    queues: &mut QueuePair,
     store: &mut B,
     here: Spot,
     told: &mut Fates,
 ) -> Ran
-    requires held { IsHeld (B.value store.old) ldterm.old }
-    requires kept { AreIn (B.value store.old) (λ _. 0) (keeps ldterm.old) }
+    requires held { IsHeld (B.value store.old) (paired ldterm.old queues.old) }
+    requires kept { AreIn (B.value store.old) (λ _. 0) (keeps (paired ldterm.old queues.old)) }
     requires room { HasRoom (B.value store.old) 2 }
     requires stage { stages_left (stage_in ldterm.old.stage) ≡ 0 }
     ensures does { let s = B.value store.old in
-        Proceeds s (B.value store.new) ldterm.old ldterm.new 2 result.notes.items [] told.old told.new
-        (ahead here (3 * result.bytes) (ldterm_in s ldterm.old)) }
-    ensures within { result.bytes ≤ length (cells_left (ldterm_in (B.value store.old) ldterm.old)) }
-    ensures begun { let p = ldterm_in (B.value store.old) ldterm.old in
+        Proceeds s (B.value store.new) (paired ldterm.old queues.old) (paired ldterm.new queues.new) 2 result.notes.items [] told.old told.new
+        (ahead here (3 * result.bytes) (ldterm_in s (paired ldterm.old queues.old))) }
+    ensures within { result.bytes ≤ length (cells_left (ldterm_in (B.value store.old) (paired ldterm.old queues.old))) }
+    ensures begun { let p = ldterm_in (B.value store.old) (paired ldterm.old queues.old) in
         (byte : ℕ) → byte < result.bytes → HasRoom (B.value store.old) (STOP_BLOCKS + blocks_grown p (bytes_on here byte p).state) }
     ensures many { HasRoom (B.value store.old) STOP_BLOCKS → HasRoom (B.value store.new) STOP_BLOCKS }
 {
     let mut odd = [false; 256];
     mark_odd(&mut odd, &ldterm.termios);
-    let most = run_room(ldterm, store);
+    let most = run_room(ldterm, queues, store);
     let mut front = ArrayVec::new();
     take_front(ldterm, store, &odd, most, &mut front);
     let run = front.as_slice();
@@ -317,7 +318,7 @@ pub(crate) fn treat_run<B: Blocks>(
     store.audit();
     type_run(ldterm, store, run);
     store.audit();
-    let notes = echo_run(ldterm, store, here, run, told);
+    let notes = echo_run(ldterm, queues, store, here, run, told);
     Ran {
         bytes: run.len(),
         notes,

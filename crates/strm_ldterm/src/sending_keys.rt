@@ -1,6 +1,6 @@
 //! Keys that send: STOP, EOF and what ends a line (termio(7I): "Special Characters"; ldterm(7M)).
 
-ghost use Rattle.std.specs.Prelude.{◌≡◌, ◌≤◌, ◌<◌, ◌+◌, false, length, [], ◌∷◌, ◌++◌};
+ghost use Rattle.std.specs.Prelude.{◌≡◌, ◌≤◌, ◌<◌, ◌+◌, false, length, [], ◌++◌};
 ghost use Rattle.strm_types.specs.declared.keys.Key.TheVariants.{Eof, Delimiter};
 ghost use Rattle.strm_types.specs.declared.limits.TheConstants.{MODULES};
 ghost use Rattle.strm_types.specs.declared.rules.Fates.{Fates};
@@ -9,10 +9,11 @@ ghost use Rattle.strm_types.specs.Flush.{is_data_kind};
 ghost use Rattle.strm_types.specs.Message.{data_message};
 ghost use Rattle.strm_types.specs.Typing.{bare, line_sent, stops, strikes};
 ghost use Rattle.strm_frame.specs.Hands.{AreIn, HasRoom};
+ghost use Rattle.strm_frame.specs.declared.queue_pair.QueuePair.{QueuePair};
 ghost use Rattle.strm_frame.specs.Outboxes.{sent_of};
 ghost use Rattle.strm_ldterm.specs.Does.{Proceeds};
 ghost use Rattle.strm_ldterm.specs.Sending.{MadeOne};
-ghost use Rattle.strm_ldterm.specs.Stands.{ldterm_in, keeps, IsHeld};
+ghost use Rattle.strm_ldterm.specs.Stands.{ldterm_in, keeps, IsHeld, paired};
 ghost use Rattle.strm_blocks.specs.Blocks.{token};
 
 use crate::flushes::direction_at;
@@ -56,14 +57,12 @@ pub fn stop<B: Blocks>(
     byte: u8,
     told: &mut Fates,
 ) -> Outbox
-    requires held { IsHeld (B.value store.old) ldterm.old }
-    requires kept { AreIn (B.value store.old) (λ _. 0) (keeps ldterm.old) }
     requires inside { 0 < here.at }
     requires small { here.at ≤ MODULES }
     requires room { HasRoom (B.value store.old) 1 }
-    ensures { let s = B.value store.old in
-        Proceeds s (B.value store.new) ldterm.old ldterm.new 1 [] (sent_of result) told.old told.new
-        (stops plain here byte (ldterm_in s ldterm.old)) }
+    ensures { (q : QueuePair) → let s = B.value store.old in let x = paired ldterm.old q in IsHeld s x → AreIn s (λ _. 0) (keeps x) →
+        Proceeds s (B.value store.new) x (paired ldterm.new q) 1 [] (sent_of result) told.old told.new
+        (stops plain here byte (ldterm_in s x)) }
 {
     let _ = byte;
     told.tell(direction_at(Way::Up, here.side), Rule::FlowKey, 1);
@@ -80,15 +79,13 @@ pub fn stop<B: Blocks>(
 
 // The line goes up with what ends it, at most a byte, and is empty then.
 fn send_line<B: Blocks>(ldterm: &mut Ldterm, store: &mut B, here: Spot, ending: &[u8]) -> Outbox
-    requires held { IsHeld (B.value store.old) ldterm.old }
-    requires kept { AreIn (B.value store.old) (λ _. 0) (keeps ldterm.old) }
     requires inside { 0 < here.at }
     requires small { here.at ≤ MODULES }
     requires room { HasRoom (B.value store.old) 1 }
     requires few { length ending.now ≤ 1 }
-    ensures { (f : Fates) → let s = B.value store.old in let p = ldterm_in s ldterm.old in
-        Proceeds s (B.value store.new) ldterm.old ldterm.new 1 [] (sent_of result) f f
-        (line_sent plain here (p.line ++ ending.now) p) }
+    ensures { (q : QueuePair) (f : Fates) → let s = B.value store.old in let x = paired ldterm.old q in let p = ldterm_in s x in
+        IsHeld s x → AreIn s (λ _. 0) (keeps x) →
+        Proceeds s (B.value store.new) x (paired ldterm.new q) 1 [] (sent_of result) f f (line_sent plain here (p.line ++ ending.now) p) }
 {
     let message = make_line(store, ldterm.line.bytes(), ending);
     let _ = ldterm.line.clear();
@@ -106,14 +103,12 @@ pub fn end_file<B: Blocks>(
     byte: u8,
     told: &mut Fates,
 ) -> Outbox
-    requires held { IsHeld (B.value store.old) ldterm.old }
-    requires kept { AreIn (B.value store.old) (λ _. 0) (keeps ldterm.old) }
     requires inside { 0 < here.at }
     requires small { here.at ≤ MODULES }
     requires room { HasRoom (B.value store.old) 1 }
-    ensures { let s = B.value store.old in
-        Proceeds s (B.value store.new) ldterm.old ldterm.new 1 [] (sent_of result) told.old told.new
-        (strikes plain here Eof byte (ldterm_in s ldterm.old)) }
+    ensures { (q : QueuePair) → let s = B.value store.old in let x = paired ldterm.old q in IsHeld s x → AreIn s (λ _. 0) (keeps x) →
+        Proceeds s (B.value store.new) x (paired ldterm.new q) 1 [] (sent_of result) told.old told.new
+        (strikes plain here Eof byte (ldterm_in s x)) }
 {
     let _ = byte;
     told.tell(direction_at(Way::Up, here.side), Rule::EofKey, 1);
@@ -122,14 +117,11 @@ pub fn end_file<B: Blocks>(
 
 /// A delimiter: the line goes up with it as M_DATA, at most 256 bytes in one block.
 pub fn end_line<B: Blocks>(ldterm: &mut Ldterm, store: &mut B, here: Spot, byte: u8) -> Outbox
-    requires held { IsHeld (B.value store.old) ldterm.old }
-    requires kept { AreIn (B.value store.old) (λ _. 0) (keeps ldterm.old) }
     requires inside { 0 < here.at }
     requires small { here.at ≤ MODULES }
     requires room { HasRoom (B.value store.old) 1 }
-    ensures { (f : Fates) → let s = B.value store.old in
-        Proceeds s (B.value store.new) ldterm.old ldterm.new 1 [] (sent_of result) f f
-        (strikes plain here Delimiter byte (ldterm_in s ldterm.old)) }
+    ensures { (q : QueuePair) (f : Fates) → let s = B.value store.old in let x = paired ldterm.old q in IsHeld s x → AreIn s (λ _. 0) (keeps x) →
+        Proceeds s (B.value store.new) x (paired ldterm.new q) 1 [] (sent_of result) f f (strikes plain here Delimiter byte (ldterm_in s x)) }
 {
     send_line(ldterm, store, here, &[byte])
 }

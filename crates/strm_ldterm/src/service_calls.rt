@@ -1,13 +1,15 @@
 //! Calls of the service procedure: on the read queue bytes of the message in work, one after the other (srv(9E); STREAMS Programming
 //! Guide, "Service Procedures").
 
-ghost use Rattle.std.specs.Prelude.{ℕ, ◌≡◌, ◌<◌, ◌≤◌, ◌&&◌, [], true, false, length, is_some, nat_lt};
+ghost use Rattle.std.specs.Prelude.{ℕ, ◌≡◌, ◌<◌, ◌≤◌, ◌&&◌, [], true, false, length, is_some, nat_lt, IfSome};
 ghost use Rattle.strm_types.specs.declared.limits.TheConstants.{MODULES, STOP_BLOCKS};
 ghost use Rattle.strm_types.specs.declared.names.Way.TheVariants.{Up};
 ghost use Rattle.strm_types.specs.Input.{cells_left};
+ghost use Rattle.strm_blocks.specs.Blocks.{token};
 ghost use Rattle.strm_frame.specs.Hands.{AreIn, HasRoom};
+ghost use Rattle.strm_frame.specs.declared.queue_pair.QueuePair.{QueuePair};
 ghost use Rattle.strm_frame.specs.Serves.{least_free};
-ghost use Rattle.strm_ldterm.specs.Stands.{ldterm_in, keeps, stage_in, IsHeld};
+ghost use Rattle.strm_ldterm.specs.Stands.{ldterm_in, keeps, stage_in, IsData, IsHeld, paired};
 ghost use Rattle.strm_ldterm.specs.Called.{RunAs, ServesAs, TreatsAs};
 ghost use Rattle.strm_ldterm.specs.Served.{IsServed};
 ghost use Rattle.strm_ldterm.specs.Turns.{needs, stages_left};
@@ -21,7 +23,7 @@ use crate::wholes::{goes_up, pass_work};
 use crate::write_turns::serve_output;
 use arrayvec::ArrayVec;
 use strm_blocks::Blocks;
-use strm_frame::{Acts, Outbox, Served};
+use strm_frame::{Acts, Outbox, QueuePair, Served};
 use strm_msg::booked_size;
 use strm_types::{Band, Fates, Note, STOP_BLOCKS, Spot, Way};
 
@@ -49,8 +51,8 @@ pub(crate) fn are_few<B: Blocks>(store: &B) -> bool
 
 // How many bytes are left of the message in work.
 fn work_left<B: Blocks>(ldterm: &Ldterm, store: &B) -> usize
-    requires held { IsHeld (B.value store.now) ldterm.now }
-    ensures bytes { result ≡ length (cells_left (ldterm_in (B.value store.now) ldterm.now)) }
+    requires { IfSome ldterm.now.in_work (λ m. IsData (B.value store.now) (token m)) }
+    ensures bytes { (q : QueuePair) → result ≡ length (cells_left (ldterm_in (B.value store.now) (paired ldterm.now q))) }
     ensures few { result ≤ 16777216 }
 {
     let Some(message) = &ldterm.in_work else {
@@ -64,32 +66,34 @@ fn work_left<B: Blocks>(ldterm: &Ldterm, store: &B) -> usize
 // isn't plain by itself.
 fn treat_bytes<B: Blocks>(
     ldterm: &mut Ldterm,
+    queues: &mut QueuePair,
     store: &mut B,
     here: Spot,
     bytes: usize,
     told: &mut Fates,
 ) -> Run
-    requires held { IsHeld (B.value store.old) ldterm.old }
-    requires kept { AreIn (B.value store.old) (λ _. 0) (keeps ldterm.old) }
+    requires held { IsHeld (B.value store.old) (paired ldterm.old queues.old) }
+    requires kept { AreIn (B.value store.old) (λ _. 0) (keeps (paired ldterm.old queues.old)) }
     requires inside { 0 < here.at }
     requires small { here.at ≤ MODULES }
     requires room { HasRoom (B.value store.old) 1 }
     requires stage { stages_left (stage_in ldterm.old.stage) ≡ 0 }
-    requires bytes { bytes ≡ length (cells_left (ldterm_in (B.value store.old) ldterm.old)) }
-    ensures { RunAs (B.value store.old) (B.value store.new) here ldterm.old ldterm.new bytes told.old told.new result }
+    requires bytes { bytes ≡ length (cells_left (ldterm_in (B.value store.old) (paired ldterm.old queues.old))) }
+    ensures { RunAs (B.value store.old) (B.value store.new) here (paired ldterm.old queues.old) (paired ldterm.new queues.new) bytes told.old
+        told.new result }
 {
     let mut notes = ArrayVec::new();
     let mut left = bytes;
     while left > 0 && !are_few(store) {
         store.audit();
-        let ran = treat_run(ldterm, store, here, told);
+        let ran = treat_run(ldterm, queues, store, here, told);
         notes = join(notes, ran.notes);
         left -= ran.bytes;
         if left == 0 || are_few(store) {
             return Run::Out { notes, left };
         }
         store.audit();
-        let more = treat_byte(ldterm, store, here, told);
+        let more = treat_byte(ldterm, queues, store, here, told);
         notes = join(notes, more.notes);
         if !more.sent.is_empty() {
             return Run::Into {
@@ -106,15 +110,22 @@ fn treat_bytes<B: Blocks>(
 }
 
 // A call that stands between two bytes. Bytes that would be gathered unchanged, and nothing else, go up in their own message.
-fn treat_on<B: Blocks>(ldterm: &mut Ldterm, store: &mut B, here: Spot, told: &mut Fates) -> Served
-    requires held { IsHeld (B.value store.old) ldterm.old }
-    requires kept { AreIn (B.value store.old) (λ _. 0) (keeps ldterm.old) }
+fn treat_on<B: Blocks>(
+    ldterm: &mut Ldterm,
+    queues: &mut QueuePair,
+    store: &mut B,
+    here: Spot,
+    told: &mut Fates,
+) -> Served
+    requires held { IsHeld (B.value store.old) (paired ldterm.old queues.old) }
+    requires kept { AreIn (B.value store.old) (λ _. 0) (keeps (paired ldterm.old queues.old)) }
     requires inside { 0 < here.at }
     requires small { here.at ≤ MODULES }
     requires room { HasRoom (B.value store.old) 1 }
     requires stage { stages_left (stage_in ldterm.old.stage) ≡ 0 }
     requires work { is_some ldterm.old.in_work ≡ true }
-    ensures does { TreatsAs (B.value store.old) (B.value store.new) here ldterm.old ldterm.new result told.old told.new }
+    ensures does { TreatsAs (B.value store.old) (B.value store.new) here (paired ldterm.old queues.old) (paired ldterm.new queues.new) result
+        told.old told.new }
     ensures few { result.bytes ≤ 16777216 }
     ensures noted { length result.acts.notes.items ≤ 2 }
 {
@@ -123,7 +134,7 @@ fn treat_on<B: Blocks>(ldterm: &mut Ldterm, store: &mut B, here: Spot, told: &mu
         let sent = pass_work(ldterm, store, here, Way::Up, Band(0));
         return of_whole(Passed { sent, bytes });
     }
-    match treat_bytes(ldterm, store, here, bytes, told) {
+    match treat_bytes(ldterm, queues, store, here, bytes, told) {
         Run::Into { acts, left } => Served {
             acts,
             bytes: bytes - left,
@@ -132,7 +143,7 @@ fn treat_on<B: Blocks>(ldterm: &mut Ldterm, store: &mut B, here: Spot, told: &mu
         },
         Run::Out { notes, left } => {
             store.audit();
-            let sent = finish(ldterm, store, here);
+            let sent = finish(ldterm, queues, store, here);
             Served {
                 acts: Acts { notes, sent },
                 bytes: bytes - left,
@@ -155,22 +166,24 @@ fn is_under_way(stage: &Stage) -> bool
 /// in proportion to the bytes that are treated, and a step for each block of the message.
 pub(crate) fn treat<B: Blocks>(
     ldterm: &mut Ldterm,
+    queues: &mut QueuePair,
     store: &mut B,
     here: Spot,
     told: &mut Fates,
 ) -> Served
-    requires held { IsHeld (B.value store.old) ldterm.old }
-    requires kept { AreIn (B.value store.old) (λ _. 0) (keeps ldterm.old) }
+    requires held { IsHeld (B.value store.old) (paired ldterm.old queues.old) }
+    requires kept { AreIn (B.value store.old) (λ _. 0) (keeps (paired ldterm.old queues.old)) }
     requires inside { 0 < here.at }
     requires small { here.at ≤ MODULES }
     requires room { HasRoom (B.value store.old) (needs (stage_in ldterm.old.stage)) }
     requires work { is_some ldterm.old.in_work ≡ true }
-    ensures { TreatsAs (B.value store.old) (B.value store.new) here ldterm.old ldterm.new result told.old told.new }
+    ensures { TreatsAs (B.value store.old) (B.value store.new) here (paired ldterm.old queues.old) (paired ldterm.new queues.new) result told.old
+        told.new }
 {
     if !is_under_way(&ldterm.stage) {
-        return treat_on(ldterm, store, here, told);
+        return treat_on(ldterm, queues, store, here, told);
     }
-    let first = resume(ldterm, store, here, told);
+    let first = resume(ldterm, queues, store, here, told);
     if !first.sent.is_empty() {
         return Served {
             acts: first,
@@ -180,7 +193,7 @@ pub(crate) fn treat<B: Blocks>(
         };
     }
     store.audit();
-    let rest = treat_on(ldterm, store, here, told);
+    let rest = treat_on(ldterm, queues, store, here, told);
     Served {
         acts: Acts {
             notes: join(first.notes, rest.acts.notes),
@@ -214,22 +227,24 @@ pub(crate) fn of_whole(passed: Passed) -> Served
 // The first call of a turn of the read queue.
 fn serve_input<B: Blocks>(
     ldterm: &mut Ldterm,
+    queues: &mut QueuePair,
     store: &mut B,
     here: Spot,
     told: &mut Fates,
 ) -> Served
-    requires held { IsHeld (B.value store.old) ldterm.old }
-    requires kept { AreIn (B.value store.old) (λ _. 0) (keeps ldterm.old) }
+    requires held { IsHeld (B.value store.old) (paired ldterm.old queues.old) }
+    requires kept { AreIn (B.value store.old) (λ _. 0) (keeps (paired ldterm.old queues.old)) }
     requires inside { 0 < here.at }
     requires small { here.at ≤ MODULES }
     requires room { HasRoom (B.value store.old) 1 }
     requires way { here.way ≡ Up }
-    requires rests { (i : ℕ) → keeps ldterm.old i ≡ 0 }
+    requires rests { (i : ℕ) → keeps (paired ldterm.old queues.old) i ≡ 0 }
     requires quiet { ldterm.old.echoing ≡ false }
     requires stage { stages_left (stage_in ldterm.old.stage) ≡ 0 }
-    ensures { ServesAs (B.value store.old) (B.value store.new) here ldterm.old ldterm.new false result told.old told.new }
+    ensures { ServesAs (B.value store.old) (B.value store.new) here (paired ldterm.old queues.old) (paired ldterm.new queues.new) false result
+        told.old told.new }
 {
-    match begin_input(ldterm, store, here) {
+    match begin_input(ldterm, queues, store, here) {
         InputBegun::Empty => of_whole(Passed {
             sent: Outbox::none(),
             bytes: 0,
@@ -238,7 +253,7 @@ fn serve_input<B: Blocks>(
         InputBegun::InWork { bytes } => {
             let _ = bytes;
             store.audit();
-            treat(ldterm, store, here, told)
+            treat(ldterm, queues, store, here, told)
         }
     }
 }
@@ -251,22 +266,24 @@ fn serve_input<B: Blocks>(
 /// goes on in its own blocks. The cost is in proportion to the bytes that are treated, and a step for each block of the message.
 pub fn serve<B: Blocks>(
     ldterm: &mut Ldterm,
+    queues: &mut QueuePair,
     store: &mut B,
     here: Spot,
     again: bool,
     told: &mut Fates,
 ) -> Served
-    requires held { IsHeld (B.value store.old) ldterm.old }
-    requires kept { AreIn (B.value store.old) (λ _. 0) (keeps ldterm.old) }
+    requires held { IsHeld (B.value store.old) (paired ldterm.old queues.old) }
+    requires kept { AreIn (B.value store.old) (λ _. 0) (keeps (paired ldterm.old queues.old)) }
     requires inside { 0 < here.at }
     requires small { here.at ≤ MODULES }
-    requires turn { IsServed here.way again (ldterm_in (B.value store.old) ldterm.old) }
+    requires turn { IsServed here.way again (ldterm_in (B.value store.old) (paired ldterm.old queues.old)) }
     requires room { HasRoom (B.value store.old) (needs (stage_in ldterm.old.stage)) }
-    ensures { ServesAs (B.value store.old) (B.value store.new) here ldterm.old ldterm.new again result told.old told.new }
+    ensures { ServesAs (B.value store.old) (B.value store.new) here (paired ldterm.old queues.old) (paired ldterm.new queues.new) again
+        result told.old told.new }
 {
     match here.way {
-        Way::Down => serve_output(ldterm, store, here, told),
-        Way::Up if again => treat(ldterm, store, here, told),
-        Way::Up => serve_input(ldterm, store, here, told),
+        Way::Down => serve_output(ldterm, queues, store, here, told),
+        Way::Up if again => treat(ldterm, queues, store, here, told),
+        Way::Up => serve_input(ldterm, queues, store, here, told),
     }
 }

@@ -9,14 +9,16 @@ ghost use Rattle.strm_types.specs.declared.rules.Rule.TheVariants.{Flushed, Sign
 ghost use Rattle.strm_types.specs.Cells.{plain};
 ghost use Rattle.strm_types.specs.Flush.{is_data_kind};
 ghost use Rattle.strm_types.specs.Flushing.{flush_bytes, flush_message};
-ghost use Rattle.strm_types.specs.Ldterms.{onward, sends};
+ghost use Rattle.strm_types.specs.Deliver.{onward};
+ghost use Rattle.strm_types.specs.Ldterms.{sends};
 ghost use Rattle.strm_types.specs.Termios.{noflsh};
 ghost use Rattle.strm_types.specs.Typing.{bare, lost, signals, strikes};
-ghost use Rattle.strm_frame.specs.Hands.{AreIn, HasRoom};
+ghost use Rattle.strm_frame.specs.Hands.{AreIn, HasRoom, Spends};
+ghost use Rattle.strm_frame.specs.declared.queue_pair.QueuePair.{QueuePair};
 ghost use Rattle.strm_frame.specs.Outboxes.{sent_of};
 ghost use Rattle.strm_ldterm.specs.Does.{Proceeds};
 ghost use Rattle.strm_ldterm.specs.SignalKeys.{sends_signal};
-ghost use Rattle.strm_ldterm.specs.Stands.{ldterm_in, keeps, IsHeld};
+ghost use Rattle.strm_ldterm.specs.Stands.{ldterm_in, keeps, IsHeld, Paired, paired};
 
 use crate::call_ends::send_gathered;
 use crate::flushes::{direction_at, flush_line};
@@ -42,25 +44,16 @@ fn keeps_line(termios: &Termios) -> bool
 }
 
 /// Makes a message without parts that goes up.
-pub(crate) fn send_up<B: Blocks>(
-    ldterm: &Ldterm,
-    store: &mut B,
-    here: Spot,
-    kind: MsgKind,
-    bytes: &[u8],
-) -> Sent
-    requires held { IsHeld (B.value store.old) ldterm.now }
-    requires kept { AreIn (B.value store.old) (λ _. 0) (keeps ldterm.now) }
+pub(crate) fn send_up<B: Blocks>(store: &mut B, here: Spot, kind: MsgKind, bytes: &[u8]) -> Sent
     requires inside { 0 < here.at }
     requires small { here.at ≤ MODULES }
     requires room { HasRoom (B.value store.old) 1 }
     requires kind { is_data_kind kind ≡ false }
     requires few { length bytes.now ≤ 256 }
-    ensures { (f : Fates) → let s = B.value store.old in
-        Proceeds s (B.value store.new) ldterm.now ldterm.now 1 [] (result ∷ []) f f
-        (sends (onward Up here (bare kind bytes.now) ∷ []) (ldterm_in s ldterm.now)) }
+    ensures does { (x : Paired) (f : Fates) → let s = B.value store.old in IsHeld s x → AreIn s (λ _. 0) (keeps x) →
+        Proceeds s (B.value store.new) x x 1 [] (result ∷ []) f f (sends (onward Up here (bare kind bytes.now) ∷ []) (ldterm_in s x)) }
+    ensures spends { Spends (B.value store.old) (B.value store.new) 1 0 }
 {
-    let _ = ldterm;
     let message = make(store, kind, bytes);
     Sent {
         to: here.toward(Way::Up),
@@ -76,42 +69,34 @@ fn flush_typed<B: Blocks>(
     asked: FlushAsked,
     told: &mut Fates,
 ) -> Sent
-    requires held { IsHeld (B.value store.old) ldterm.old }
-    requires kept { AreIn (B.value store.old) (λ _. 0) (keeps ldterm.old) }
     requires inside { 0 < here.at }
     requires small { here.at ≤ MODULES }
     requires room { HasRoom (B.value store.old) 1 }
-    ensures { let s = B.value store.old in let p = ldterm_in s ldterm.old in
-        Proceeds s (B.value store.new) ldterm.old ldterm.new 1 [] (result ∷ []) told.old told.new
-        (record (sends (onward Up here (flush_message (flush_bytes asked)) ∷ []) (record p { line = [] })) { gone = lost plain here Flushed p.line }) }
+    ensures does { (q : QueuePair) → let s = B.value store.old in let x = paired ldterm.old q in let p = ldterm_in s x in
+        IsHeld s x → AreIn s (λ _. 0) (keeps x) →
+        Proceeds s (B.value store.new) x (paired ldterm.new q) 1 [] (result ∷ []) told.old told.new
+        (record (sends (onward Up here (flush_message (flush_bytes asked)) ∷ []) (record p { line = [] }))
+        { gone = lost plain here Flushed p.line }) }
+    ensures spends { Spends (B.value store.old) (B.value store.new) 1 0 }
 {
     store.audit();
     flush_line(ldterm, here, None, told);
     let bytes = asked.bytes();
-    send_up(ldterm, store, here, MsgKind::Flush, bytes.as_slice())
+    send_up(store, here, MsgKind::Flush, bytes.as_slice())
 }
 
 // The signal goes up, and the key is told.
-fn send_key<B: Blocks>(
-    ldterm: &Ldterm,
-    store: &mut B,
-    here: Spot,
-    signal: u8,
-    byte: u8,
-    told: &mut Fates,
-) -> Sent
-    requires held { IsHeld (B.value store.old) ldterm.now }
-    requires kept { AreIn (B.value store.old) (λ _. 0) (keeps ldterm.now) }
+fn send_key<B: Blocks>(store: &mut B, here: Spot, signal: u8, byte: u8, told: &mut Fates) -> Sent
     requires inside { 0 < here.at }
     requires small { here.at ≤ MODULES }
     requires room { HasRoom (B.value store.old) 1 }
-    ensures { let s = B.value store.old in
-        Proceeds s (B.value store.new) ldterm.now ldterm.now 1 [] (result ∷ []) told.old told.new
-        (record (sends (onward Up here (bare Pcsig (signal ∷ [])) ∷ []) (ldterm_in s ldterm.now)) { gone = lost plain here SignalKey (byte ∷ []) }) }
+    ensures { (x : Paired) → let s = B.value store.old in IsHeld s x → AreIn s (λ _. 0) (keeps x) →
+        Proceeds s (B.value store.new) x x 1 [] (result ∷ []) told.old told.new
+        (record (sends (onward Up here (bare Pcsig (signal ∷ [])) ∷ []) (ldterm_in s x)) { gone = lost plain here SignalKey (byte ∷ []) }) }
 {
     let _ = byte;
     told.tell(direction_at(Way::Up, here.side), Rule::SignalKey, 1);
-    send_up(ldterm, store, here, MsgKind::Pcsig, &[signal])
+    send_up(store, here, MsgKind::Pcsig, &[signal])
 }
 
 // A signal key: what was gathered goes up first. Without NOFLSH the line is flushed, and an M_FLUSH goes up. The signal follows.
@@ -124,20 +109,18 @@ fn signal_with<B: Blocks>(
     byte: u8,
     told: &mut Fates,
 ) -> Outbox
-    requires held { IsHeld (B.value store.old) ldterm.old }
-    requires kept { AreIn (B.value store.old) (λ _. 0) (keeps ldterm.old) }
     requires inside { 0 < here.at }
     requires small { here.at ≤ MODULES }
     requires room { HasRoom (B.value store.old) 2 }
-    ensures { let s = B.value store.old in
-        Proceeds s (B.value store.new) ldterm.old ldterm.new 2 [] (sent_of result) told.old told.new
-        (signals plain here asked signal byte (ldterm_in s ldterm.old)) }
+    ensures { (q : QueuePair) → let s = B.value store.old in let x = paired ldterm.old q in IsHeld s x → AreIn s (λ _. 0) (keeps x) →
+        Proceeds s (B.value store.new) x (paired ldterm.new q) 2 [] (sent_of result) told.old told.new
+        (signals plain here asked signal byte (ldterm_in s x)) }
 {
     let keeps = keeps_line(&ldterm.termios);
-    let first = send_gathered(ldterm, store, here);
+    let first = send_gathered(ldterm, here);
     store.audit();
     if keeps {
-        let second = Some(send_key(ldterm, store, here, signal, byte, told));
+        let second = Some(send_key(store, here, signal, byte, told));
         return Outbox {
             first,
             second,
@@ -147,7 +130,7 @@ fn signal_with<B: Blocks>(
     }
     let second = Some(flush_typed(ldterm, store, here, asked, told));
     store.audit();
-    let third = Some(send_key(ldterm, store, here, signal, byte, told));
+    let third = Some(send_key(store, here, signal, byte, told));
     Outbox {
         first,
         second,
@@ -166,15 +149,13 @@ pub(crate) fn signal<B: Blocks>(
     byte: u8,
     told: &mut Fates,
 ) -> Outbox
-    requires held { IsHeld (B.value store.old) ldterm.old }
-    requires kept { AreIn (B.value store.old) (λ _. 0) (keeps ldterm.old) }
     requires inside { 0 < here.at }
     requires small { here.at ≤ MODULES }
     requires room { HasRoom (B.value store.old) 2 }
     requires key { sends_signal key ≡ true }
-    ensures { let s = B.value store.old in
-        Proceeds s (B.value store.new) ldterm.old ldterm.new 2 [] (sent_of result) told.old told.new
-        (strikes plain here key byte (ldterm_in s ldterm.old)) }
+    ensures { (q : QueuePair) → let s = B.value store.old in let x = paired ldterm.old q in IsHeld s x → AreIn s (λ _. 0) (keeps x) →
+        Proceeds s (B.value store.new) x (paired ldterm.new q) 2 [] (sent_of result) told.old told.new
+        (strikes plain here key byte (ldterm_in s x)) }
 {
     let both_ways = FlushAsked {
         for_read: true,

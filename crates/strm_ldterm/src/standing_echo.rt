@@ -1,6 +1,6 @@
 //! The echo of a byte, which stands last on the write queue while a turn is under way (termio(7I): ECHO; ldterm(7M)).
 
-ghost use Rattle.std.specs.Prelude.{ℕ, ◌≡◌, ◌<◌, ◌≤◌, ◌*◌, length, [], true, is_some, if◌then◌else◌};
+ghost use Rattle.std.specs.Prelude.{◌≡◌, ◌<◌, ◌≤◌, ◌*◌, length, [], true, is_some, if◌then◌else◌};
 ghost use Rattle.strm_types.specs.declared.rules.Fates.{Fates};
 ghost use Rattle.strm_types.specs.declared.spots.Spot.{Spot};
 ghost use Rattle.strm_types.specs.Cells.{plain};
@@ -11,7 +11,7 @@ ghost use Rattle.strm_types.specs.Write.{chunk_count};
 ghost use Rattle.strm_queue.specs.Stored.{IsReady, messages_on, queue_in};
 ghost use Rattle.strm_queue.specs.Taken.{TakenLast};
 ghost use Rattle.strm_frame.specs.Hands.{AreIn, HasRoom};
-ghost use Rattle.strm_ldterm.specs.Stands.{EndsPlain, IsData, IsHeld, IsOrdinary, keeps, ldterm_in};
+ghost use Rattle.strm_ldterm.specs.Stands.{EndsPlain, IsData, IsHeld, IsOrdinary, keeps, ldterm_in, paired};
 ghost use Rattle.strm_ldterm.specs.Does.{Proceeds};
 ghost use Rattle.strm_ldterm.specs.Echoes.{echo_bytes};
 ghost use Rattle.strm_ldterm.specs.Grown.{Grown, Begins, BeginsLast, GrowsLast};
@@ -25,6 +25,7 @@ use crate::lines::Line;
 use crate::puts::note_if;
 use arrayvec::ArrayVec;
 use strm_blocks::{Blocks, InHand};
+use strm_frame::QueuePair;
 use strm_queue::Queue;
 use strm_queue::standing::{enqueue, is_full};
 use strm_queue::taking::take_last;
@@ -119,26 +120,27 @@ fn begin_echo<B: Blocks>(
 // Lets an echo of some bytes stand last on the write queue, where band 0 isn't full.
 fn let_stand<B: Blocks>(
     ldterm: &mut Ldterm,
+    queues: &mut QueuePair,
     store: &mut B,
     plan: Echo,
     runs: usize,
 ) -> ArrayVec<Note, 4>
-    requires held { IsHeld (B.value store.old) ldterm.old }
-    requires kept { AreIn (B.value store.old) (λ _. 0) (keeps ldterm.old) }
+    requires held { IsHeld (B.value store.old) (paired ldterm.old queues.old) }
+    requires kept { AreIn (B.value store.old) (λ _. 0) (keeps (paired ldterm.old queues.old)) }
     requires work { is_some ldterm.old.in_work ≡ true }
     requires some { 0 < runs }
     requires enough { length (echo_bytes plan ldterm.old.line) ≤ runs * 256 }
     requires room { HasRoom (B.value store.old) runs }
-    ensures { (here : Spot) (f : Fates) → let s = B.value store.old in let p = ldterm_in s ldterm.old in
+    ensures { (here : Spot) (f : Fates) → let s = B.value store.old in let p = ldterm_in s (paired ldterm.old queues.old) in
         let bytes = echo_bytes plan ldterm.old.line in
-        Proceeds s (B.value store.new) ldterm.old ldterm.new runs result.items [] f f
+        Proceeds s (B.value store.new) (paired ldterm.old queues.old) (paired ldterm.new queues.new) runs result.items [] f f
         (record (if ldterm.old.echoing then echo_grows plain here bytes p else echo_stands plain here bytes p) { gone = [] }) }
 {
     if ldterm.echoing {
-        grow_echo(store, &mut ldterm.write_queue, plan, &ldterm.line, runs);
+        grow_echo(store, &mut queues.write, plan, &ldterm.line, runs);
         return ArrayVec::new();
     }
-    let enables = begin_echo(store, &mut ldterm.write_queue, plan, &ldterm.line, runs);
+    let enables = begin_echo(store, &mut queues.write, plan, &ldterm.line, runs);
     ldterm.echoing = true;
     note_if(enables, Note::Enable(Way::Down))
 }
@@ -175,23 +177,24 @@ fn begin_run<B: Blocks>(store: &mut B, queue: &mut Queue, run: &[u8]) -> bool
 /// full. They take one block of each kind at most.
 pub(crate) fn stand_run<B: Blocks>(
     ldterm: &mut Ldterm,
+    queues: &mut QueuePair,
     store: &mut B,
     run: &[u8],
 ) -> ArrayVec<Note, 4>
-    requires held { IsHeld (B.value store.old) ldterm.old }
-    requires kept { AreIn (B.value store.old) (λ _. 0) (keeps ldterm.old) }
+    requires held { IsHeld (B.value store.old) (paired ldterm.old queues.old) }
+    requires kept { AreIn (B.value store.old) (λ _. 0) (keeps (paired ldterm.old queues.old)) }
     requires work { is_some ldterm.old.in_work ≡ true }
     requires few { length run.now ≤ 256 }
     requires room { HasRoom (B.value store.old) 1 }
-    ensures { (here : Spot) (f : Fates) → let s = B.value store.old in let p = ldterm_in s ldterm.old in
-        Proceeds s (B.value store.new) ldterm.old ldterm.new 1 result.items [] f f
+    ensures { (here : Spot) (f : Fates) → let s = B.value store.old in let p = ldterm_in s (paired ldterm.old queues.old) in
+        Proceeds s (B.value store.new) (paired ldterm.old queues.old) (paired ldterm.new queues.new) 1 result.items [] f f
         (record (if ldterm.old.echoing then echo_grows plain here run.now p else echo_stands plain here run.now p) { gone = [] }) }
 {
     if ldterm.echoing {
-        grow_run(store, &mut ldterm.write_queue, run);
+        grow_run(store, &mut queues.write, run);
         return ArrayVec::new();
     }
-    let enables = begin_run(store, &mut ldterm.write_queue, run);
+    let enables = begin_run(store, &mut queues.write, run);
     ldterm.echoing = true;
     note_if(enables, Note::Enable(Way::Down))
 }
@@ -203,18 +206,20 @@ pub(crate) fn stand_run<B: Blocks>(
 /// each block of the turn's echo.
 pub(crate) fn echo<B: Blocks>(
     ldterm: &mut Ldterm,
+    queues: &mut QueuePair,
     store: &mut B,
     here: Spot,
     plan: Echo,
     told: &mut Fates,
 ) -> ArrayVec<Note, 4>
-    requires held { IsHeld (B.value store.old) ldterm.old }
-    requires kept { AreIn (B.value store.old) (λ _. 0) (keeps ldterm.old) }
+    requires held { IsHeld (B.value store.old) (paired ldterm.old queues.old) }
+    requires kept { AreIn (B.value store.old) (λ _. 0) (keeps (paired ldterm.old queues.old)) }
     requires work { is_some ldterm.old.in_work ≡ true }
     requires room { HasRoom (B.value store.old) (chunk_count (length (echo_bytes plan ldterm.old.line))) }
     ensures { let s = B.value store.old in let bytes = echo_bytes plan ldterm.old.line in
-        Proceeds s (B.value store.new) ldterm.old ldterm.new (chunk_count (length bytes)) result.items [] told.old told.new
-        (echoed plain here 0 bytes (ldterm_in s ldterm.old)) }
+        Proceeds s (B.value store.new) (paired ldterm.old queues.old) (paired ldterm.new queues.new) (chunk_count (length bytes)) result.items []
+        told.old told.new
+        (echoed plain here 0 bytes (ldterm_in s (paired ldterm.old queues.old))) }
 {
     let len = plan.len(&ldterm.line);
     if len == 0 {
@@ -224,9 +229,9 @@ pub(crate) fn echo<B: Blocks>(
     let runs = chunk_count(len);
     let direction = direction_at(Way::Down, here.side);
     told.tell_made(direction, len);
-    if is_full(store, &ldterm.write_queue, Band(0)) {
+    if is_full(store, &queues.write, Band(0)) {
         told.tell(direction, Rule::EchoFull, len);
         return ArrayVec::new();
     }
-    let_stand(ldterm, store, plan, runs)
+    let_stand(ldterm, queues, store, plan, runs)
 }

@@ -1,7 +1,7 @@
 //! What a byte of a turn does once it has begun: its key, and its echo (termio(7I): "Canonical Mode Input Processing", "Special
 //! Characters").
 
-ghost use Rattle.std.specs.Prelude.{ℕ, ◌≡◌, ◌<◌, ◌≤◌, ◌+◌, ◌++◌, [], true, false, length, is_some, IfNone, IfSome};
+ghost use Rattle.std.specs.Prelude.{◌≡◌, ◌<◌, ◌≤◌, ◌+◌, ◌++◌, [], true, false, length, is_some, IfNone, IfSome};
 ghost use Rattle.strm_types.specs.declared.limits.TheConstants.{MODULES, STOP_BLOCKS};
 ghost use Rattle.strm_types.specs.declared.spots.Spot as spots;
 ghost use Rattle.strm_types.specs.Cells.{plain};
@@ -10,8 +10,9 @@ ghost use Rattle.strm_types.specs.Ldterms.{Begun};
 ghost use Rattle.strm_types.specs.Queue.{is_none_left};
 ghost use Rattle.strm_types.specs.Typing.{is_lnext, strikes, struck, stroke_at, wakes};
 ghost use Rattle.strm_frame.specs.Hands.{AreIn, HasRoom};
+ghost use Rattle.strm_frame.specs.declared.queue_pair.QueuePair.{QueuePair};
 ghost use Rattle.strm_frame.specs.Outboxes.{sent_of};
-ghost use Rattle.strm_ldterm.specs.Stands.{ldterm_in, keeps, stage_in, IsHeld};
+ghost use Rattle.strm_ldterm.specs.Stands.{ldterm_in, keeps, stage_in, IsHeld, paired};
 ghost use Rattle.strm_ldterm.specs.Does.{Proceeds};
 ghost use Rattle.strm_ldterm.specs.Quiet.{is_quiet};
 ghost use Rattle.strm_ldterm.specs.Turns.{ahead, leaves, needs, one_after, stages_left};
@@ -27,7 +28,7 @@ use crate::strokes::stroke_of;
 use arrayvec::ArrayVec;
 use std::mem;
 use strm_blocks::Blocks;
-use strm_frame::{Acts, Outbox};
+use strm_frame::{Acts, Outbox, QueuePair};
 use strm_types::{Fates, Key, Note, Spot, Stroke, Way};
 
 // Whether the next byte stands behind LNEXT.
@@ -38,11 +39,16 @@ fn is_lnext(key: Key) -> bool
 }
 
 // The queue of output is enabled where a byte has started output, unless nothing stands there.
-fn wakes<B: Blocks>(ldterm: &Ldterm, store: &B, started: bool) -> ArrayVec<Note, 4>
-    ensures { (here : spots.Spot) → result.items ≡ wakes plain here started (ldterm_in (B.value store.now) ldterm.now) }
+fn wakes<B: Blocks>(
+    ldterm: &Ldterm,
+    queues: &QueuePair,
+    store: &B,
+    started: bool,
+) -> ArrayVec<Note, 4>
+    ensures { (here : spots.Spot) → result.items ≡ wakes plain here started (ldterm_in (B.value store.now) (paired ldterm.now queues.now)) }
 {
     let mut notes = ArrayVec::new();
-    if started && !ldterm.write_queue.is_empty(store) {
+    if started && !queues.write.is_empty(store) {
         notes.push(Note::Enable(Way::Down));
     }
     notes
@@ -57,15 +63,13 @@ fn strike_sending<B: Blocks>(
     byte: u8,
     told: &mut Fates,
 ) -> Outbox
-    requires held { IsHeld (B.value store.old) ldterm.old }
-    requires kept { AreIn (B.value store.old) (λ _. 0) (keeps ldterm.old) }
     requires inside { 0 < here.at }
     requires small { here.at ≤ MODULES }
     requires room { HasRoom (B.value store.old) 2 }
     requires sends { is_quiet key ≡ false }
-    ensures { let s = B.value store.old in
-        Proceeds s (B.value store.new) ldterm.old ldterm.new 2 [] (sent_of result) told.old told.new
-        (strikes plain here key byte (ldterm_in s ldterm.old)) }
+    ensures { (q : QueuePair) → let s = B.value store.old in let x = paired ldterm.old q in IsHeld s x → AreIn s (λ _. 0) (keeps x) →
+        Proceeds s (B.value store.new) x (paired ldterm.new q) 2 [] (sent_of result) told.old told.new
+        (strikes plain here key byte (ldterm_in s x)) }
 {
     match key {
         Key::Stop => stop(ldterm, store, here, byte, told),
@@ -79,6 +83,7 @@ fn strike_sending<B: Blocks>(
 // A key that may send something. Its echo is still to come.
 fn strike_and_send<B: Blocks>(
     ldterm: &mut Ldterm,
+    queues: &QueuePair,
     store: &mut B,
     here: Spot,
     started: bool,
@@ -86,19 +91,20 @@ fn strike_and_send<B: Blocks>(
     stroke: Stroke,
     told: &mut Fates,
 ) -> Acts
-    requires held { IsHeld (B.value store.old) ldterm.old }
-    requires kept { AreIn (B.value store.old) (λ _. 0) (keeps ldterm.old) }
+    requires held { IsHeld (B.value store.old) (paired ldterm.old queues.now) }
+    requires kept { AreIn (B.value store.old) (λ _. 0) (keeps (paired ldterm.old queues.now)) }
     requires inside { 0 < here.at }
     requires small { here.at ≤ MODULES }
     requires room { HasRoom (B.value store.old) 2 }
-    requires stroke { stroke ≡ stroke_at plain here byte (ldterm_in (B.value store.old) ldterm.old) }
+    requires stroke { stroke ≡ stroke_at plain here byte (ldterm_in (B.value store.old) (paired ldterm.old queues.now)) }
     requires sends { is_quiet stroke.key ≡ false }
     ensures does { let s = B.value store.old in
-        Proceeds s (B.value store.new) ldterm.old ldterm.new 2 result.notes.items (sent_of result.sent) told.old told.new
-        (struck plain here started byte (ldterm_in s ldterm.old)) }
+        Proceeds s (B.value store.new) (paired ldterm.old queues.now) (paired ldterm.new queues.now) 2 result.notes.items (sent_of result.sent)
+        told.old told.new
+        (struck plain here started byte (ldterm_in s (paired ldterm.old queues.now))) }
     ensures stage { stages_left (stage_in ldterm.new.stage) ≡ 1 }
 {
-    let notes = wakes(ldterm, store, started);
+    let notes = wakes(ldterm, queues, store, started);
     let echo = short_echo(&ldterm.termios, stroke);
     ldterm.after_lnext = false;
     let sent = strike_sending(ldterm, store, here, stroke.key, stroke.byte, told);
@@ -109,6 +115,7 @@ fn strike_and_send<B: Blocks>(
 // A key that sends nothing, with its echo.
 fn strike_and_echo<B: Blocks>(
     ldterm: &mut Ldterm,
+    queues: &mut QueuePair,
     store: &mut B,
     here: Spot,
     started: bool,
@@ -116,23 +123,23 @@ fn strike_and_echo<B: Blocks>(
     stroke: Stroke,
     told: &mut Fates,
 ) -> ArrayVec<Note, 4>
-    requires held { IsHeld (B.value store.old) ldterm.old }
-    requires kept { AreIn (B.value store.old) (λ _. 0) (keeps ldterm.old) }
+    requires held { IsHeld (B.value store.old) (paired ldterm.old queues.old) }
+    requires kept { AreIn (B.value store.old) (λ _. 0) (keeps (paired ldterm.old queues.old)) }
     requires work { is_some ldterm.old.in_work ≡ true }
     requires room { HasRoom (B.value store.old) 25 }
-    requires stroke { stroke ≡ stroke_at plain here byte (ldterm_in (B.value store.old) ldterm.old) }
+    requires stroke { stroke ≡ stroke_at plain here byte (ldterm_in (B.value store.old) (paired ldterm.old queues.old)) }
     requires quiet { is_quiet stroke.key ≡ true }
     ensures { let s = B.value store.old in
-        Proceeds s (B.value store.new) ldterm.old ldterm.new 25 result.items [] told.old told.new
-        (one_after (struck plain here started byte (ldterm_in s ldterm.old)) (next_stage plain here 0)) }
+        Proceeds s (B.value store.new) (paired ldterm.old queues.old) (paired ldterm.new queues.new) 25 result.items [] told.old told.new
+        (one_after (struck plain here started byte (ldterm_in s (paired ldterm.old queues.old))) (next_stage plain here 0)) }
 {
-    let woken = wakes(ldterm, store, started);
+    let woken = wakes(ldterm, queues, store, started);
     let plan = echo_of(&ldterm.termios, &ldterm.line, stroke);
     ldterm.after_lnext = is_lnext(stroke.key);
     strike_quiet(ldterm, store, here, stroke.key, stroke.byte, told);
     ldterm.stage = Stage::Between;
     store.audit();
-    let notes = echo(ldterm, store, here, plan, told);
+    let notes = echo(ldterm, queues, store, here, plan, told);
     join(woken, notes)
 }
 
@@ -150,43 +157,53 @@ pub(crate) fn join(mut first: ArrayVec<Note, 4>, second: ArrayVec<Note, 4>) -> A
 // The echo of a byte whose key may have sent something.
 fn answer<B: Blocks>(
     ldterm: &mut Ldterm,
+    queues: &mut QueuePair,
     store: &mut B,
     here: Spot,
     told: &mut Fates,
 ) -> ArrayVec<Note, 4>
-    requires held { IsHeld (B.value store.old) ldterm.old }
-    requires kept { AreIn (B.value store.old) (λ _. 0) (keeps ldterm.old) }
+    requires held { IsHeld (B.value store.old) (paired ldterm.old queues.old) }
+    requires kept { AreIn (B.value store.old) (λ _. 0) (keeps (paired ldterm.old queues.old)) }
     requires work { is_some ldterm.old.in_work ≡ true }
     requires room { HasRoom (B.value store.old) 1 }
     requires stage { stages_left (stage_in ldterm.old.stage) ≡ 1 }
     ensures { let s = B.value store.old in
-        Proceeds s (B.value store.new) ldterm.old ldterm.new 1 result.items [] told.old told.new
-        (next_stage plain here 0 (ldterm_in s ldterm.old)) }
+        Proceeds s (B.value store.new) (paired ldterm.old queues.old) (paired ldterm.new queues.new) 1 result.items [] told.old told.new
+        (next_stage plain here 0 (ldterm_in s (paired ldterm.old queues.old))) }
 {
     let Stage::Answered { echo: bytes } = mem::replace(&mut ldterm.stage, Stage::Between) else {
         unreachable!()
     };
-    echo(ldterm, store, here, of_slice(bytes.as_slice()), told)
+    echo(
+        ldterm,
+        queues,
+        store,
+        here,
+        of_slice(bytes.as_slice()),
+        told,
+    )
 }
 
 // A byte that has begun does what its key does, and is echoed unless something was sent.
 fn strike<B: Blocks>(
     ldterm: &mut Ldterm,
+    queues: &mut QueuePair,
     store: &mut B,
     here: Spot,
     started: bool,
     byte: u8,
     told: &mut Fates,
 ) -> Acts
-    requires held { IsHeld (B.value store.old) ldterm.old }
-    requires kept { AreIn (B.value store.old) (λ _. 0) (keeps ldterm.old) }
+    requires held { IsHeld (B.value store.old) (paired ldterm.old queues.old) }
+    requires kept { AreIn (B.value store.old) (λ _. 0) (keeps (paired ldterm.old queues.old)) }
     requires work { is_some ldterm.old.in_work ≡ true }
     requires inside { 0 < here.at }
     requires small { here.at ≤ MODULES }
     requires room { HasRoom (B.value store.old) 28 }
     ensures does { let s = B.value store.old in
-        Proceeds s (B.value store.new) ldterm.old ldterm.new 26 result.notes.items (sent_of result.sent) told.old told.new
-        (one_after (struck plain here started byte (ldterm_in s ldterm.old)) (next_stage plain here 0)) }
+        Proceeds s (B.value store.new) (paired ldterm.old queues.old) (paired ldterm.new queues.new) 26 result.notes.items (sent_of result.sent)
+        told.old told.new
+        (one_after (struck plain here started byte (ldterm_in s (paired ldterm.old queues.old))) (next_stage plain here 0)) }
     ensures leaves { is_none_left (sent_of result.sent) ≡ false →
         HasRoom (B.value store.new) 26 × (stages_left (stage_in ldterm.new.stage) ≡ 1) }
     ensures rest { HasRoom (B.value store.new) 1 }
@@ -194,14 +211,14 @@ fn strike<B: Blocks>(
     let stroke = stroke_of(&ldterm.termios, ldterm.after_lnext, byte);
     if is_quiet(stroke.key) {
         return Acts {
-            notes: strike_and_echo(ldterm, store, here, started, byte, stroke, told),
+            notes: strike_and_echo(ldterm, queues, store, here, started, byte, stroke, told),
             sent: Outbox::none(),
         };
     }
-    let mut acts = strike_and_send(ldterm, store, here, started, byte, stroke, told);
+    let mut acts = strike_and_send(ldterm, queues, store, here, started, byte, stroke, told);
     if acts.sent.is_empty() {
         store.audit();
-        let echoed = answer(ldterm, store, here, told);
+        let echoed = answer(ldterm, queues, store, here, told);
         acts.notes = join(acts.notes, echoed);
     }
     acts
@@ -221,28 +238,30 @@ fn begun_byte(stage: &Stage) -> Option<(bool, u8)>
 /// The rest of a byte that has begun, up to the first thing that is sent.
 pub(crate) fn resume<B: Blocks>(
     ldterm: &mut Ldterm,
+    queues: &mut QueuePair,
     store: &mut B,
     here: Spot,
     told: &mut Fates,
 ) -> Acts
-    requires held { IsHeld (B.value store.old) ldterm.old }
-    requires kept { AreIn (B.value store.old) (λ _. 0) (keeps ldterm.old) }
+    requires held { IsHeld (B.value store.old) (paired ldterm.old queues.old) }
+    requires kept { AreIn (B.value store.old) (λ _. 0) (keeps (paired ldterm.old queues.old)) }
     requires work { is_some ldterm.old.in_work ≡ true }
     requires inside { 0 < here.at }
     requires small { here.at ≤ MODULES }
     requires room { HasRoom (B.value store.old) (needs (stage_in ldterm.old.stage)) }
     requires stage { 0 < stages_left (stage_in ldterm.old.stage) }
-    ensures does { let s = B.value store.old in let p = ldterm_in s ldterm.old in
-        Proceeds s (B.value store.new) ldterm.old ldterm.new 26 result.notes.items (sent_of result.sent) told.old told.new
+    ensures does { let s = B.value store.old in let p = ldterm_in s (paired ldterm.old queues.old) in
+        Proceeds s (B.value store.new) (paired ldterm.old queues.old) (paired ldterm.new queues.new) 26 result.notes.items (sent_of result.sent)
+        told.old told.new
         (ahead here (stages_left p.stage) p) }
     ensures leaves { is_none_left (sent_of result.sent) ≡ false →
         HasRoom (B.value store.new) 26 × (stages_left (stage_in ldterm.new.stage) ≡ 1) }
     ensures rest { HasRoom (B.value store.new) 1 }
 {
     match begun_byte(&ldterm.stage) {
-        Some((started, byte)) => strike(ldterm, store, here, started, byte, told),
+        Some((started, byte)) => strike(ldterm, queues, store, here, started, byte, told),
         None => Acts {
-            notes: answer(ldterm, store, here, told),
+            notes: answer(ldterm, queues, store, here, told),
             sent: Outbox::none(),
         },
     }
@@ -251,20 +270,22 @@ pub(crate) fn resume<B: Blocks>(
 /// The next byte of the message in work, up to the first thing that is sent.
 pub(crate) fn treat_byte<B: Blocks>(
     ldterm: &mut Ldterm,
+    queues: &mut QueuePair,
     store: &mut B,
     here: Spot,
     told: &mut Fates,
 ) -> Acts
-    requires held { IsHeld (B.value store.old) ldterm.old }
-    requires kept { AreIn (B.value store.old) (λ _. 0) (keeps ldterm.old) }
+    requires held { IsHeld (B.value store.old) (paired ldterm.old queues.old) }
+    requires kept { AreIn (B.value store.old) (λ _. 0) (keeps (paired ldterm.old queues.old)) }
     requires inside { 0 < here.at }
     requires small { here.at ≤ MODULES }
     requires room { HasRoom (B.value store.old) STOP_BLOCKS }
     requires stage { stages_left (stage_in ldterm.old.stage) ≡ 0 }
-    requires some { 0 < length (cells_left (ldterm_in (B.value store.old) ldterm.old)) }
+    requires some { 0 < length (cells_left (ldterm_in (B.value store.old) (paired ldterm.old queues.old))) }
     ensures does { let s = B.value store.old in
-        Proceeds s (B.value store.new) ldterm.old ldterm.new 27 result.notes.items (sent_of result.sent) told.old told.new
-        (ahead here 3 (ldterm_in s ldterm.old)) }
+        Proceeds s (B.value store.new) (paired ldterm.old queues.old) (paired ldterm.new queues.new) 27 result.notes.items (sent_of result.sent)
+        told.old told.new
+        (ahead here 3 (ldterm_in s (paired ldterm.old queues.old))) }
     ensures leaves { is_none_left (sent_of result.sent) ≡ false →
         HasRoom (B.value store.new) (leaves (stage_in ldterm.new.stage)) × (0 < stages_left (stage_in ldterm.new.stage)) }
 {
@@ -276,5 +297,5 @@ pub(crate) fn treat_byte<B: Blocks>(
         };
     }
     store.audit();
-    resume(ldterm, store, here, told)
+    resume(ldterm, queues, store, here, told)
 }

@@ -4,14 +4,14 @@ ghost use Rattle.std.specs.Prelude.{ℕ, ◌≡◌, ◌<◌, ◌≤◌, ◌&&◌
 ghost use Rattle.strm_types.specs.declared.limits.TheConstants.{MODULES};
 ghost use Rattle.strm_types.specs.Input.{is_data};
 ghost use Rattle.strm_types.specs.Termios.{opost};
-ghost use Rattle.strm_ldterm.specs.Stands.{keeps, IsHeld};
+ghost use Rattle.strm_ldterm.specs.Stands.{keeps, IsHeld, paired};
 ghost use Rattle.strm_ldterm.specs.Began.{BeganAs};
 ghost use Rattle.strm_ldterm.specs.Outgone.{OutputBeganAs};
 
 use crate::ldterm::Ldterm;
 use bitflags::Flags;
 use strm_blocks::Blocks;
-use strm_frame::{Outbox, Sent};
+use strm_frame::{Outbox, QueuePair, Sent};
 use strm_msg::message_size;
 use strm_queue::standing::dequeue;
 use strm_types::{Band, MsgKind, OutputModes, Spot, Termios, Way};
@@ -59,21 +59,26 @@ fn goes_out(termios: &Termios, kind: MsgKind, bytes: usize) -> bool
 
 /// A turn of the write queue begins with what stands first there: M_DATA with bytes comes into work under OPOST, and all else goes down
 /// whole. It takes no block. The cost is a step for each block of the message.
-pub(crate) fn begin_output<B: Blocks>(ldterm: &mut Ldterm, store: &mut B, here: Spot) -> OutputBegun
-    requires held { IsHeld (B.value store.old) ldterm.old }
-    requires rests { (i : ℕ) → keeps ldterm.old i ≡ 0 }
+pub(crate) fn begin_output<B: Blocks>(
+    ldterm: &mut Ldterm,
+    queues: &mut QueuePair,
+    store: &mut B,
+    here: Spot,
+) -> OutputBegun
+    requires held { IsHeld (B.value store.old) (paired ldterm.old queues.old) }
+    requires rests { (i : ℕ) → keeps (paired ldterm.old queues.old) i ≡ 0 }
     requires quiet { ldterm.old.echoing ≡ false }
     requires inside { 0 < here.at }
     requires small { here.at ≤ MODULES }
-    ensures { OutputBeganAs (B.value store.old) (B.value store.new) here ldterm.old ldterm.new result }
+    ensures { OutputBeganAs (B.value store.old) (B.value store.new) here (paired ldterm.old queues.old) (paired ldterm.new queues.new) result }
 {
-    if ldterm.write_queue.is_empty(store) {
+    if queues.write.is_empty(store) {
         return OutputBegun::Whole(Passed {
             sent: Outbox::none(),
             bytes: 0,
         });
     }
-    let Some(message) = dequeue(store, &mut ldterm.write_queue) else {
+    let Some(message) = dequeue(store, &mut queues.write) else {
         unreachable!()
     };
     store.audit();
@@ -94,18 +99,23 @@ pub(crate) fn begin_output<B: Blocks>(ldterm: &mut Ldterm, store: &mut B, here: 
 
 /// A turn of the read queue begins with what stands first there: M_DATA comes into work, and all else goes up whole. It takes no
 /// block. The cost is a step for each block of the message.
-pub(crate) fn begin_input<B: Blocks>(ldterm: &mut Ldterm, store: &mut B, here: Spot) -> InputBegun
-    requires held { IsHeld (B.value store.old) ldterm.old }
-    requires rests { (i : ℕ) → keeps ldterm.old i ≡ 0 }
+pub(crate) fn begin_input<B: Blocks>(
+    ldterm: &mut Ldterm,
+    queues: &mut QueuePair,
+    store: &mut B,
+    here: Spot,
+) -> InputBegun
+    requires held { IsHeld (B.value store.old) (paired ldterm.old queues.old) }
+    requires rests { (i : ℕ) → keeps (paired ldterm.old queues.old) i ≡ 0 }
     requires quiet { ldterm.old.echoing ≡ false }
     requires inside { 0 < here.at }
     requires small { here.at ≤ MODULES }
-    ensures { BeganAs (B.value store.old) (B.value store.new) here ldterm.old ldterm.new result }
+    ensures { BeganAs (B.value store.old) (B.value store.new) here (paired ldterm.old queues.old) (paired ldterm.new queues.new) result }
 {
-    if ldterm.read_queue.is_empty(store) {
+    if queues.read.is_empty(store) {
         return InputBegun::Empty;
     }
-    let Some(message) = dequeue(store, &mut ldterm.read_queue) else {
+    let Some(message) = dequeue(store, &mut queues.read) else {
         unreachable!()
     };
     store.audit();

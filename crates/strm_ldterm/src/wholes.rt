@@ -1,22 +1,24 @@
 //! A message in work goes on itself where none of its bytes would be changed, echoed or acted upon (ldterm(7M); termio(7I): "Non-Canonical
 //! Mode Input Processing"; putnext(9F)).
 
-ghost use Rattle.std.specs.Prelude.{ℕ, ◌≡◌, ◌<◌, ◌≤◌, ◌+◌, [], ◌∷◌, true, false, is_some, length, slice_index_or, None};
+ghost use Rattle.std.specs.Prelude.{◌≡◌, ◌<◌, ◌≤◌, ◌+◌, [], ◌∷◌, true, false, is_some, length, IfSome, None};
 ghost use Rattle.std.specs.List.{AllByRecursion};
 ghost use Rattle.strm_types.specs.declared.limits.TheConstants.{MODULES, STOP_BLOCKS};
 ghost use Rattle.strm_types.specs.declared.output.TheConstants.{COLUMN_MAX};
 ghost use Rattle.strm_types.specs.declared.rules.Fates.{Fates};
 ghost use Rattle.strm_types.specs.Input.{cells_left};
-ghost use Rattle.strm_types.specs.Ldterms.{onward, sends};
+ghost use Rattle.strm_types.specs.Deliver.{onward};
+ghost use Rattle.strm_types.specs.Ldterms.{sends};
 ghost use Rattle.strm_blocks.specs.Blocks.{IsInHand, token};
 ghost use Rattle.strm_frame.specs.Hands.{AreIn, HasRoom};
+ghost use Rattle.strm_frame.specs.declared.queue_pair.QueuePair.{QueuePair};
 ghost use Rattle.strm_frame.specs.Outboxes.{sent_of};
 ghost use Rattle.strm_ldterm.specs.Does.{Proceeds};
 ghost use Rattle.strm_ldterm.specs.FreeBefore.{blocks_for};
 ghost use Rattle.strm_ldterm.specs.Outgone.{data_of, let_go};
 ghost use Rattle.strm_ldterm.specs.PlainRuns.{MayPass, is_raw};
 ghost use Rattle.strm_ldterm.specs.Posting.{is_printed, poured};
-ghost use Rattle.strm_ldterm.specs.Stands.{IsHeld, keeps, ldterm_in};
+ghost use Rattle.strm_ldterm.specs.Stands.{IsData, IsHeld, keeps, ldterm_in, paired};
 ghost use Rattle.strm_ldterm.specs.Turns.{one_after};
 
 use crate::ldterm::Ldterm;
@@ -56,10 +58,10 @@ pub(crate) fn is_free_for<B: Blocks>(store: &B, message: &InHand, bytes: usize) 
 
 /// Whether what is left of the message in work, so many bytes, goes up as it is.
 pub(crate) fn goes_up<B: Blocks>(ldterm: &Ldterm, store: &B, bytes: usize) -> bool
-    requires held { IsHeld (B.value store.now) ldterm.now }
+    requires is { IfSome ldterm.now.in_work (λ m. IsData (B.value store.now) (token m)) }
     requires few { bytes ≤ 16777216 }
     ensures some { result ≡ true → 0 < bytes }
-    ensures may { result ≡ true → MayPass (ldterm_in (B.value store.now) ldterm.now) }
+    ensures may { (q : QueuePair) → result ≡ true → MayPass (ldterm_in (B.value store.now) (paired ldterm.now q)) }
     ensures room { result ≡ true → HasRoom (B.value store.now) (STOP_BLOCKS + blocks_for bytes) }
 {
     if bytes == 0 || ldterm.stopped || ldterm.after_lnext || !is_raw(&ldterm.termios) {
@@ -83,13 +85,13 @@ pub(crate) fn pass_work<B: Blocks>(
     way: Way,
     band: Band,
 ) -> Outbox
-    requires held { IsHeld (B.value store.old) ldterm.old }
-    requires kept { AreIn (B.value store.old) (λ _. 0) (keeps ldterm.old) }
+    requires is { IfSome ldterm.old.in_work (λ m. IsData (B.value store.old) (token m)) }
     requires inside { 0 < here.at }
     requires small { here.at ≤ MODULES }
     requires work { is_some ldterm.old.in_work ≡ true }
-    ensures { (f : Fates) → let s = B.value store.old in let p = ldterm_in s ldterm.old in
-        Proceeds s (B.value store.new) ldterm.old ldterm.new 0 [] (sent_of result) f f
+    ensures { (q : QueuePair) (f : Fates) → let s = B.value store.old in let x = paired ldterm.old q in let p = ldterm_in s x in
+        IsHeld s x → AreIn s (λ _. 0) (keeps x) →
+        Proceeds s (B.value store.new) x (paired ldterm.new q) 0 [] (sent_of result) f f
         (sends (onward way here (data_of band.0 (cells_left p)) ∷ []) (record p { in_work = None })) }
 {
     let Some(message) = ldterm.in_work.take() else {
@@ -106,10 +108,10 @@ pub(crate) fn pass_work<B: Blocks>(
 /// Whether the message in work, so many bytes, goes down as it is: all of them stand in its first block, and go out as themselves. The cost
 /// is a step for each byte up to the first one that doesn't.
 pub(crate) fn goes_down<B: Blocks>(ldterm: &Ldterm, store: &B, bytes: usize) -> bool
-    requires held { IsHeld (B.value store.now) ldterm.now }
-    requires bytes { bytes ≡ length (cells_left (ldterm_in (B.value store.now) ldterm.now)) }
+    requires is { IfSome ldterm.now.in_work (λ m. IsData (B.value store.now) (token m)) }
     requires some { 0 < bytes }
-    ensures printed { result ≡ true → AllByRecursion (λ b. is_printed ldterm.now.termios b ≡ true) (cells_left (ldterm_in (B.value store.now) ldterm.now)) }
+    ensures printed { (q : QueuePair) → let cells = cells_left (ldterm_in (B.value store.now) (paired ldterm.now q)) in
+        bytes ≡ length cells → result ≡ true → AllByRecursion (λ b. is_printed ldterm.now.termios b ≡ true) cells }
     ensures short { result ≡ true → bytes ≤ 256 }
     ensures room { result ≡ true → HasRoom (B.value store.now) (STOP_BLOCKS + blocks_for bytes) }
 {
@@ -139,20 +141,17 @@ pub(crate) fn post_whole<B: Blocks>(
     band: Band,
     bytes: usize,
 ) -> Outbox
-    requires held { IsHeld (B.value store.old) ldterm.old }
-    requires kept { AreIn (B.value store.old) (λ _. 0) (keeps ldterm.old) }
+    requires is { IfSome ldterm.old.in_work (λ m. IsData (B.value store.old) (token m)) }
     requires inside { 0 < here.at }
     requires small { here.at ≤ MODULES }
     requires work { is_some ldterm.old.in_work ≡ true }
-    requires none { (ldterm_in (B.value store.old) ldterm.old).gathered ≡ [] }
-    requires bytes { bytes ≡ length (cells_left (ldterm_in (B.value store.old) ldterm.old)) }
     requires some { 0 < bytes }
     requires short { bytes ≤ 256 }
-    requires printed { AllByRecursion (λ b. is_printed ldterm.old.termios b ≡ true) (cells_left (ldterm_in (B.value store.old) ldterm.old)) }
     ensures column { ldterm.old.column ≤ COLUMN_MAX }
-    ensures did { (f : Fates) → let s = B.value store.old in
-        Proceeds s (B.value store.new) ldterm.old ldterm.new 0 [] (sent_of result) f f
-        (one_after (poured here bytes (ldterm_in s ldterm.old)) (let_go here band.0)) }
+    ensures did { (q : QueuePair) (f : Fates) → let s = B.value store.old in let x = paired ldterm.old q in let p = ldterm_in s x in
+        IsHeld s x → AreIn s (λ _. 0) (keeps x) → p.gathered ≡ [] → bytes ≡ length (cells_left p) →
+        AllByRecursion (λ b. is_printed ldterm.old.termios b ≡ true) (cells_left p) →
+        Proceeds s (B.value store.new) x (paired ldterm.new q) 0 [] (sent_of result) f f (one_after (poured here bytes p) (let_go here band.0)) }
 {
     let column = moved_on(ldterm.column, bytes);
     let sent = pass_work(ldterm, store, here, Way::Down, band);

@@ -1,12 +1,13 @@
 //! Turns of the write queue: bytes of M_DATA go out under OPOST, and all else goes down whole (ldterm(7M), "Write-side Behavior"; termio(7I):
 //! "Output Modes"; srv(9E); putbq(9F)).
 
-ghost use Rattle.std.specs.Prelude.{ℕ, Bool, ◌≡◌, ◌<◌, ◌≤◌, [], false, length, map, None};
+ghost use Rattle.std.specs.Prelude.{ℕ, Bool, ◌≡◌, ◌<◌, ◌≤◌, [], false, length, map, IfSome, None};
 ghost use Rattle.strm_types.specs.declared.limits.TheConstants.{MODULES};
 ghost use Rattle.strm_types.specs.declared.names.Way.TheVariants.{Down};
 ghost use Rattle.strm_types.specs.declared.rules.Fates.{Fates};
 ghost use Rattle.strm_types.specs.Input.{back_on, cells_left};
-ghost use Rattle.strm_types.specs.Ldterms.{onward, sends};
+ghost use Rattle.strm_types.specs.Deliver.{onward};
+ghost use Rattle.strm_types.specs.Ldterms.{sends};
 ghost use Rattle.strm_types.specs.Message.{cells_of};
 ghost use Rattle.strm_types.specs.OutputTurns.{with_given};
 ghost use Rattle.strm_blocks.specs.Blocks.{IsInHand, token};
@@ -17,7 +18,7 @@ ghost use Rattle.strm_ldterm.specs.Called.{ServesAs};
 ghost use Rattle.strm_ldterm.specs.Does.{Alters, Proceeds};
 ghost use Rattle.strm_queue.specs.Stored.{FreesNone};
 ghost use Rattle.strm_ldterm.specs.Outgone.{data_of, let_go};
-ghost use Rattle.strm_ldterm.specs.Stands.{IsData, IsHeld, keeps, ldterm_in, stage_in};
+ghost use Rattle.strm_ldterm.specs.Stands.{IsData, IsGathered, IsHeld, keeps, ldterm_in, stage_in, paired};
 ghost use Rattle.strm_ldterm.specs.Turns.{stages_left};
 
 use crate::call_ends::return_rest;
@@ -28,24 +29,25 @@ use crate::turn_starts::{OutputBegun, Passed, begin_output};
 use crate::wholes::{goes_down, post_whole};
 use arrayvec::ArrayVec;
 use strm_blocks::{Blocks, InHand};
-use strm_frame::{Acts, Outbox, Sent, Served};
+use strm_frame::{Acts, Outbox, QueuePair, Sent, Served};
 use strm_types::{Band, Fates, Spot, Way};
 
 // What is left of the message in work goes back to the front of the write queue.
-fn return_output<B: Blocks>(ldterm: &mut Ldterm, store: &mut B)
-    requires held { IsHeld (B.value store.old) ldterm.old }
-    requires kept { AreIn (B.value store.old) (λ _. 0) (keeps ldterm.old) }
-    ensures state { let p = ldterm_in (B.value store.old) ldterm.old in ldterm_in (B.value store.new) ldterm.new
+fn return_output<B: Blocks>(ldterm: &mut Ldterm, queues: &mut QueuePair, store: &mut B)
+    requires held { IsHeld (B.value store.old) (paired ldterm.old queues.old) }
+    requires kept { AreIn (B.value store.old) (λ _. 0) (keeps (paired ldterm.old queues.old)) }
+    ensures state { let p = ldterm_in (B.value store.old) (paired ldterm.old queues.old) in
+        ldterm_in (B.value store.new) (paired ldterm.new queues.new)
         ≡ record p { in_work = None; write_queue = back_on p.in_work p.write_queue } }
-    ensures alters { Alters (B.value store.old) (B.value store.new) ldterm.old ldterm.new }
-    ensures blocks { 0 < length (cells_left (ldterm_in (B.value store.old) ldterm.old)) →
+    ensures alters { Alters (B.value store.old) (B.value store.new) (paired ldterm.old queues.old) (paired ldterm.new queues.new) }
+    ensures blocks { 0 < length (cells_left (ldterm_in (B.value store.old) (paired ldterm.old queues.old))) →
         FreesNone (B.value store.old) (B.value store.new) }
 {
     let Some(message) = ldterm.in_work.take() else {
         return;
     };
     store.audit();
-    return_rest(store, &mut ldterm.write_queue, message);
+    return_rest(store, &mut queues.write, message);
 }
 
 // Does nothing. Its contract is what holds of every band, as its number is a byte.
@@ -70,12 +72,12 @@ pub(crate) fn reband<B: Blocks>(store: &mut B, message: &InHand, band: Band)
 
 // What was gathered goes down as one message of a band, where there is any.
 fn send_output<B: Blocks>(ldterm: &mut Ldterm, store: &mut B, here: Spot, band: Band) -> Outbox
-    requires held { IsHeld (B.value store.old) ldterm.old }
-    requires kept { AreIn (B.value store.old) (λ _. 0) (keeps ldterm.old) }
+    requires gathers { IfSome ldterm.old.gathered (λ m. IsGathered (B.value store.old) (token m)) }
     requires inside { 0 < here.at }
     requires small { here.at ≤ MODULES }
-    ensures did { (f : Fates) → let s = B.value store.old in let p = ldterm_in s ldterm.old in
-        Proceeds s (B.value store.new) ldterm.old ldterm.new 0 [] (sent_of result) f f
+    ensures did { (q : QueuePair) (f : Fates) → let s = B.value store.old in let x = paired ldterm.old q in let p = ldterm_in s x in
+        IsHeld s x → AreIn s (λ _. 0) (keeps x) →
+        Proceeds s (B.value store.new) x (paired ldterm.new q) 0 [] (sent_of result) f f
         (sends (map (onward Down here) (with_given p.gathered (data_of band.0 []))) (record p { gathered = [] })) }
     ensures blocks { FreesNone (B.value store.old) (B.value store.new) }
 {
@@ -93,18 +95,24 @@ fn send_output<B: Blocks>(ldterm: &mut Ldterm, store: &mut B, here: Spot, band: 
 // Ends a turn in which bytes went out: what is left of the message in work goes back to the front of the write queue, and what was gathered goes
 // down. It takes no block, and frees none where bytes are left. The cost is a step for each block of these messages, and for each message
 // of a higher rank on the write queue.
-fn let_go<B: Blocks>(ldterm: &mut Ldterm, store: &mut B, here: Spot, band: Band) -> Outbox
-    requires held { IsHeld (B.value store.old) ldterm.old }
-    requires kept { AreIn (B.value store.old) (λ _. 0) (keeps ldterm.old) }
+fn let_go<B: Blocks>(
+    ldterm: &mut Ldterm,
+    queues: &mut QueuePair,
+    store: &mut B,
+    here: Spot,
+    band: Band,
+) -> Outbox
+    requires held { IsHeld (B.value store.old) (paired ldterm.old queues.old) }
+    requires kept { AreIn (B.value store.old) (λ _. 0) (keeps (paired ldterm.old queues.old)) }
     requires inside { 0 < here.at }
     requires small { here.at ≤ MODULES }
     ensures did { (f : Fates) → let s = B.value store.old in
-        Proceeds s (B.value store.new) ldterm.old ldterm.new 0 [] (sent_of result) f f
-        (let_go here band.0 (ldterm_in s ldterm.old)) }
-    ensures blocks { 0 < length (cells_left (ldterm_in (B.value store.old) ldterm.old)) →
+        Proceeds s (B.value store.new) (paired ldterm.old queues.old) (paired ldterm.new queues.new) 0 [] (sent_of result) f f
+        (let_go here band.0 (ldterm_in s (paired ldterm.old queues.old))) }
+    ensures blocks { 0 < length (cells_left (ldterm_in (B.value store.old) (paired ldterm.old queues.old))) →
         FreesNone (B.value store.old) (B.value store.new) }
 {
-    return_output(ldterm, store);
+    return_output(ldterm, queues, store);
     store.audit();
     send_output(ldterm, store, here, band)
 }
@@ -115,21 +123,23 @@ fn let_go<B: Blocks>(ldterm: &mut Ldterm, store: &mut B, here: Spot, band: Band)
 /// step for each block of the message.
 pub(crate) fn serve_output<B: Blocks>(
     ldterm: &mut Ldterm,
+    queues: &mut QueuePair,
     store: &mut B,
     here: Spot,
     told: &mut Fates,
 ) -> Served
-    requires held { IsHeld (B.value store.old) ldterm.old }
-    requires kept { AreIn (B.value store.old) (λ _. 0) (keeps ldterm.old) }
+    requires held { IsHeld (B.value store.old) (paired ldterm.old queues.old) }
+    requires kept { AreIn (B.value store.old) (λ _. 0) (keeps (paired ldterm.old queues.old)) }
     requires inside { 0 < here.at }
     requires small { here.at ≤ MODULES }
     requires way { here.way ≡ Down }
-    requires rests { (i : ℕ) → keeps ldterm.old i ≡ 0 }
+    requires rests { (i : ℕ) → keeps (paired ldterm.old queues.old) i ≡ 0 }
     requires quiet { ldterm.old.echoing ≡ false }
     requires stage { stages_left (stage_in ldterm.old.stage) ≡ 0 }
-    ensures { (again : Bool) → ServesAs (B.value store.old) (B.value store.new) here ldterm.old ldterm.new again result told.old told.new }
+    ensures { (again : Bool) → ServesAs (B.value store.old) (B.value store.new) here (paired ldterm.old queues.old) (paired ldterm.new queues.new)
+        again result told.old told.new }
 {
-    match begin_output(ldterm, store, here) {
+    match begin_output(ldterm, queues, store, here) {
         OutputBegun::Whole(passed) => of_whole(passed),
         OutputBegun::InWork { bytes, band } => {
             store.audit();
@@ -137,9 +147,9 @@ pub(crate) fn serve_output<B: Blocks>(
                 let sent = post_whole(ldterm, store, here, band, bytes);
                 return of_whole(Passed { sent, bytes });
             }
-            let left = post_bytes(ldterm, store, here, bytes, told);
+            let left = post_bytes(ldterm, queues, store, here, bytes, told);
             store.audit();
-            let sent = let_go(ldterm, store, here, band);
+            let sent = let_go(ldterm, queues, store, here, band);
             Served {
                 acts: Acts {
                     notes: ArrayVec::new(),

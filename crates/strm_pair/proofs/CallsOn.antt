@@ -1,6 +1,6 @@
 -- The calls of a turn of a module's queue, one after the other, up to the one that asks for no other.
 use Rattle.std.proofs.Common.{ℕ, zero, suc, ◌≡◌, ◌≤◌, ◌<◌, ◌+◌, ◌-◌, ◌*◌, Bool, true, false, cond, List, [], ◌∷◌, ◌++◌, length, map, refl, sym, ap, subst, ◌∙◌, arith}
-use Rattle.std.specs.Prelude.{◌&&◌, ◌==◌, not, nat_lt, slice_index_or, None, Some}
+use Rattle.std.specs.Prelude.{◌&&◌, ◌==◌, not, nat_lt, slice_index_or, None, Some, Option, is_some}
 use Rattle.std.specs.Bool.{OnTrue}
 use Rattle.std.specs.List.{AllByRecursion}
 use Rattle.std.proofs.lemmas.Bool.{false≢true}
@@ -24,27 +24,28 @@ use Rattle.strm_types.specs.Queue.{first_size, left_with}
 use Rattle.strm_types.specs.Service.{Serving}
 use Rattle.strm_types.specs.Termios.{opost}
 use Rattle.strm_laws.specs.Kept.{AreIdle}
-use Rattle.strm_types.specs.Ldterms.{Ldterm, Stage, Between, Begun, Answered}
+use Rattle.strm_types.specs.LdtermStands.{disciplined}
+use Rattle.strm_types.specs.Ldterms.{Discipline, Stage, Between, Begun, Answered, new_ldterm}
 use Rattle.strm_laws.specs.ModuleTurns.{module_turn_ended, module_turned, moved_on}
 use Rattle.strm_laws.specs.Pair.{IsKeptAhead}
 use Rattle.strm_laws.specs.Refusals.{in_range}
 use Rattle.strm_laws.specs.Spares.{spare}
-use Rattle.strm_laws.specs.Stacked.{IsAtRest, Module, OfLdterm, OfPtem, OfPckt, module_serves}
+use Rattle.strm_laws.specs.Stacked.{IsAtRest, KindRests, Module, OfLdterm, OfPtem, OfPckt, Standing, module_serves}
 use Rattle.strm_laws.specs.State.{State, stream}
 use Rattle.strm_types.specs.LdtermCalls.{Begins, Ends, bytes_left}
-use Rattle.strm_laws.specs.TurnCalls.{Stopped, asks_on, ldterm_of, led, module_at, treated}
+use Rattle.strm_types.specs.Standings.{QueuePair, stood}
+use Rattle.strm_laws.specs.TurnCalls.{Stopped, asks_on, discipline_of, led, module_at, treated, none_there}
 use Rattle.strm_laws.specs.TurnOutcomes.{TurnOutcome}
 use Rattle.strm_laws.proofs.LdtermStops.{FullFirst}
-use Rattle.strm_laws.proofs.ModuleTurnCalls.{Reached, UnderWay, index-map, led-at, led-length, module-ends, moves-within, none_there, reached-last, reached-next, under_way}
+use Rattle.strm_laws.proofs.ModuleTurnCalls.{Reached, UnderWay, index-map, led-at, led-length, module-ends, module-goes, moves-within, reached-last, reached-next, under_way}
 use Rattle.strm_laws.proofs.StackSpares.{range-spare}
 use Rattle.strm_laws.proofs.Staying.{kept-ahead}
 use Rattle.strm_blocks.specs.Blocks.{StoreValue}
 use Rattle.strm_frame.specs.Serves.{least_free, stop_at}
-use Rattle.strm_pair.specs.AnyModules.{turn_cost}
+use Rattle.strm_pair.specs.AnyModules.{HasAsNamed, turn_cost}
 use Rattle.strm_pair.specs.declared.service_calls.Call.{Call}
 use Rattle.strm_pair.specs.ModuleServed.{LeavesFew, MayBook, StopsFew, TellsAs, TreatsAs, call_cost, call_units, stop_in}
 use Rattle.strm_pair.specs.ModuleTurned.{MayMove}
-use Rattle.strm_pair.proofs.ServeSteps.{module-goes}
 use Rattle.strm_pair.proofs.StopsFew.{led-same}
 use Rattle.strm_ldterm.proofs.Flushed.{tallied-append}
 
@@ -54,10 +55,10 @@ pub record GoOn (here : Spot) (bytes : ℕ) (s0 st : State ℕ) (f f' : Fates) :
   pub reached : Reached here s0 true bytes gone st
   pub tells : f' ≡ tallied gone f
   pub count : ℕ
-  pub few : count ≤ 3 * bytes + stages_done (ldterm_of (module_at here st)).stage
+  pub few : count ≤ 3 * bytes + stages_done (discipline_of (module_at here st)).stage
   pub some : 0 < count
   pub left : spare s0 ≤ spare st + (3 * bytes + 33 * count)
-  pub all : bytes_left here.way false (ldterm_of (module_at here s0)) ≤ bytes + bytes_left here.way true (ldterm_of (module_at here st))
+  pub all : bytes_left here.way false (discipline_of (module_at here s0)) ≤ bytes + bytes_left here.way true (discipline_of (module_at here st))
   pub opened : (side : Side) → (stream side st).opened ≡ (stream side s0).opened
 
 -- They go on, or the turn is at its end.
@@ -67,7 +68,7 @@ Along false here bytes s0 st f f' = TreatsAs here bytes s0 st f f'
 
 -- how many stages of bytes are still to come at most
 abbrev pub still_to_come : Bool → Spot → State ℕ → ℕ
-still_to_come true here s = suc (3 * bytes_left here.way true (ldterm_of (module_at here s)) - stages_done (ldterm_of (module_at here s)).stage)
+still_to_come true here s = suc (3 * bytes_left here.way true (discipline_of (module_at here s)) - stages_done (discipline_of (module_at here s)).stage)
 still_to_come false here s = 0
 
 done-few : (stage : Stage ℕ) → stages_done stage ≤ 2
@@ -75,18 +76,18 @@ done-few Between = omega arith
 done-few (Begun started c) = omega arith
 done-few (Answered echo) = omega arith
 
-begun-few : (stage : Stage ℕ) (l : Ldterm ℕ) → stages_done stage ≤ 3 * to_treat (record l { stage = stage })
+begun-few : (stage : Stage ℕ) (l : Discipline ℕ) → stages_done stage ≤ 3 * to_treat (record l { stage = stage })
 begun-few Between l = omega arith
 begun-few (Begun started c) l = omega arith
 begun-few (Answered echo) l = omega arith
 
--- of M_DATA that stands first on a module's queues each byte is a cell
-abbrev pub Full : Module ℕ → Type 0
-Full p = FullFirst (ldterm_of p).read_queue.messages × FullFirst (ldterm_of p).write_queue.messages
+-- of M_DATA that stands first on a module's queues each byte is a cell, and it has queues where those of its name have
+abbrev pub Full : Standing ℕ → Type 0
+Full p = FullFirst (discipline_of p).read_queue.messages × FullFirst (discipline_of p).write_queue.messages × HasAsNamed p
 
 -- What holds of the calls so far: what they treated and what is left are the message, as it was, and no side was opened or closed.
 pub record Since (here : Spot) (again : Bool) (bytes : ℕ) (s0 s : State ℕ) : Type 0 where
-  pub all : bytes_left here.way false (ldterm_of (module_at here s0)) ≤ bytes + bytes_left here.way again (ldterm_of (module_at here s))
+  pub all : bytes_left here.way false (discipline_of (module_at here s0)) ≤ bytes + bytes_left here.way again (discipline_of (module_at here s))
   pub full : again ≡ false → Full (module_at here s)
   pub opened : (side : Side) → (stream side s).opened ≡ (stream side s0).opened
 
@@ -101,13 +102,13 @@ module _ (here : Spot) where
   -- A call that goes on comes a stage further at least, and leaves less.
   record Further (again : Bool) (call : Call) (s st : State ℕ) : Type 0 where
     pub stop : stop_in call ≡ None
-    pub treat : bytes_left here.way true (ldterm_of (module_at here st)) + call.bytes ≤ bytes_left here.way again (ldterm_of (module_at here s))
-    pub done : suc (stages_done (ldterm_of (module_at here s)).stage) ≤ stages_done (ldterm_of (module_at here st)).stage + 3 * call.bytes
-    pub begun : stages_done (ldterm_of (module_at here st)).stage ≤ 3 * bytes_left here.way true (ldterm_of (module_at here st))
-    pub all : (again ≡ false → Full (module_at here s)) → bytes_left here.way again (ldterm_of (module_at here s)) ≤ bytes_left here.way true (ldterm_of (module_at here st)) + call.bytes
+    pub treat : bytes_left here.way true (discipline_of (module_at here st)) + call.bytes ≤ bytes_left here.way again (discipline_of (module_at here s))
+    pub done : suc (stages_done (discipline_of (module_at here s)).stage) ≤ stages_done (discipline_of (module_at here st)).stage + 3 * call.bytes
+    pub begun : stages_done (discipline_of (module_at here st)).stage ≤ 3 * bytes_left here.way true (discipline_of (module_at here st))
+    pub all : (again ≡ false → Full (module_at here s)) → bytes_left here.way again (discipline_of (module_at here s)) ≤ bytes_left here.way true (discipline_of (module_at here st)) + call.bytes
 
   further : (again : Bool) (call : Call) (s st : State ℕ) → TellsAs here again call s → st ≡ (led here again (stop_in call) s).state → here.at - 1 < length (stream here.side s).modules
-      → Begins here.way again (ldterm_of (module_at here s)) → call.again ≡ true → Further again call s st
+      → Begins here.way again (discipline_of (module_at here s)) → call.again ≡ true → Further again call s st
   further again call s st tells state low begins works =
       let none = none-in call (not-stopped call.stopped call.again tells.over works) in
       let i = here.at - 1 in
@@ -120,11 +121,11 @@ module _ (here : Spot) where
       let g = module-goes here again l begins more in
       let at = ap (λ v. under_way (module_at here v)) (state ∙ ap (λ o. (led here again o s).state) none) ∙ led-at here again None s low in
       let stage = ap (λ (x : UnderWay). stages_done x.stage) at in
-      let left = ap (λ w. bytes_left w true (ldterm_of (module_at here st))) g.up ∙ ap (λ (x : UnderWay). bytes_left Up true (record (ldterm_of (module_at here st)) { stage = x.stage; in_work = x.in_work })) at in
-      record { stop = none; treat = omega (arith, g.treat, bytes, left); all = λ full. omega (arith, g.all (λ first. (full first).0), bytes, left); done = omega (arith, g.done, bytes, stage); begun = subst (λ w. stages_done (ldterm_of (module_at here st)).stage ≤ 3 * bytes_left w true (ldterm_of (module_at here st))) (sym g.up) (begun-few (ldterm_of (module_at here st)).stage (ldterm_of (module_at here st))) }
+      let left = ap (λ w. bytes_left w true (discipline_of (module_at here st))) g.up ∙ ap (λ (x : UnderWay). bytes_left Up true (record (discipline_of (module_at here st)) { stage = x.stage; in_work = x.in_work })) at in
+      record { stop = none; treat = omega (arith, g.treat, bytes, left); all = λ full. omega (arith, g.all (λ first. (full first).0), bytes, left); done = omega (arith, g.done, bytes, stage); begun = subst (λ w. stages_done (discipline_of (module_at here st)).stage ≤ 3 * bytes_left w true (discipline_of (module_at here st))) (sym g.up) (begun-few (discipline_of (module_at here st)).stage (discipline_of (module_at here st))) }
 
   -- where a call stopped
-  stopped-at : (stopped : Bool) (again : Bool) (bytes : ℕ) (s : State ℕ) → bytes ≡ treated here again (stop_at stopped bytes) (stream here.side s).modules → OnTrue stopped (Ends here.way again (ldterm_of (module_at here s)) bytes)
+  stopped-at : (stopped : Bool) (again : Bool) (bytes : ℕ) (s : State ℕ) → bytes ≡ treated here again (stop_at stopped bytes) (stream here.side s).modules → OnTrue stopped (Ends here.way again (discipline_of (module_at here s)) bytes)
       → Stopped here again s (stop_at stopped bytes)
   stopped-at true again bytes s is ends = (is, ends)
   stopped-at false again bytes s is ends = tt
@@ -138,7 +139,7 @@ module _ (here : Spot) where
     told-on = told ∙ ap (tallied (led here again (stop_in call) s).gone) was ∙ sym (tallied-append gone (led here again (stop_in call) s).gone f)
 
     -- the turn goes on
-    goes-on : (count : ℕ) → count ≤ 3 * bytes + stages_done (ldterm_of (module_at here s)).stage → spare s0 ≤ spare s + (3 * bytes + 33 * count) → Since here again bytes s0 s
+    goes-on : (count : ℕ) → count ≤ 3 * bytes + stages_done (discipline_of (module_at here s)).stage → spare s0 ≤ spare s + (3 * bytes + 33 * count) → Since here again bytes s0 s
         → call.again ≡ true → GoOn here (bytes + call.bytes) s0 st f f''
     goes-on count few held since works =
         let on = further again call s st tells state r.inside r.begins works in
@@ -163,8 +164,8 @@ module _ (here : Spot) where
         }
 
     -- or it is at its end
-    ends-there : (count : ℕ) → count ≤ 3 * bytes + stages_done (ldterm_of (module_at here s)).stage → spare s0 ≤ spare s + (3 * bytes + 33 * count)
-        → (bytes + call.bytes ≡ 0 → bytes_left here.way false (ldterm_of (module_at here s0)) ≡ 0) → call.again ≡ false → TreatsAs here (bytes + call.bytes) s0 st f f''
+    ends-there : (count : ℕ) → count ≤ 3 * bytes + stages_done (discipline_of (module_at here s)).stage → spare s0 ≤ spare s + (3 * bytes + 33 * count)
+        → (bytes + call.bytes ≡ 0 → bytes_left here.way false (discipline_of (module_at here s0)) ≡ 0) → call.again ≡ false → TreatsAs here (bytes + call.bytes) s0 st f f''
     ends-there count few held went over =
         let ps = (stream here.side s).modules in
         let stop = stop_in call in
@@ -179,16 +180,16 @@ module _ (here : Spot) where
           stands = subst (λ v. here.at - 1 < length (stream here.side v).modules) (sym state) (omega (arith, r.inside, led-length here again stop s));
           moves = λ name. ap (λ n. moved_on plain here name n s0) (sym same) ∙ (last name).1 ∙ ap (λ n. to name n (led here again stop s).state) same ∙ ap (to name (bytes + call.bytes)) (sym state);
           tells = told-on;
-          left = omega (arith, held, falls, few, done-few (ldterm_of (module_at here s)).stage);
+          left = omega (arith, held, falls, few, done-few (discipline_of (module_at here s)).stage);
         }
 
-    pub along : (count : ℕ) → count ≤ 3 * bytes + stages_done (ldterm_of (module_at here s)).stage → spare s0 ≤ spare s + (3 * bytes + 33 * count) → Since here again bytes s0 s
-        → (call.again ≡ false → bytes + call.bytes ≡ 0 → bytes_left here.way false (ldterm_of (module_at here s0)) ≡ 0)
+    pub along : (count : ℕ) → count ≤ 3 * bytes + stages_done (discipline_of (module_at here s)).stage → spare s0 ≤ spare s + (3 * bytes + 33 * count) → Since here again bytes s0 s
+        → (call.again ≡ false → bytes + call.bytes ≡ 0 → bytes_left here.way false (discipline_of (module_at here s0)) ≡ 0)
         → (more : Bool) → call.again ≡ more → Along more here (bytes + call.bytes) s0 st f f''
     along count few held since went true is = goes-on count few held since is
     along count few held since went false is = ends-there count few held (went is) is
 
-    pub comes-closer : (more : Bool) → call.again ≡ more → still_to_come more here st < suc (3 * bytes_left here.way again (ldterm_of (module_at here s)) - stages_done (ldterm_of (module_at here s)).stage)
+    pub comes-closer : (more : Bool) → call.again ≡ more → still_to_come more here st < suc (3 * bytes_left here.way again (discipline_of (module_at here s)) - stages_done (discipline_of (module_at here s)).stage)
     comes-closer true works =
         let on = further again call s st tells state r.inside r.begins works in
         omega (arith, on.treat, on.done, on.begun)
@@ -196,18 +197,18 @@ module _ (here : Spot) where
 
 -- a turn treats a byte where its message has one
 module _ (here : Spot) where
-  input-whole : (ms : List (Message ℕ)) (l : Ldterm ℕ) → FullFirst ms → let t = input_begins plain (record here { way = Up }) None 0 ms l in t.again ≡ false → first_size ms ≤ t.bytes
+  input-whole : (ms : List (Message ℕ)) (l : Discipline ℕ) → FullFirst ms → let t = input_begins plain (record here { way = Up }) None 0 ms l in t.again ≡ false → first_size ms ≤ t.bytes
   input-whole [] l full over = omega arith
   input-whole (m ∷ rest) l full over = at (is_data m.kind) refl over
     where
       up : Spot
       up = record here { way = Up }
 
-      begun : Ldterm ℕ
+      begun : Discipline ℕ
       begun = record l { read_queue = left_with rest l.read_queue; in_work = Some m }
 
-      at : (typed : Bool) → is_data m.kind ≡ typed → (cond {A = Serving ℕ (Ldterm ℕ)} typed (treats plain up (length (cells_of m)) 0 begun) (passes plain up Up m rest l)).again ≡ false
-          → size_of m ≤ (cond {A = Serving ℕ (Ldterm ℕ)} typed (treats plain up (length (cells_of m)) 0 begun) (passes plain up Up m rest l)).bytes
+      at : (typed : Bool) → is_data m.kind ≡ typed → (cond {A = Serving ℕ (Discipline ℕ)} typed (treats plain up (length (cells_of m)) 0 begun) (passes plain up Up m rest l)).again ≡ false
+          → size_of m ≤ (cond {A = Serving ℕ (Discipline ℕ)} typed (treats plain up (length (cells_of m)) 0 begun) (passes plain up Up m rest l)).bytes
       at true is over =
           let t = stages plain up (3 * length (cells_of m) - stages_done l.stage) 0 begun in
           let bytes = ap (λ again. cond {A = ℕ} again (to_treat begun - to_treat t.state) (length (cells_of m))) over in
@@ -219,7 +220,7 @@ module _ (here : Spot) where
   both-first true b is = refl
   both-first false b is = absurd (false≢true is)
 
-  output-whole : (ms : List (Message ℕ)) (l : Ldterm ℕ) → FullFirst ms → first_size ms ≤ (output_serves plain (record here { way = Down }) None 0 ms l).bytes
+  output-whole : (ms : List (Message ℕ)) (l : Discipline ℕ) → FullFirst ms → first_size ms ≤ (output_serves plain (record here { way = Down }) None 0 ms l).bytes
   output-whole [] l full = omega arith
   output-whole (m ∷ rest) l full = at (is_data m.kind && opost l.termios) refl (cells_of m) refl
     where
@@ -229,26 +230,33 @@ module _ (here : Spot) where
       at true is [] long = omega arith
       at true is (x ∷ xs) long = let whole = full (both-first (is_data m.kind) (opost l.termios) is) in let size = ap length long in omega (arith, whole, size, length-take (length xs) xs)
 
-  whole-at : (way : Way) (again : Bool) (p : Module ℕ) → Full p → let t = module_serves plain (record here { way = way }) 0 again None p in t.again ≡ false → bytes_left way again (ldterm_of p) ≤ t.bytes
-  whole-at Up false (OfLdterm l) full over = input-whole l.read_queue.messages l full.0 over
-  whole-at Up true (OfLdterm l) full over =
-      let t = stages plain (record here { way = Up }) (3 * to_treat l - stages_done l.stage) 0 l in
-      let bytes = ap (λ again. cond {A = ℕ} again (to_treat l - to_treat t.state) (to_treat l)) over in
-      omega (arith, bytes)
-  whole-at Down false (OfLdterm l) full over = output-whole l.write_queue.messages l full.1
-  whole-at Down true (OfLdterm l) full over = output-whole l.write_queue.messages l full.1
-  whole-at Up false (OfPtem p) full over = omega arith
-  whole-at Up true (OfPtem p) full over = omega arith
-  whole-at Down false (OfPtem p) full over = omega arith
-  whole-at Down true (OfPtem p) full over = omega arith
-  whole-at Up false (OfPckt p) full over = omega arith
-  whole-at Up true (OfPckt p) full over = omega arith
-  whole-at Down false (OfPckt p) full over = omega arith
-  whole-at Down true (OfPckt p) full over = omega arith
+  -- one without a turn of its own has nothing left
+  none-left : (way : Way) (again : Bool) (queues : Option (QueuePair ℕ)) → is_some queues ≡ false → bytes_left way again (disciplined new_ldterm queues) ≤ 0
+  none-left way again (Some pair) none = absurd (false≢true (sym none))
+  none-left Up false None none = omega arith
+  none-left Up true None none = omega arith
+  none-left Down false None none = omega arith
+  none-left Down true None none = omega arith
+
+  whole-at : (way : Way) (again : Bool) (p : Standing ℕ) → Full p → let t = module_serves plain (record here { way = way }) 0 again None p in t.again ≡ false → bytes_left way again (discipline_of p) ≤ t.bytes
+  whole-at way again p full over = by way again p.part full over
+    where
+      by : (way : Way) (again : Bool) (part : Module ℕ) → let q = stood part p.queues in Full q → let t = module_serves plain (record here { way = way }) 0 again None q in t.again ≡ false
+          → bytes_left way again (discipline_of q) ≤ t.bytes
+      by Up false (OfLdterm l) full over = let d = disciplined l p.queues in input-whole d.read_queue.messages d full.0 over
+      by Up true (OfLdterm l) full over =
+          let d = disciplined l p.queues in
+          let t = stages plain (record here { way = Up }) (3 * to_treat d - stages_done d.stage) 0 d in
+          let bytes = ap (λ again. cond {A = ℕ} again (to_treat d - to_treat t.state) (to_treat d)) over in
+          omega (arith, bytes)
+      by Down false (OfLdterm l) full over = let d = disciplined l p.queues in output-whole d.write_queue.messages d full.1
+      by Down true (OfLdterm l) full over = let d = disciplined l p.queues in output-whole d.write_queue.messages d full.1
+      by way again (OfPtem q) full over = none-left way again p.queues full.2
+      by way again (OfPckt q) full over = none-left way again p.queues full.2
 
   -- a last call that didn't stop treats all that was left
   module _ (again : Bool) (call : Call) (s : State ℕ) (tells : TellsAs here again call s) (low : here.at - 1 < length (stream here.side s).modules) (full : Full (module_at here s)) (over : call.again ≡ false) where
-    went-all : call.stopped ≡ false → bytes_left here.way again (ldterm_of (module_at here s)) ≤ call.bytes
+    went-all : call.stopped ≡ false → bytes_left here.way again (discipline_of (module_at here s)) ≤ call.bytes
     went-all goes =
         let on = none-in here call goes in
         let i = here.at - 1 in
@@ -261,33 +269,33 @@ module _ (here : Spot) where
     leaves-few : (bytes : ℕ) (s0 : State ℕ) (t : StoreValue) → Since here again bytes s0 s → LeavesFew here again call s t → StopsFew here (bytes + call.bytes) s0 t
     leaves-few bytes s0 t since few = at call.stopped refl few
       where
-        at : (stopped : Bool) → call.stopped ≡ stopped → OnTrue stopped (call.bytes < bytes_left here.way again (ldterm_of (module_at here s)) → IsKeptAhead here.way here.side s → least_free t < STOP_BLOCKS)
+        at : (stopped : Bool) → call.stopped ≡ stopped → OnTrue stopped (call.bytes < bytes_left here.way again (discipline_of (module_at here s)) → IsKeptAhead here.way here.side s → least_free t < STOP_BLOCKS)
             → StopsFew here (bytes + call.bytes) s0 t
         at true is few = λ less ahead. few (omega (arith, since.all, less)) (kept-ahead here.way here.side s0 s since.opened ahead)
         at false is few = λ less ahead. absurd (let all = went-all is in omega (arith, all, since.all, less))
 
   -- a first call that is the last one
   module _ (call : Call) (s : State ℕ) (tells : TellsAs here false call s) (low : here.at - 1 < length (stream here.side s).modules) (full : Full (module_at here s)) (over : call.again ≡ false) (none : call.bytes ≡ 0) where
-    went-whole : call.stopped ≡ false → bytes_left here.way false (ldterm_of (module_at here s)) ≡ 0
+    went-whole : call.stopped ≡ false → bytes_left here.way false (discipline_of (module_at here s)) ≡ 0
     went-whole goes = let all = went-all false call s tells low full over goes in omega (arith, all, none)
 
     stopped-some : (stopped : Bool) (M : Type 0) → M → OnTrue stopped (M → 0 < call.bytes) → stopped ≡ true → 0 < call.bytes
     stopped-some true M many some is = some many
     stopped-some false M many some is = absurd (false≢true is)
 
-    pub first-went : (M : Type 0) → M → OnTrue call.stopped (M → 0 < call.bytes) → bytes_left here.way false (ldterm_of (module_at here s)) ≡ 0
+    pub first-went : (M : Type 0) → M → OnTrue call.stopped (M → 0 < call.bytes) → bytes_left here.way false (discipline_of (module_at here s)) ≡ 0
     first-went M many some = at call.stopped refl
       where
-        at : (stopped : Bool) → call.stopped ≡ stopped → bytes_left here.way false (ldterm_of (module_at here s)) ≡ 0
+        at : (stopped : Bool) → call.stopped ≡ stopped → bytes_left here.way false (discipline_of (module_at here s)) ≡ 0
         at true is = let went = stopped-some call.stopped M many some is in absurd (omega (arith, went, none))
         at false is = went-whole is
 
   -- the last call treats what has begun
-  last-done : (again : Bool) (call : Call) (s : State ℕ) → TellsAs here again call s → here.at - 1 < length (stream here.side s).modules → Begins here.way again (ldterm_of (module_at here s)) → call.again ≡ false
-      → stages_done (ldterm_of (module_at here s)).stage ≤ 3 * call.bytes
+  last-done : (again : Bool) (call : Call) (s : State ℕ) → TellsAs here again call s → here.at - 1 < length (stream here.side s).modules → Begins here.way again (discipline_of (module_at here s)) → call.again ≡ false
+      → stages_done (discipline_of (module_at here s)).stage ≤ 3 * call.bytes
   last-done again call s tells low begins over = at call.stopped refl tells.ends
     where
-      at : (stopped : Bool) → call.stopped ≡ stopped → OnTrue stopped (Ends here.way again (ldterm_of (module_at here s)) call.bytes) → stages_done (ldterm_of (module_at here s)).stage ≤ 3 * call.bytes
+      at : (stopped : Bool) → call.stopped ≡ stopped → OnTrue stopped (Ends here.way again (discipline_of (module_at here s)) call.bytes) → stages_done (discipline_of (module_at here s)).stage ≤ 3 * call.bytes
       at true is ends = ends.done
       at false is ends =
           let on = none-in here call is in
@@ -300,7 +308,7 @@ module _ (here : Spot) where
 
   -- and so calls behind the first one treat a byte
   pub later-went : (bytes : ℕ) (s0 s : State ℕ) (f f' : Fates) (call : Call) → GoOn here bytes s0 s f f' → TellsAs here true call s → call.again ≡ false → bytes + call.bytes ≡ 0
-      → bytes_left here.way false (ldterm_of (module_at here s0)) ≡ 0
+      → bytes_left here.way false (discipline_of (module_at here s0)) ≡ 0
   later-went bytes s0 s f f' call on tells over none =
       let done = last-done true call s tells on.reached.inside on.reached.begins over in
       absurd (let few = on.few in let some = on.some in omega (arith, few, some, done, none))
@@ -317,27 +325,30 @@ few-along here again call s tells low full bytes s0 t since few false is = leave
 
 -- what a first call begins with
 module _ (here : Spot) where
-  rest-at : (i : ℕ) (ps : List (Module ℕ)) → AllByRecursion (λ p. IsAtRest p) ps → i < length ps → IsAtRest (slice_index_or ps i none_there)
+  rest-at : (i : ℕ) (ps : List (Standing ℕ)) → AllByRecursion (λ p. IsAtRest p) ps → i < length ps → IsAtRest (slice_index_or ps i none_there)
   rest-at i [] rest low = absurd (omega (arith, low))
   rest-at zero (p ∷ ps) rest low = rest.0
   rest-at (suc i) (p ∷ ps) rest low = rest-at i ps rest.1 (omega (arith, low))
 
-  begins-rested : (way : Way) (p : Module ℕ) → IsAtRest p → Begins way false (ldterm_of p)
-  begins-rested Up (OfLdterm l) rest = rest
-  begins-rested Down (OfLdterm l) rest = rest
-  begins-rested Up (OfPtem p) rest = (refl, refl, refl, refl)
-  begins-rested Down (OfPtem p) rest = (refl, refl, refl, refl)
-  begins-rested Up (OfPckt p) rest = (refl, refl, refl, refl)
-  begins-rested Down (OfPckt p) rest = (refl, refl, refl, refl)
+  begins-rested : (way : Way) (p : Standing ℕ) → IsAtRest p → Begins way false (discipline_of p)
+  begins-rested way p rest = by way p.part rest
+    where
+      by : (way : Way) (part : Module ℕ) → KindRests part → Begins way false (discipline_of (stood part p.queues))
+      by Up (OfLdterm l) rest = rest
+      by Down (OfLdterm l) rest = rest
+      by Up (OfPtem q) rest = (refl, refl, refl, refl)
+      by Down (OfPtem q) rest = (refl, refl, refl, refl)
+      by Up (OfPckt q) rest = (refl, refl, refl, refl)
+      by Down (OfPckt q) rest = (refl, refl, refl, refl)
 
-  pub first-begins : (s : State ℕ) → AreIdle s → here.at - 1 < length (stream here.side s).modules → Begins here.way false (ldterm_of (module_at here s))
+  pub first-begins : (s : State ℕ) → AreIdle s → here.at - 1 < length (stream here.side s).modules → Begins here.way false (discipline_of (module_at here s))
   first-begins s idle low = begins-rested here.way (module_at here s) (rest-at (here.at - 1) (stream here.side s).modules (idle here.side) low)
 
-  one-first : (way : Way) (p : Module ℕ) → turn_cost (record here { way = way }) false p ≤ 25
+  one-first : (way : Way) (p : Standing ℕ) → turn_cost (record here { way = way }) false p ≤ 25
   one-first Up p = omega arith
   one-first Down p = omega arith
 
-  first-among : (i : ℕ) (ps : List (Module ℕ)) → slice_index_or (map (turn_cost here false) ps) i 0 ≤ 25
+  first-among : (i : ℕ) (ps : List (Standing ℕ)) → slice_index_or (map (turn_cost here false) ps) i 0 ≤ 25
   first-among i [] = omega arith
   first-among zero (p ∷ ps) = one-first here.way p
   first-among (suc i) (p ∷ ps) = first-among i ps
@@ -346,18 +357,18 @@ module _ (here : Spot) where
   first-cost s = first-among (here.at - 1) (stream here.side s).modules
 
   -- the books have room for what a turn makes of one message
-  pub first-books : (s : State ℕ) → in_range s ≡ true → bytes_left here.way false (ldterm_of (module_at here s)) ≤ 16777216 → MayBook here false s
+  pub first-books : (s : State ℕ) → in_range s ≡ true → bytes_left here.way false (discipline_of (module_at here s)) ≤ 16777216 → MayBook here false s
   first-books s room few = omega (arith, range-spare s room, few)
 
-  pub next-books : (bytes : ℕ) (s0 s : State ℕ) (f f' : Fates) → in_range s0 ≡ true → bytes_left here.way false (ldterm_of (module_at here s0)) ≤ 16777216 → GoOn here bytes s0 s f f' → MayBook here true s
-  next-books bytes s0 s f f' room few on = omega (arith, range-spare s0 room, few, on.reached.within, on.few, on.left, done-few (ldterm_of (module_at here s)).stage)
+  pub next-books : (bytes : ℕ) (s0 s : State ℕ) (f f' : Fates) → in_range s0 ≡ true → bytes_left here.way false (discipline_of (module_at here s0)) ≤ 16777216 → GoOn here bytes s0 s f f' → MayBook here true s
+  next-books bytes s0 s f f' room few on = omega (arith, range-spare s0 room, few, on.reached.within, on.few, on.left, done-few (discipline_of (module_at here s)).stage)
 
 -- a turn whose calls treated so many bytes
 pub turned-by : (name : QueueName) (here : Spot) (bytes : ℕ) (old s0 st : State ℕ) (f f' : Fates) → MayMove old s0 name here → (treats : TreatsAs here bytes s0 st f f')
     → module_turned plain name (Moved bytes) old ≡ record { turn = Moved bytes; state = module_turn_ended name here (not (bytes == 0)) st; gone = treats.gone }
 turned-by name here bytes old s0 st f f' may treats =
-    let within = subst (λ v. bytes ≤ bytes_left here.way false (ldterm_of (module_at here v))) may.stays treats.within in
-    let some = subst (λ v. bytes ≡ 0 → bytes_left here.way false (ldterm_of (module_at here v)) ≡ 0) may.stays treats.some in
+    let within = subst (λ v. bytes ≤ bytes_left here.way false (discipline_of (module_at here v))) may.stays treats.within in
+    let some = subst (λ v. bytes ≡ 0 → bytes_left here.way false (discipline_of (module_at here v)) ≡ 0) may.stays treats.some in
     may.moves (Moved bytes) ∙ moves-within here name bytes old (omega (arith, may.inside, may.within)) within some ∙ ap (λ v. moved_on plain here name bytes v) (sym may.stays) ∙ treats.moves name
 
 -- bytes were taken where some were treated

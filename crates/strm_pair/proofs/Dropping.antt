@@ -9,12 +9,12 @@ use Rattle.strm_types.specs.declared.slots.Slot.TheVariants.{Free, Waiting, Answ
 use Rattle.strm_types.specs.Dropped.{number_sought}
 use Rattle.strm_types.proofs.BySide.{get-set-same}
 use Rattle.strm_laws.specs.Pushes.{mode_behind, taken_off, top_on, top_taken}
-use Rattle.strm_laws.specs.Stacked.{Module}
+use Rattle.strm_laws.specs.Stacked.{Standing}
 use Rattle.strm_laws.specs.State.{State, Stream, stream}
 use Rattle.strm_head.specs.Heads.{plain_slot}
 use Rattle.strm_pair.proofs.Modes.{ioctl-stays}
 
-top-stays : (rule : Rule) (side : Side) (ps : List (Module ℕ)) (s : State ℕ) → (stream side (top_taken rule side ps s).state).head.ioctl ≡ (stream side s).head.ioctl
+top-stays : (rule : Rule) (side : Side) (ps : List (Standing ℕ)) (s : State ℕ) → (stream side (top_taken rule side ps s).state).head.ioctl ≡ (stream side s).head.ioctl
 top-stays rule side [] s = refl
 top-stays rule side (p ∷ ps) s = ap (λ (x : Stream ℕ). x.head.ioctl) (get-set-same side (record (stream side s) { modules = ps }) s.ends)
 

@@ -32,10 +32,11 @@ use Rattle.strm_image.specs.Counts.{laid_blocks, queue_blocks}
 use Rattle.strm_image.specs.ModuleTexts.{module_now, modules_now, names_now}
 use Rattle.strm_image.specs.QueueTexts.{queue_now}
 use Rattle.strm_image.specs.StreamTexts.{laid_now}
-use Rattle.strm_ldterm.specs.declared.ldterm.Tables.{Tables}
+use Rattle.strm_frame.specs.declared.queue_pair.Tables.{Tables}
 use Rattle.strm_pair.specs.declared.ends.StreamEnd.{StreamEnd}
 use Rattle.strm_pair.specs.declared.modules.AnyModule.{AnyModule}
-use Rattle.strm_pair.specs.AnyModules.{module_in, owns}
+use Rattle.strm_pair.specs.AnyModules.{module_in}
+use Rattle.strm_frame.specs.Standings.{owns}
 use Rattle.strm_pair.specs.Laying.{IsStood, IsStreamText, stream_now}
 use Rattle.strm_pair.specs.Placing.{AreStacked, module_blocks}
 use Rattle.strm_pair.specs.Runs.{Spent}

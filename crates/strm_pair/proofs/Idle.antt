@@ -8,7 +8,7 @@ use Rattle.strm_laws.specs.Closes.{head_emptied}
 use Rattle.strm_types.specs.Emptied.{of_all}
 use Rattle.strm_laws.specs.Kept.{AreIdle}
 use Rattle.strm_laws.specs.Pushes.{top_taken}
-use Rattle.strm_laws.specs.Stacked.{Module}
+use Rattle.strm_laws.specs.Stacked.{Standing}
 use Rattle.strm_laws.specs.State.{State, Stream, stream, with_stream}
 use Rattle.strm_laws.proofs.ModulesIdle.{AllIdle}
 
@@ -16,7 +16,7 @@ use Rattle.strm_laws.proofs.ModulesIdle.{AllIdle}
 pub idle-with : (side : Side) (t : Stream ℕ) (s : State ℕ) → AllIdle t.modules → AreIdle s → AreIdle (with_stream side t s)
 idle-with side t s rest idle = set-all (λ sd (x : Stream ℕ). AllIdle x.modules) side t s.ends rest idle
 
-these-taken : (rule : Rule) (side : Side) (ps : List (Module ℕ)) (s : State ℕ) → AllIdle ps → AreIdle s → AreIdle (top_taken rule side ps s).state
+these-taken : (rule : Rule) (side : Side) (ps : List (Standing ℕ)) (s : State ℕ) → AllIdle ps → AreIdle s → AreIdle (top_taken rule side ps s).state
 these-taken rule side [] s all idle = idle
 these-taken rule side (p ∷ ps) s all idle = idle-with side (record (stream side s) { modules = ps }) s all.1 idle
 

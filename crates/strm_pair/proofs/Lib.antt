@@ -4,6 +4,7 @@ pub mod Leading
 pub mod InHand
 pub mod Sides
 pub mod Becoming
+pub mod KindsDo
 pub mod MadeModules
 pub mod ModuleTaken
 pub mod Takings

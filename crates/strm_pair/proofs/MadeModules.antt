@@ -1,17 +1,17 @@
--- A module as its name makes it.
+-- The queues that a module is given as its name makes it.
 use Rattle.std.proofs.Common.{ℕ, zero, suc, ◌≡◌, ◌≢◌, ◌<◌, ◌≤◌, ◌+◌, Bool, true, false, cond, [], refl, sym, ap, arith}
 use Rattle.std.proofs.lemmas.Bool.Decides.{nat_tests}
-use Rattle.std.specs.Prelude.{Some, ◌==◌}
-use Rattle.strm_types.specs.declared.names.ModuleName.TheVariants as names
-use Rattle.strm_types.specs.Ldterms.{new_ldterm}
-use Rattle.strm_laws.specs.Stacked.{OfLdterm}
+use Rattle.std.proofs.lemmas.Bool.{false≢true}
+use Rattle.std.specs.Prelude.{Option, None, Some, IfSome, is_some, ◌==◌}
+use Rattle.strm_types.specs.declared.names.ModuleName.{ModuleName}
+use Rattle.strm_types.specs.Standings.{new_pair}
+use Rattle.strm_laws.specs.Pushes.{queues_named}
 use Rattle.strm_blocks.specs.Blocks.{StoreValue, list_at}
 use Rattle.strm_frame.proofs.Handing.{once-self}
+use Rattle.strm_frame.specs.declared.queue_pair.QueuePair.{QueuePair}
 use Rattle.strm_frame.specs.Hands.{once}
-use Rattle.strm_ldterm.specs.declared.ldterm.Ldterm.{Ldterm}
-use Rattle.strm_ldterm.specs.Stands.{IsHeld, keeps, ldterm_in, owns}
-use Rattle.strm_pair.specs.declared.modules.AnyModule.TheVariants as kinds
-use Rattle.strm_pair.specs.AnyModules.{IsMade}
+use Rattle.strm_frame.specs.Standings.{IsPairReady, queues_in, queues_own}
+use Rattle.strm_pair.specs.Given.{GivenFor}
 use Rattle.strm_pair.proofs.ModuleTaken.{once-is}
 
 -- two names are never one
@@ -25,36 +25,43 @@ once-two a b k apart = by (a == k) (b == k) refl refl
     by false true one two = omega arith
     by false false one two = omega arith
 
--- two lists from a number on are its own, and no other one
-module _ (first : ℕ) (x : Ldterm) (own : (k : ℕ) → owns x k ≡ once first k + once (first + 1) k) where
-  pub own-within : (k : ℕ) → 0 < owns x k → (first ≤ k) × (k < first + 2)
-  own-within k some = by (once first k) refl
+-- there are none, or some
+pub none-are : (queues : Option QueuePair) → is_some queues ≡ false → queues ≡ None
+none-are None is = refl
+none-are (Some pair) is = absurd (false≢true (sym is))
+
+pub some-own : (queues : Option QueuePair) (k : ℕ) → 0 < queues_own queues k → is_some queues ≡ true
+some-own None k some = absurd (omega (arith, some))
+some-own (Some pair) k some = refl
+
+-- their two lists are from a number on, and no other one
+module _ (name : ModuleName) (first : ℕ) where
+  pub own-within : (queues : Option QueuePair) → GivenFor name first queues → (k : ℕ) → 0 < queues_own queues k → (first ≤ k) × (k < first + 2)
+  own-within queues given k some = by (once first k) refl
     where
+      own : queues_own queues k ≡ once first k + once (first + 1) k
+      own = given.own (some-own queues k some) k
+
       by : (n : ℕ) → once first k ≡ n → (first ≤ k) × (k < first + 2)
-      by zero none = let at = once-is (first + 1) k (omega (arith, some, none, own k)) in (omega (arith, at), omega (arith, at))
+      by zero none = let at = once-is (first + 1) k (omega (arith, some, none, own)) in (omega (arith, at), omega (arith, at))
       by (suc n) one = let at = once-is first k (omega (arith, one)) in (omega (arith, at), omega (arith, at))
 
-  pub own-apart : (k : ℕ) → owns x k ≤ 1
-  own-apart k = omega (arith, own k, once-two first (first + 1) k (λ e. absurd (omega (arith, e))))
+  pub own-apart : (queues : Option QueuePair) → GivenFor name first queues → (k : ℕ) → queues_own queues k ≤ 1
+  own-apart None given k = omega arith
+  own-apart (Some pair) given k = omega (arith, given.own refl k, once-two first (first + 1) k (λ e. absurd (omega (arith, e))))
 
-module _ (first : ℕ) (x : Ldterm)
-    (made : (s : StoreValue) → list_at s first ≡ [] → list_at s (first + 1) ≡ [] → ldterm_in s x ≡ new_ldterm)
-    (held : (s : StoreValue) → list_at s first ≡ [] → list_at s (first + 1) ≡ [] → IsHeld s x)
-    (rests : (i : ℕ) → keeps x i ≡ 0)
-    (own : (k : ℕ) → owns x k ≡ once first k + once (first + 1) k) where
-  -- both lists are its own
-  reads : (s : StoreValue) → ((k : ℕ) → 0 < owns x k → list_at s k ≡ []) → list_at s first ≡ []
-  reads s empty = empty first (omega (arith, own first, once-self first))
+  -- where nothing stands on them they are new
+  module _ (s : StoreValue) where
+    first-empty : (pair : QueuePair) → GivenFor name first (Some pair) → ((k : ℕ) → 0 < queues_own (Some pair) k → list_at s k ≡ []) → list_at s first ≡ []
+    first-empty pair given empty = empty first (omega (arith, given.own refl first, once-self first))
 
-  writes : (s : StoreValue) → ((k : ℕ) → 0 < owns x k → list_at s k ≡ []) → list_at s (first + 1) ≡ []
-  writes s empty = empty (first + 1) (omega (arith, own (first + 1), once-self (first + 1)))
+    next-empty : (pair : QueuePair) → GivenFor name first (Some pair) → ((k : ℕ) → 0 < queues_own (Some pair) k → list_at s k ≡ []) → list_at s (first + 1) ≡ []
+    next-empty pair given empty = empty (first + 1) (omega (arith, given.own refl (first + 1), once-self (first + 1)))
 
-  pub ldterm-made : IsMade first names.Ldterm (kinds.Ldterm x)
-  ldterm-made = record {
-    named = λ s. refl;
-    state = λ s empty. ap (λ l. Some (OfLdterm l)) (sym (made s (reads s empty) (writes s empty)));
-    held = λ s empty. held s (reads s empty) (writes s empty);
-    within = own-within first x own;
-    apart = own-apart first x own;
-    rests = rests;
-  }
+    pub given-are : (queues : Option QueuePair) → GivenFor name first queues → ((k : ℕ) → 0 < queues_own queues k → list_at s k ≡ []) → queues_in s queues ≡ queues_named name
+    given-are None given empty = ap (λ has. cond has (Some new_pair) None) given.has
+    given-are (Some pair) given empty = given.state s (first-empty pair given empty) (next-empty pair given empty)
+
+    pub given-ready : (queues : Option QueuePair) → GivenFor name first queues → ((k : ℕ) → 0 < queues_own queues k → list_at s k ≡ []) → IfSome queues (IsPairReady s)
+    given-ready None given empty = tt
+    given-ready (Some pair) given empty = given.ready s (first-empty pair given empty) (next-empty pair given empty)

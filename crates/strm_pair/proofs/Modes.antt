@@ -1,7 +1,8 @@
 -- A head that is told its read mode, and what stands on the stream beside it.
 use Rattle.std.proofs.Common.{ℕ, suc, ◌≡◌, Bool, true, false, cond, List, [], ◌∷◌, refl, sym, ap, ◌∙◌, arith}
 use Rattle.std.proofs.lemmas.Bool.Decides.{nat_tests}
-use Rattle.std.specs.Prelude.{Option, None, Some, is_some, ◌&&◌, not, nat_le, nat_lt, min, length}
+use Rattle.std.specs.Prelude.{Option, None, Some, is_some, ◌&&◌, ◌||◌, not, nat_le, nat_lt, min, length}
+use Rattle.std.specs.List.{AllByRecursion}
 use Rattle.strm_types.specs.declared.limits.TheConstants.{MODULES}
 use Rattle.strm_types.specs.declared.modes.ReadMode.{ReadMode}
 use Rattle.strm_types.specs.declared.names.ModuleName.{ModuleName}
@@ -14,22 +15,19 @@ use Rattle.strm_types.specs.Cells.{plain}
 use Rattle.strm_types.specs.Deliver.{Carried, Fate, Goes, Took}
 use Rattle.strm_laws.specs.Earlier.{before_among, before_by, places_of}
 use Rattle.strm_types.specs.Heads.{with_options}
-use Rattle.strm_types.specs.Ldterms.{new_ldterm}
 use Rattle.strm_types.specs.Message.{cells_of}
 use Rattle.strm_types.specs.ModuleQueues.{first_place}
 use Rattle.strm_types.specs.Modules.{stands}
-use Rattle.strm_types.specs.Names.{direction_at, driver_of, enable_if, is_open, other, place_of}
-use Rattle.strm_types.specs.Options.{options_in}
-use Rattle.strm_types.specs.Pckts.{new_pckt}
-use Rattle.strm_types.specs.Ptems.{new_ptem}
-use Rattle.strm_types.specs.Options.{mode_message, mode_number}
+use Rattle.strm_types.specs.Names.{direction_at, driver_of, enable_if, is_open, other, place_of, same_module}
+use Rattle.strm_types.specs.Options.{options_in, mode_message, mode_number}
 use Rattle.strm_types.proofs.BySide.{get-set-same}
-use Rattle.strm_laws.specs.Pushes.{enable_waiting, head_above, let_come, may_stand, mode_on_push, mode_put, named_by, pushed_named, with_modules}
+use Rattle.strm_laws.specs.Pushes.{enable_waiting, head_above, let_come, may_stand, mode_on_push, mode_put, module_named, named_by, pushed_named, with_modules}
 use Rattle.strm_laws.specs.Puts.{delivered}
 use Rattle.strm_types.specs.Queue.{is_none_left}
-use Rattle.strm_laws.specs.Stacked.{Module, OfLdterm, OfPtem, OfPckt, module_name, module_queue}
+use Rattle.strm_laws.specs.Stacked.{Standing, module_name}
 use Rattle.strm_laws.specs.State.{State, Stream, stream, with_stream}
 use Rattle.strm_laws.proofs.FlushDelivered.{carries, went_on}
+use Rattle.strm_pair.specs.AnyModules.{HasAsNamed}
 
 -- what it does at a head that is open, and at one that isn't
 abbrev told_mode : Bool → Side → ReadMode → State ℕ → Carried ℕ (State ℕ)
@@ -82,18 +80,18 @@ ioctl-stays side None s = refl
 ioctl-stays side (Some mode) s = ap (λ (t : Carried ℕ (State ℕ)). (stream side t.state).head.ioctl) (puts-mode side mode s) ∙ ioctl-told (is_open (stream side s).opened) side mode s
 
 -- the same with these modules
-abbrev among : Side → List (Module ℕ) → Carried ℕ (State ℕ) → Carried ℕ (State ℕ)
+abbrev among : Side → List (Standing ℕ) → Carried ℕ (State ℕ) → Carried ℕ (State ℕ)
 among side ms t = record { state = with_modules side ms t.state; gone = t.gone }
 
-told-among : (opened : Bool) (side : Side) (mode : ReadMode) (ms : List (Module ℕ)) (s : State ℕ) → told_mode opened side mode (with_modules side ms s) ≡ among side ms (told_mode opened side mode s)
+told-among : (opened : Bool) (side : Side) (mode : ReadMode) (ms : List (Standing ℕ)) (s : State ℕ) → told_mode opened side mode (with_modules side ms s) ≡ among side ms (told_mode opened side mode s)
 told-among true Master mode ms s = refl
 told-among true Slave mode ms s = refl
 told-among false side mode ms s = refl
 
-opened-same : (side : Side) (ms : List (Module ℕ)) (s : State ℕ) → is_open (stream side (with_modules side ms s)).opened ≡ is_open (stream side s).opened
+opened-same : (side : Side) (ms : List (Standing ℕ)) (s : State ℕ) → is_open (stream side (with_modules side ms s)).opened ≡ is_open (stream side s).opened
 opened-same side ms s = ap (λ (x : Stream ℕ). is_open x.opened) (get-set-same side (record (stream side s) { modules = ms }) s.ends)
 
-mode-among : (side : Side) (mode : Option ReadMode) (ms : List (Module ℕ)) (s : State ℕ) → mode_put side mode (with_modules side ms s) ≡ among side ms (mode_put side mode s)
+mode-among : (side : Side) (mode : Option ReadMode) (ms : List (Standing ℕ)) (s : State ℕ) → mode_put side mode (with_modules side ms s) ≡ among side ms (mode_put side mode s)
 mode-among side None ms s = refl
 mode-among side (Some mode) ms s =
     puts-mode side mode (with_modules side ms s)
@@ -102,7 +100,7 @@ mode-among side (Some mode) ms s =
     ∙ ap (among side ms) (sym (puts-mode side mode s))
 
 -- the module that a name makes may stand where there is room and none of its name stands
-pub may-known : (name : ModuleName) (ms : List (Module ℕ)) → (nat_lt (length ms) MODULES && not (stands module_name name ms)) ≡ may_stand (named_by (Some name)) ms
+pub may-known : (name : ModuleName) (ms : List (Standing ℕ)) → (nat_lt (length ms) MODULES && not (stands module_name name ms)) ≡ may_stand (named_by (Some name)) ms
 may-known names.Ldterm ms = refl
 may-known names.Ptem ms = refl
 may-known names.Pckt ms = refl
@@ -112,11 +110,20 @@ abbrev pub driver_comes : Bool → Side → State ℕ → State ℕ
 driver_comes comes side s = record s { enabled = enable_if (comes && not (is_none_left (stream (other side) s).driver.queue.messages)) (driver_of (other side)) s.enabled }
 
 -- as no other module has one
-none-below : (ms : List (Module ℕ)) (place : ℕ) → stands module_name names.Ldterm ms ≡ false → first_place module_queue Up place ms ≡ None
-none-below [] place none = refl
-none-below (OfLdterm l ∷ ms) place none = absurd (cc)
-none-below (OfPtem p ∷ ms) place none = none-below ms (suc place) none
-none-below (OfPckt p ∷ ms) place none = none-below ms (suc place) none
+pub bare : (name : ModuleName) → same_module name names.Ldterm ≡ false → is_some (place_of name) ≡ false
+bare names.Ldterm other = absurd (cc)
+bare names.Ptem other = refl
+bare names.Pckt other = refl
+
+pub neither : (a b : Bool) → (a || b) ≡ false → (a ≡ false) × (b ≡ false)
+neither true b none = absurd (cc)
+neither false b none = (refl, none)
+
+none-below : (ms : List (Standing ℕ)) (place : ℕ) → AllByRecursion HasAsNamed ms → stands module_name names.Ldterm ms ≡ false → first_place place ms ≡ None
+none-below [] place has none = refl
+none-below (p ∷ ms) place has none =
+    let apart = neither (same_module (module_name p) names.Ldterm) (stands module_name names.Ldterm ms) none in
+    ap (λ b. cond b (Some place) (first_place (suc place) ms)) (has.0 ∙ bare (module_name p) apart.0) ∙ none-below ms (suc place) has.1 apart.1
 
 not-there : (a b : Bool) → (a && not b) ≡ true → b ≡ false
 not-there true true may = absurd (cc)
@@ -126,37 +133,39 @@ not-there false b may = absurd (cc)
 low : (n : ℕ) → nat_le 1 (min MODULES (suc n)) ≡ true
 low n = grind (arith, nat_tests)
 
-before-first : (side : Side) (l : Module ℕ) (ms : List (Module ℕ)) → stands module_name names.Ldterm ms ≡ false → before_among side Up 1 (l ∷ ms) ≡ Some (driver_of (other side))
-before-first side l ms none =
-    ap (before_by side Up 1 (places_of (l ∷ ms))) (none-below ms 2 none) ∙ ap (λ (b : Bool). cond b (Some (driver_of (other side))) None) (low (length (places_of ms)))
+before-first : (side : Side) (l : Standing ℕ) (ms : List (Standing ℕ)) → AllByRecursion HasAsNamed ms → stands module_name names.Ldterm ms ≡ false
+    → before_among side Up 1 (l ∷ ms) ≡ Some (driver_of (other side))
+before-first side l ms has none =
+    ap (before_by side Up 1 (places_of (l ∷ ms))) (none-below ms 2 has none) ∙ ap (λ (b : Bool). cond b (Some (driver_of (other side))) None) (low (length (places_of ms)))
 
-comes : (side : Side) (l : Module ℕ) (ms : List (Module ℕ)) (s : State ℕ) → stands module_name names.Ldterm ms ≡ false → let_come true side (with_modules side (l ∷ ms) s) ≡ driver_comes true side (with_modules side (l ∷ ms) s)
-comes Master l ms s none = let t = with_modules Master (l ∷ ms) s in ap (λ first. record t { enabled = enable_waiting first t }) (before-first Master l ms none)
-comes Slave l ms s none = let t = with_modules Slave (l ∷ ms) s in ap (λ first. record t { enabled = enable_waiting first t }) (before-first Slave l ms none)
+comes : (side : Side) (l : Standing ℕ) (ms : List (Standing ℕ)) (s : State ℕ) → AllByRecursion HasAsNamed ms → stands module_name names.Ldterm ms ≡ false
+    → let_come true side (with_modules side (l ∷ ms) s) ≡ driver_comes true side (with_modules side (l ∷ ms) s)
+comes Master l ms s has none = let t = with_modules Master (l ∷ ms) s in ap (λ first. record t { enabled = enable_waiting first t }) (before-first Master l ms has none)
+comes Slave l ms s has none = let t = with_modules Slave (l ∷ ms) s in ap (λ first. record t { enabled = enable_waiting first t }) (before-first Slave l ms has none)
 
 abbrev led : List (Fate ℕ) → State ℕ → Carried ℕ (State ℕ)
 led gone s = record { state = s; gone = gone }
 
-abbrev or_new : Option (Module ℕ) → Module ℕ
-or_new None = OfLdterm new_ldterm
+abbrev or_new : Option (Standing ℕ) → Standing ℕ
+or_new None = module_named names.Ldterm
 or_new (Some p) = p
 
-stays-there : (side : Side) (p : Module ℕ) (s : State ℕ) → with_modules side (p ∷ (stream side s).modules) s ≡ driver_comes false side (with_modules side (p ∷ (stream side s).modules) s)
+stays-there : (side : Side) (p : Standing ℕ) (s : State ℕ) → with_modules side (p ∷ (stream side s).modules) s ≡ driver_comes false side (with_modules side (p ∷ (stream side s).modules) s)
 stays-there side p s = refl
 
 -- A module is pushed: the head may be told its mode before it stands there.
-pub pushed-is : (side : Side) (name : ModuleName) (p : Module ℕ) (s : State ℕ) → named_by (Some name) ≡ Some p → may_stand (named_by (Some name)) (stream side s).modules ≡ true
-    → let t = mode_put side (mode_on_push name) s in
+pub pushed-is : (side : Side) (name : ModuleName) (p : Standing ℕ) (s : State ℕ) → named_by (Some name) ≡ Some p → AllByRecursion HasAsNamed (stream side s).modules
+    → may_stand (named_by (Some name)) (stream side s).modules ≡ true → let t = mode_put side (mode_on_push name) s in
     pushed_named side (named_by (Some name)) s ≡ record { state = driver_comes (is_some (place_of name)) side (with_modules side (p ∷ (stream side t.state).modules) t.state); gone = t.gone }
-pushed-is side names.Pckt p s is may =
-    ap (led []) (stays-there side (OfPckt new_pckt) s) ∙ ap (λ q. led [] (driver_comes false side (with_modules side (q ∷ (stream side s).modules) s))) (ap or_new is)
-pushed-is side names.Ptem p s is may =
-    ap (led []) (stays-there side (OfPtem new_ptem) s) ∙ ap (λ q. led [] (driver_comes false side (with_modules side (q ∷ (stream side s).modules) s))) (ap or_new is)
-pushed-is side names.Ldterm p s is may =
+pushed-is side names.Pckt p s is has may =
+    ap (led []) (stays-there side (module_named names.Pckt) s) ∙ ap (λ q. led [] (driver_comes false side (with_modules side (q ∷ (stream side s).modules) s))) (ap or_new is)
+pushed-is side names.Ptem p s is has may =
+    ap (led []) (stays-there side (module_named names.Ptem) s) ∙ ap (λ q. led [] (driver_comes false side (with_modules side (q ∷ (stream side s).modules) s))) (ap or_new is)
+pushed-is side names.Ldterm p s is has may =
     let ms = (stream side s).modules in
     let t = mode_put side (mode_on_push names.Ldterm) s in
-    let l = OfLdterm new_ldterm in
+    let l = module_named names.Ldterm in
     ap (λ (u : Carried ℕ (State ℕ)). led u.gone (let_come true side u.state)) (mode-among side (mode_on_push names.Ldterm) (l ∷ ms) s)
-    ∙ ap (led t.gone) (comes side l ms t.state (not-there (nat_lt (length ms) MODULES) (stands module_name names.Ldterm ms) may))
+    ∙ ap (led t.gone) (comes side l ms t.state has (not-there (nat_lt (length ms) MODULES) (stands module_name names.Ldterm ms) may))
     ∙ ap (λ ms. led t.gone (driver_comes true side (with_modules side (l ∷ ms) t.state))) (sym (modules-stay side (mode_on_push names.Ldterm) s))
     ∙ ap (λ q. led t.gone (driver_comes true side (with_modules side (q ∷ (stream side t.state).modules) t.state))) (ap or_new is)

@@ -24,7 +24,7 @@ use Rattle.strm_types.proofs.BySide.{get-map, get-set-same}
 use Rattle.strm_laws.specs.Puts.{earlier_at, made_above, module_acted, noted, put_at_module}
 use Rattle.strm_laws.specs.Spares.{module_packs, packet_most, spare, spare_behind}
 use Rattle.strm_laws.specs.StackCosts.{EachOnce, module_takes}
-use Rattle.strm_laws.specs.Stacked.{Module, module_name}
+use Rattle.strm_laws.specs.Stacked.{Standing, module_name}
 use Rattle.strm_laws.specs.State.{State, Stream, book, stream, with_stream}
 use Rattle.strm_laws.proofs.Booked.{between-counts, booked-on, made-within, made_in, master-told, slave-told}
 use Rattle.strm_laws.proofs.Noted.{noted-same}
@@ -49,7 +49,7 @@ use Rattle.strm_pair.proofs.Sides.{OtherStays, modules-are, never-both, one-besi
 use Rattle.strm_pair.specs.Stacks.{modules_in, IsStackHeld, stack_owns, stack_keeps, Stack}
 
 -- modules of the same names
-abbrev pub SameNames : (ps qs : List (Module ℕ)) → Type 0
+abbrev pub SameNames : (ps qs : List (Standing ℕ)) → Type 0
 SameNames ps qs = map module_name ps ≡ map module_name qs
 
 -- what isn't above nothing is nothing
@@ -81,7 +81,7 @@ module _ (s t : StoreValue) (first : ℕ) (e : StreamEnd) (x : Stack) (is : IsSi
     shelf = λ none. is.shelf (sym (own.owns_same (first + 2)) ∙ none);
   }
 
-  stack-stream : (ms : List (Module ℕ)) → modules_in t x ≡ ms → stream_in t (record e { stack = x }) ≡ record (stream_in s e) { modules = ms }
+  stack-stream : (ms : List (Standing ℕ)) → modules_in t x ≡ ms → stream_in t (record e { stack = x }) ≡ record (stream_in s e) { modules = ms }
   stack-stream ms state =
       ap (λ h. record (stream_in t (record e { stack = x })) { head = record (stream_in s e).head { queue = h } }) (queue-same s t e.head.queue head-apart)
       ∙ ap (λ l. record (stream_in s e) { modules = l; driver = record { queue = queue_in t e.driver } }) state
@@ -120,7 +120,7 @@ module _ (s t : StoreValue) (p : Streams) (x : Stack) (beside : AreBeside s p) w
     pub stack-changed : IsStackHeld t x → SameNames (modules_in t x) (modules_in s (end_at side p).stack) → AreBeside t (with_end side (record (end_at side p) { stack = x }) p)
     stack-changed held names = one-beside s t p beside side (record (end_at side p) { stack = x }) (stack-side s t (first_list side) (end_at side p) x (beside side) own held names) elsewhere
 
-    pub stack-state : (ms : List (Module ℕ)) → modules_in t x ≡ ms → state_in t (with_end side (record (end_at side p) { stack = x }) p) ≡ with_stream side (record (stream side (state_in s p)) { modules = ms }) (state_in s p)
+    pub stack-state : (ms : List (Standing ℕ)) → modules_in t x ≡ ms → state_in t (with_end side (record (end_at side p) { stack = x }) p) ≡ with_stream side (record (stream side (state_in s p)) { modules = ms }) (state_in s p)
     stack-state ms state =
         one-state s t p beside side (record (end_at side p) { stack = x }) (record (stream_in s (end_at side p)) { modules = ms })
         (stack-stream s t (first_list side) (end_at side p) x (beside side) own ms state) elsewhere
@@ -146,7 +146,7 @@ module _ (s t : StoreValue) (p q : Streams) (x : Stack) (here : Spot) (gone sent
   abbrev old : Stack
   old = (end_at here.side p).stack
 
-  pub stack-acts : (did : Acted ℕ (List (Module ℕ))) (place : Option Place) (earlier : Way → Option QueueName) (notes : List Note) (m n : ℕ) → IsStore s → AreIn s gone (kept_by p) → AreBeside s p
+  pub stack-acts : (did : Acted ℕ (List (Standing ℕ))) (place : Option Place) (earlier : Way → Option QueueName) (notes : List Note) (m n : ℕ) → IsStore s → AreIn s gone (kept_by p) → AreBeside s p
       → place ≡ slice_index_or (places_of (stream here.side st).modules) (here.at - 1) None → ((way : Way) → earlier way ≡ earlier_at here.side here.at st way)
       → modules_in t x ≡ did.state → notes ≡ did.notes → SameNames did.state (stream here.side st).modules → IsStackHeld t x → OnlyOwn s t (stack_owns old) (stack_owns x)
       → Handles s t gone (stack_keeps old) (stack_keeps x) sent → SamePool s t → m ≡ made_in MasterToSlave did.gone → n ≡ made_in SlaveToMaster did.gone
@@ -196,7 +196,7 @@ module-by s t p q x i to place earlier acts f f' a b store can place_is earlier_
     let r = stack-acts s t p q x to (once i) (λ j. times_sent j (sent_of acts.sent)) did place earlier acts.notes.items a b store can beside place_is earlier_is
     (e.state ∙ ap (λ ls. (taken_at to m ls).state) same) (e.notes ∙ ap (λ ls. (taken_at to m ls).notes) same) (keep-names plain 0 (to.at - 1) to m ms)
     e.held e.own e.hands e.pool a_is b_is q_is in
-    let books : (Acted ℕ (List (Module ℕ))) → Took ℕ (State ℕ) = λ t. module_acted to t st in
+    let books : (Acted ℕ (List (Standing ℕ))) → Took ℕ (State ℕ) = λ t. module_acted to t st in
     subst (λ w. PutBy s t p q i (at_place (module_takes to m) 0 to.at ms) (sent_of acts.sent) f f' w)
     (ap books (among-same 0 (made_above to.side st) to m (to.at - 1) ms))
     (record {

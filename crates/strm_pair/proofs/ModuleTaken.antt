@@ -6,36 +6,38 @@ use Rattle.std.specs.Prelude.{Option, None, Some, ◌==◌}
 use Rattle.strm_types.specs.declared.names.ModuleName.{ModuleName}
 use Rattle.strm_types.specs.declared.names.ModuleName.TheVariants as names
 use Rattle.strm_types.specs.declared.names.Side.{Side}
+use Rattle.strm_types.specs.declared.names.Way.TheVariants.{Up, Down}
 use Rattle.strm_types.specs.declared.rules.Fates.{Fates}
 use Rattle.strm_types.specs.declared.rules.Rule.{Rule}
 use Rattle.strm_types.specs.Deliver.{tallied}
 use Rattle.strm_types.specs.Emptied.{of_all, emptied, none_goes, queue_behind}
 use Rattle.strm_types.specs.Modules.{act_among, top_name}
-use Rattle.strm_types.specs.Queue as plain
-use Rattle.strm_laws.specs.Stacked.{Module, OfLdterm, module_name}
-use Rattle.strm_laws.specs.TurnCalls.{ldterm_of}
+use Rattle.strm_types.specs.Message.{Message}
+use Rattle.strm_types.specs.Queue as queue
+use Rattle.strm_types.specs.Service.{queues_cleared}
+use Rattle.strm_types.specs.Standings as plain
+use Rattle.strm_types.specs.Standings.{messages_on}
+use Rattle.strm_laws.specs.Stacked.{Standing, module_name}
 use Rattle.strm_blocks.specs.Blocks.{Block, StoreValue, list_at}
 use Rattle.strm_msg.specs.Messages.{message_of}
-use Rattle.strm_queue.specs.Stored.{FreesBlocks}
+use Rattle.strm_queue.specs.Stored.{FreesBlocks, queue_in}
 use Rattle.strm_frame.specs.Hands.{once, OnlyOwn}
 use Rattle.strm_frame.specs.Serves.{SameHand}
 use Rattle.strm_frame.specs.Stacks.{all_of, AreHeld}
 use Rattle.strm_frame.specs.declared.stack.Stack.{Stack}
 use Rattle.strm_frame.proofs.Seeking.{all-gone}
-use Rattle.strm_ldterm.specs.declared.ldterm.Ldterm.{Ldterm}
-use Rattle.strm_ldterm.specs.Stands as stands
-use Rattle.strm_ldterm.specs.Stands.{ldterm_in}
+use Rattle.strm_frame.specs.declared.queue_pair.QueuePair.{QueuePair}
 use Rattle.strm_pair.specs.declared.modules.AnyModule.{AnyModule}
-use Rattle.strm_pair.specs.declared.modules.AnyModule.TheVariants as kinds
-use Rattle.strm_pair.specs.AnyModules.{IsHeld, keeps, module_in, owns}
+use Rattle.strm_pair.specs.AnyModules.{AnyStanding, IsHeld, keeps, module_in}
+use Rattle.strm_frame.specs.Standings.{owns, queues_in, queues_own}
 use Rattle.strm_pair.specs.declared.stacks.Taken.{Taken}
 use Rattle.strm_pair.specs.Taken.{TookTop, let_go_of}
 
 -- nothing is left on a queue from which all went
-none-behind : (q : plain.Queue ℕ) → (queue_behind of_all q).messages ≡ []
+none-behind : (q : queue.Queue ℕ) → (queue_behind of_all q).messages ≡ []
 none-behind q = by (none_goes of_all q)
   where
-    by : (b : Bool) → (cond b (emptied of_all q) (plain.relieved (emptied of_all q))).messages ≡ []
+    by : (b : Bool) → (cond b (emptied of_all q) (queue.relieved (emptied of_all q))).messages ≡ []
     by true = all-gone q.messages
     by false = all-gone q.messages
 
@@ -65,35 +67,45 @@ name_or None = names.Ldterm
 name_or (Some name) = name
 
 -- no module stands on a stack that has no name on top
-pub none-top : (s : StoreValue) (xs : List AnyModule) → top_name module_name (map (module_in s) xs) ≡ None → map (module_in s) xs ≡ []
+pub none-top : (s : StoreValue) (xs : List AnyStanding) → top_name module_name (map (module_in s) xs) ≡ None → map (module_in s) xs ≡ []
 none-top s [] none = refl
 none-top s (x ∷ xs) none = absurd (cc)
 
 module _ (s t : StoreValue) (side : Side) (rule : Rule) where
-  -- nothing stands on the lists of a module that let all go
-  cleared-ldterm : (x y : Ldterm) (k : ℕ) → OfLdterm (ldterm_in t y) ≡ (let_go_of side rule (OfLdterm (ldterm_in s x))).state → 0 < stands.owns y k → list_at t k ≡ []
-  cleared-ldterm x y k is some = by (once y.read_queue.list k) refl
+  -- nothing stands on the lists of queues that let all go
+  abbrev let_go : Option (plain.QueuePair ℕ) → Option (plain.QueuePair ℕ)
+  let_go queues = (queues_cleared side rule Down (queues_cleared side rule Up queues).state).state
+
+  abbrev reads_of : Option (plain.QueuePair ℕ) → List (Message ℕ)
+  reads_of queues = messages_on Up queues
+
+  abbrev writes_of : Option (plain.QueuePair ℕ) → List (Message ℕ)
+  writes_of queues = messages_on Down queues
+
+  cleared-pair : (x y : QueuePair) (k : ℕ) → queues_in t (Some y) ≡ let_go (queues_in s (Some x)) → 0 < queues_own (Some y) k → list_at t k ≡ []
+  cleared-pair x y k is some = by (once y.read.list k) refl
     where
-      reads : list_at t y.read_queue.list ≡ []
-      reads = no-chain (list_at t y.read_queue.list) (ap (λ (p : Module ℕ). (ldterm_of p).read_queue.messages) is ∙ none-behind (ldterm_in s x).read_queue)
+      reads : list_at t y.read.list ≡ []
+      reads = no-chain (list_at t y.read.list) (ap reads_of is ∙ none-behind (queue_in s x.read))
 
-      writes : list_at t y.write_queue.list ≡ []
-      writes = no-chain (list_at t y.write_queue.list) (ap (λ (p : Module ℕ). (ldterm_of p).write_queue.messages) is ∙ none-behind (ldterm_in s x).write_queue)
+      writes : list_at t y.write.list ≡ []
+      writes = no-chain (list_at t y.write.list) (ap writes_of is ∙ none-behind (queue_in s x.write))
 
-      by : (n : ℕ) → once y.read_queue.list k ≡ n → list_at t k ≡ []
-      by zero none = subst (λ l. list_at t l ≡ []) (once-is y.write_queue.list k (omega (arith, some, none))) writes
-      by (suc n) one = subst (λ l. list_at t l ≡ []) (once-is y.read_queue.list k (omega (arith, one))) reads
+      by : (n : ℕ) → once y.read.list k ≡ n → list_at t k ≡ []
+      by zero none = subst (λ l. list_at t l ≡ []) (once-is y.write.list k (omega (arith, some, none))) writes
+      by (suc n) one = subst (λ l. list_at t l ≡ []) (once-is y.read.list k (omega (arith, one))) reads
 
-  cleared-list : (x y : AnyModule) (k : ℕ) → module_in t y ≡ (let_go_of side rule (module_in s x)).state → 0 < owns y k → list_at t k ≡ []
-  cleared-list (kinds.Ldterm x) (kinds.Ldterm y) k is some = cleared-ldterm x y k is some
-  cleared-list (kinds.Ptem x) (kinds.Ldterm y) k is some = absurd (cc)
-  cleared-list (kinds.Pckt x) (kinds.Ldterm y) k is some = absurd (cc)
-  cleared-list x (kinds.Ptem y) k is some = absurd (omega (arith, some))
-  cleared-list x (kinds.Pckt y) k is some = absurd (omega (arith, some))
+  cleared-queues : (x y : Option QueuePair) (k : ℕ) → queues_in t y ≡ let_go (queues_in s x) → 0 < queues_own y k → list_at t k ≡ []
+  cleared-queues x None k is some = absurd (omega (arith, some))
+  cleared-queues None (Some y) k is some = absurd (cc (is))
+  cleared-queues (Some x) (Some y) k is some = cleared-pair x y k is some
+
+  cleared-list : (x y : AnyStanding) (k : ℕ) → module_in t y ≡ (let_go_of side rule (module_in s x)).state → 0 < owns y k → list_at t k ≡ []
+  cleared-list x y k is some = cleared-queues x.queues y.queues k (ap (λ (p : Standing ℕ). p.queues) is) some
 
   module _ (told told' : Fates) (taken : Taken) (a b c : Stack AnyModule) where
     -- the stack before it, behind the clearing, and without the module
-    took-these : (x : AnyModule) (xs : List AnyModule) (y : AnyModule) → a.modules.items ≡ x ∷ xs → b.modules.items ≡ y ∷ c.modules.items
+    took-these : (x : AnyStanding) (xs : List AnyStanding) (y : AnyStanding) → a.modules.items ≡ x ∷ xs → b.modules.items ≡ y ∷ c.modules.items
         → taken.name ≡ module_name (module_in s x)
         → map (module_in t) b.modules.items ≡ (act_among (let_go_of side rule) 0 (map (module_in s) a.modules.items)).state
         → taken.notes.items ≡ (act_among (let_go_of side rule) 0 (map (module_in s) a.modules.items)).notes
@@ -103,7 +115,7 @@ module _ (s t : StoreValue) (side : Side) (rule : Rule) where
         → TookTop side rule s t a c told told' taken
     took-these x xs y before behind named state notes tells held rests own hand frees =
         let was = ap (map (module_in s)) before in
-        let act = λ (ps : List (Module ℕ)). act_among (let_go_of side rule) 0 ps in
+        let act = λ (ps : List (Standing ℕ)). act_among (let_go_of side rule) 0 ps in
         let all : module_in t y ∷ map (module_in t) c.modules.items ≡ (let_go_of side rule (module_in s x)).state ∷ map (module_in s) xs = ap (map (module_in t)) (sym behind) ∙ state ∙ ap (λ ps. (act ps).state) was in
         let both : AreHeld IsHeld owns t (y ∷ c.modules.items) = subst (AreHeld IsHeld owns t) behind held in
         let owned : (k : ℕ) → owns y k + all_of owns c.modules.items k ≡ all_of owns a.modules.items k = λ k. sym (sum_by-cons (λ z. owns z k) y c.modules.items) ∙ ap (λ zs. all_of owns zs k) (sym behind) ∙ own.owns_same k in
@@ -130,11 +142,11 @@ module _ (s t : StoreValue) (side : Side) (rule : Rule) where
         → told' ≡ tallied (act_among (let_go_of side rule) 0 (map (module_in s) a.modules.items)).gone told
         → AreHeld IsHeld owns t b.modules.items → ((i : ℕ) → all_of keeps b.modules.items i ≡ 0)
         → OnlyOwn s t (all_of owns a.modules.items) (all_of owns b.modules.items) → SameHand s t → FreesBlocks s t
-        → ((y : AnyModule) (ys : List AnyModule) → b.modules.items ≡ y ∷ ys → c.modules.items ≡ ys)
+        → ((y : AnyStanding) (ys : List AnyStanding) → b.modules.items ≡ y ∷ ys → c.modules.items ≡ ys)
         → TookTop side rule s t a c told told' taken
     took-top top state notes tells held rests own hand frees rest = by a.modules.items refl b.modules.items refl
       where
-        by : (l : List AnyModule) → a.modules.items ≡ l → (m : List AnyModule) → b.modules.items ≡ m → TookTop side rule s t a c told told' taken
+        by : (l : List AnyStanding) → a.modules.items ≡ l → (m : List AnyStanding) → b.modules.items ≡ m → TookTop side rule s t a c told told' taken
         by [] none m is = absurd (let e = sym top ∙ ap (λ l. top_name module_name (map (module_in s) l)) none in cc)
         by (x ∷ xs) before [] none = absurd (let e = sym (ap (map (module_in t)) none) ∙ state ∙ ap (λ l. (act_among (let_go_of side rule) 0 (map (module_in s) l)).state) before in cc)
         by (x ∷ xs) before (y ∷ ys) is =

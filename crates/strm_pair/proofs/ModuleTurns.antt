@@ -16,31 +16,34 @@ use Rattle.strm_types.specs.Cells.{plain}
 use Rattle.strm_types.proofs.BySide.{get-set-same}
 use Rattle.strm_laws.specs.Kept.{AreIdle}
 use Rattle.strm_types.specs.Ldterms.{is_between}
-use Rattle.strm_types.specs.ModuleQueues.{at_place, messages_at, place_past, waits}
+use Rattle.strm_types.specs.ModuleQueues.{at_place, place_past, waits}
+use Rattle.strm_types.specs.Standings.{messages_at}
 use Rattle.strm_laws.specs.ModuleTurns.{asked_turn, module_turned, moved_within, place_named, stayed_at, turned_named}
 use Rattle.strm_types.specs.Modules.{change_among}
 use Rattle.strm_laws.specs.Past.{has_room_past, waits_on, writer_waits}
 use Rattle.strm_types.specs.Queue.{is_none_left, first_size}
-use Rattle.strm_laws.specs.Stacked.{IsAtRest, Module, OfLdterm, OfPtem, OfPckt, module_asks, module_queue, module_rests, with_module_queue}
+use Rattle.strm_laws.specs.Stacked.{IsAtRest, KindRests, Module, OfLdterm, OfPtem, OfPckt, Standing, kind_rests, module_asks, module_rests}
 use Rattle.strm_laws.specs.State.{State, Stream, stream}
-use Rattle.strm_types.specs.LdtermCalls.{bytes_left}
-use Rattle.strm_laws.specs.TurnCalls.{ldterm_of}
+use Rattle.strm_laws.specs.TurnCalls.{none_there}
 use Rattle.strm_laws.specs.TurnOutcomes.{TurnOutcome, stayed_put}
-use Rattle.strm_laws.proofs.ModuleTurnCalls.{index-map, none_there}
+use Rattle.strm_laws.proofs.ModuleTurnCalls.{index-map, whole}
 use Rattle.strm_pair.proofs.NamedPlaces.{found-low}
 use Rattle.strm_pair.specs.ModuleTurned.{MayMove}
 
 -- one of which nothing of a turn is under way rests
-rests-idle : (p : Module ℕ) → IsAtRest p → module_rests p ≡ true
-rests-idle (OfLdterm l) idle =
-    ap (λ o. not (is_some o) && (is_none_left l.gathered && (not l.echoing && is_between l.stage))) idle.0
-    ∙ ap (λ xs. is_none_left xs && (not l.echoing && is_between l.stage)) idle.1
-    ∙ ap (λ b. not b && is_between l.stage) idle.2
-    ∙ ap is_between idle.3
-rests-idle (OfPtem p) idle = refl
-rests-idle (OfPckt p) idle = refl
+rests-idle : (p : Standing ℕ) → IsAtRest p → module_rests p ≡ true
+rests-idle p idle = by p.part idle
+  where
+    by : (part : Module ℕ) → KindRests part → kind_rests part ≡ true
+    by (OfLdterm l) idle =
+        ap (λ o. not (is_some o) && (is_none_left l.gathered && (not l.echoing && is_between l.stage))) idle.0
+        ∙ ap (λ xs. is_none_left xs && (not l.echoing && is_between l.stage)) idle.1
+        ∙ ap (λ b. not b && is_between l.stage) idle.2
+        ∙ ap is_between idle.3
+    by (OfPtem q) idle = refl
+    by (OfPckt q) idle = refl
 
-rests-at : (i : ℕ) (ps : List (Module ℕ)) → AllByRecursion (λ p. IsAtRest p) ps → i < length ps → slice_index_or (map module_rests ps) i false ≡ true
+rests-at : (i : ℕ) (ps : List (Standing ℕ)) → AllByRecursion (λ p. IsAtRest p) ps → i < length ps → slice_index_or (map module_rests ps) i false ≡ true
 rests-at i [] idle low = absurd (omega (arith, low))
 rests-at zero (p ∷ ps) idle low = rests-idle p idle.0
 rests-at (suc i) (p ∷ ps) idle low = rests-at i ps idle.1 (omega (arith, low))
@@ -71,27 +74,18 @@ pub turned-room : (name : QueueName) (at : ℕ) (band : Band) (turn : Turn) (s :
     → asked_turn plain (spot_of name at) (asked.Room band) name turn s ≡ moved_within plain (spot_of name at) name turn s
 turned-room name at band turn s room = ap (λ b. cond {A = TurnOutcome ℕ} b (moved_within plain (spot_of name at) name turn s) (stayed_at Blocked (spot_of name at) (writer_waits name.side name.way at band.0 s))) room
 
--- how many bytes a first call may treat
-whole : (way : Way) (p : Module ℕ) → bytes_left way false (ldterm_of p) ≡ first_size (messages_at module_queue way p)
-whole Up (OfLdterm l) = refl
-whole Down (OfLdterm l) = refl
-whole Up (OfPtem p) = refl
-whole Down (OfPtem p) = refl
-whole Up (OfPckt p) = refl
-whole Down (OfPckt p) = refl
-
 -- where it may serve
 pub may-move : (name : QueueName) (at : ℕ) (s : State ℕ) → place_named name.place (stream name.side s).modules ≡ Some at
-    → at_place (λ p. first_size (messages_at module_queue name.way p)) 0 at (stream name.side s).modules ≤ 16777216 → ((turn : Turn) → module_turned plain name turn s ≡ moved_within plain (spot_of name at) name turn s)
+    → at_place (λ p. first_size (messages_at name.way p)) 0 at (stream name.side s).modules ≤ 16777216 → ((turn : Turn) → module_turned plain name turn s ≡ moved_within plain (spot_of name at) name turn s)
     → MayMove s s name (spot_of name at)
 may-move name at s found few moves =
     let ps = (stream name.side s).modules in
     let low = found-low name.place ps at found in
-    let size = index-map none_there (λ p. first_size (messages_at module_queue name.way p)) 0 (at - 1) ps (omega (arith, low.0, low.1)) in
-    record { stays = refl; named = refl; found = found; inside = low.0; within = low.1; low = low.2; few = omega (arith, few, size, whole name.way (slice_index_or ps (at - 1) none_there)); moves = moves }
+    let size = index-map none_there (λ p. first_size (messages_at name.way p)) 0 (at - 1) ps (omega (arith, low.0, low.1)) in
+    record { stays = refl; named = refl; found = found; inside = low.0; within = low.1; low = low.2; few = omega (arith, few, size, whole (spot_of name at) name.way (slice_index_or ps (at - 1) none_there)); moves = moves }
 
 -- as many modules stand behind a writer that waits
-change-long : (f : Module ℕ → Module ℕ) (i : ℕ) (ps : List (Module ℕ)) → length (change_among f i ps) ≡ length ps
+change-long : (f : Standing ℕ → Standing ℕ) (i : ℕ) (ps : List (Standing ℕ)) → length (change_among f i ps) ≡ length ps
 change-long f i [] = refl
 change-long f zero (p ∷ ps) = refl
 change-long f (suc i) (p ∷ ps) = ap suc (change-long f i ps)
@@ -99,10 +93,10 @@ change-long f (suc i) (p ∷ ps) = ap suc (change-long f i ps)
 waits-long : (way : Way) (band : ℕ) (o : Option ℕ) (t : Stream ℕ) → length (waits_on way band o t).modules ≡ length t.modules
 waits-long Up band None t = refl
 waits-long Down band None t = refl
-waits-long way band (Some at) t = change-long (waits module_queue with_module_queue way band) (at - 1) t.modules
+waits-long way band (Some at) t = change-long (waits way band) (at - 1) t.modules
 
 pub waiting-long : (side : Side) (way : Way) (at band : ℕ) (s : State ℕ) → length (stream side (writer_waits side way at band s)).modules ≡ length (stream side s).modules
 waiting-long side way at band s =
     let t = stream side s in
-    let past = place_past module_queue way at t.modules in
+    let past = place_past way at t.modules in
     ap (λ (x : Stream ℕ). length x.modules) (get-set-same side (waits_on way band past t) s.ends) ∙ waits-long way band past t

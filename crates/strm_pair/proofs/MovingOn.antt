@@ -1,6 +1,7 @@
 -- A turn that moved something treated its message whole, or a byte of it at least.
 use Rattle.std.proofs.Common.{ℕ, zero, suc, ◌≡◌, ◌≤◌, ◌<◌, ◌-◌, Bool, true, false, cond, List, [], ◌∷◌, length, map, inl, inr, refl, sym, ap, subst, ◌∙◌, arith}
-use Rattle.std.specs.Prelude.{◌&&◌, nat_le, nat_lt, not, slice_index_or, Some}
+use Rattle.std.specs.Prelude.{◌&&◌, nat_le, nat_lt, not, slice_index_or, Some, Option, None}
+use Rattle.std.specs.List.{AllByRecursion}
 use Rattle.std.proofs.Math.Nat.{le-min}
 use Rattle.std.proofs.lemmas.Bool.Decides.{nat_tests}
 use Rattle.strm_types.specs.declared.answers.Turn.{Turn}
@@ -14,33 +15,36 @@ use Rattle.strm_types.specs.declared.names.QueueName.{QueueName}
 use Rattle.strm_types.specs.declared.names.Way.{Way}
 use Rattle.strm_types.specs.declared.spots.Spot.{Spot}
 use Rattle.strm_types.specs.Cells.{plain}
+use Rattle.strm_types.specs.Ldterms as ldterms
 use Rattle.strm_types.specs.Flush.{is_data_kind}
 use Rattle.strm_types.specs.Input.{is_data}
 use Rattle.strm_types.specs.LdtermCalls.{bytes_left}
 use Rattle.strm_types.specs.Message.{Message}
-use Rattle.strm_types.specs.ModuleQueues.{at_place, messages_at}
+use Rattle.strm_types.specs.ModuleQueues.{at_place}
+use Rattle.strm_types.specs.Standings.{messages_at}
 use Rattle.strm_types.specs.Names.{is_open, other}
 use Rattle.strm_types.specs.Queue.{first_size}
+use Rattle.strm_types.specs.LdtermStands.{disciplined}
 use Rattle.strm_laws.specs.ModuleTurns.{moved_by, place_named, whole_module}
 use Rattle.strm_laws.specs.Pair.{IsKeptAhead, MovesOn}
 use Rattle.strm_laws.specs.Refusals.{Free, enough}
-use Rattle.strm_laws.specs.Stacked.{module_queue}
 use Rattle.strm_laws.specs.State.{State, Stream, stream}
-use Rattle.strm_laws.specs.TurnCalls.{ldterm_of, module_at}
+use Rattle.strm_laws.specs.TurnCalls.{discipline_of, module_at, none_there, ldterm_of}
 use Rattle.strm_laws.specs.TurnOutcomes.{TurnOutcome, stayed_put}
 use Rattle.strm_laws.specs.Turns.{driver_serves, driver_turned, is_stopped_across, moved_across, whole_at}
 use Rattle.strm_laws.proofs.LdtermStops.{FullFirst}
-use Rattle.strm_laws.proofs.ModuleTurnCalls.{first-left, none_there}
+use Rattle.strm_laws.proofs.ModuleTurnCalls.{first-left}
 use Rattle.strm_laws.proofs.Staying.{kept-ahead}
-use Rattle.strm_blocks.specs.Blocks.{Block, StoreValue, free_d, free_m}
+use Rattle.strm_blocks.specs.Blocks.{Block, StoreValue, free_d, free_m, list_at}
 use Rattle.strm_msg.specs.Messages.{message_of}
 use Rattle.strm_msg.proofs.Chains.{kind-is}
 use Rattle.strm_msg.proofs.MadePlain.{booked-data}
 use Rattle.strm_frame.specs.Serves.{least_free}
-use Rattle.strm_pair.specs.declared.modules.AnyModule.{AnyModule}
-use Rattle.strm_pair.specs.declared.modules.AnyModule.TheVariants as kinds
+use Rattle.strm_frame.specs.declared.queue_pair.QueuePair.{QueuePair}
+use Rattle.strm_frame.specs.Standings.{queues_in}
 use Rattle.strm_pair.specs.declared.streams.Streams.{Streams}
-use Rattle.strm_pair.specs.AnyModules.{module_in}
+use Rattle.strm_pair.specs.AnyModules.{AnyStanding, IsHeld, any-has, kind_in, module_in}
+use Rattle.strm_pair.specs.Stacks.{IsStackHeld}
 use Rattle.strm_pair.specs.ModuleTurned.{MayMove}
 use Rattle.strm_pair.specs.ModuleServed.{StopsFew}
 use Rattle.strm_pair.specs.Pairs.{end_at, free_in, state_in}
@@ -58,30 +62,33 @@ module _ (here : Spot) where
   full-first [] = tt
   full-first (chain ∷ q) = λ is. booked-data chain (typed-data _ (sym (ap is_data (kind-is chain)) ∙ is))
 
-  full-one : (s : StoreValue) (x : AnyModule) → Full (module_in s x)
-  full-one s (kinds.Ldterm x) = (full-first _, full-first _)
-  full-one s (kinds.Ptem x) = (tt, tt)
-  full-one s (kinds.Pckt x) = (tt, tt)
+  pair-full : (s : StoreValue) (l : ldterms.Ldterm ℕ) (queues : Option QueuePair) → let d = disciplined l (queues_in s queues) in FullFirst d.read_queue.messages × FullFirst d.write_queue.messages
+  pair-full s l None = (tt, tt)
+  pair-full s l (Some pair) = (full-first (list_at s pair.read.list), full-first (list_at s pair.write.list))
 
-  full-among : (s : StoreValue) (i : ℕ) (xs : List AnyModule) → Full (slice_index_or (map (module_in s) xs) i none_there)
-  full-among s i [] = (tt, tt)
-  full-among s zero (x ∷ xs) = full-one s x
-  full-among s (suc i) (x ∷ xs) = full-among s i xs
+  full-one : (s : StoreValue) (x : AnyStanding) → IsHeld s x → Full (module_in s x)
+  full-one s x held = let full = pair-full s (ldterm_of (kind_in s x.module)) x.queues in (full.0, full.1, any-has s x held)
 
-  pub full-at : (s : StoreValue) (p : Streams) → Full (module_at here (state_in s p))
-  full-at s p = subst (λ ms. Full (slice_index_or ms (here.at - 1) none_there)) (sym (modules-are s p here.side)) (full-among s (here.at - 1) (end_at here.side p).stack.modules.items)
+  full-among : (s : StoreValue) (i : ℕ) (xs : List AnyStanding) → AllByRecursion (IsHeld s) xs → Full (slice_index_or (map (module_in s) xs) i none_there)
+  full-among s i [] held = (tt, tt, refl)
+  full-among s zero (x ∷ xs) held = full-one s x held.0
+  full-among s (suc i) (x ∷ xs) held = full-among s i xs held.1
 
-whole-found : (way : Way) (on : Stream ℕ) (at : ℕ) → place_named Ldterm on.modules ≡ Some at → whole_module Ldterm way on ≡ Moved (at_place (λ p. first_size (messages_at module_queue way p)) 0 at on.modules)
+  pub full-at : (s : StoreValue) (p : Streams) → IsStackHeld s (end_at here.side p).stack → Full (module_at here (state_in s p))
+  full-at s p held =
+      subst (λ ms. Full (slice_index_or ms (here.at - 1) none_there)) (sym (modules-are s p here.side)) (full-among s (here.at - 1) (end_at here.side p).stack.modules.items held.each)
+
+whole-found : (way : Way) (on : Stream ℕ) (at : ℕ) → place_named Ldterm on.modules ≡ Some at → whole_module Ldterm way on ≡ Moved (at_place (λ p. first_size (messages_at way p)) 0 at on.modules)
 whole-found way on at is = rw is refl
 
 -- a turn that treats as many bytes as there are goes whole
 size-whole : (name : QueueName) (here : Spot) (s : State ℕ) (n : ℕ) → name.place ≡ Ldterm → here ≡ record { side = name.side; at = here.at; way = name.way } → place_named name.place (stream name.side s).modules ≡ Some here.at
-    → here.at - 1 < length (stream here.side s).modules → bytes_left here.way false (ldterm_of (module_at here s)) ≡ n → Moved n ≡ whole_at name.place name.way (stream name.side s)
+    → here.at - 1 < length (stream here.side s).modules → bytes_left here.way false (discipline_of (module_at here s)) ≡ n → Moved n ≡ whole_at name.place name.way (stream name.side s)
 size-whole name here s n place named found low left =
     let side = ap (λ (h : Spot). h.side) named in
     let way = ap (λ (h : Spot). h.way) named in
-    let there = subst (λ w. at_place (λ p. first_size (messages_at module_queue w p)) 0 here.at (stream here.side s).modules ≡ n) way (first-left here s low ∙ left) in
-    let size = subst (λ sd. at_place (λ p. first_size (messages_at module_queue name.way p)) 0 here.at (stream sd s).modules ≡ n) side there in
+    let there = subst (λ w. at_place (λ p. first_size (messages_at w p)) 0 here.at (stream here.side s).modules ≡ n) way (first-left here s low ∙ left) in
+    let size = subst (λ sd. at_place (λ p. first_size (messages_at name.way p)) 0 here.at (stream sd s).modules ≡ n) side there in
     sym (ap (λ (pl : Place). whole_at pl name.way (stream name.side s)) place
     ∙ whole-found name.way (stream name.side s) here.at (subst (λ (pl : Place). place_named pl (stream name.side s).modules ≡ Some here.at) place found)
     ∙ ap Moved size)
@@ -100,12 +107,12 @@ least-enough t few = at (nat_le STOP_BLOCKS (free_m t)) refl (nat_le STOP_BLOCKS
         absurd (omega (arith, low, few))
 
 -- a turn of a module's queue
-pub serves-moves : (name : QueueName) (here : Spot) (old begun : State ℕ) (t : StoreValue) (bytes : ℕ) → MayMove old begun name here → bytes ≤ bytes_left here.way false (ldterm_of (module_at here begun))
-    → (bytes ≡ 0 → bytes_left here.way false (ldterm_of (module_at here begun)) ≡ 0) → StopsFew here bytes begun t → name.place ≡ Ldterm → MovesOn old (free_in t) name (Moved bytes)
+pub serves-moves : (name : QueueName) (here : Spot) (old begun : State ℕ) (t : StoreValue) (bytes : ℕ) → MayMove old begun name here → bytes ≤ bytes_left here.way false (discipline_of (module_at here begun))
+    → (bytes ≡ 0 → bytes_left here.way false (discipline_of (module_at here begun)) ≡ 0) → StopsFew here bytes begun t → name.place ≡ Ldterm → MovesOn old (free_in t) name (Moved bytes)
 serves-moves name here old begun t bytes may within some few place = at (nat_lt bytes left) refl
   where
     left : ℕ
-    left = bytes_left here.way false (ldterm_of (module_at here begun))
+    left = bytes_left here.way false (discipline_of (module_at here begun))
 
     low : here.at - 1 < length (stream here.side old).modules
     low = let inside = may.inside in let within = may.within in omega (arith, inside, within)
@@ -130,7 +137,7 @@ serves-moves name here old begun t bytes may within some few place = at (nat_lt 
     at false is =
         let most : left ≤ bytes = grind (arith, nat_tests, is) in
         let all : left ≡ bytes = omega (arith, most, within) in
-        inl (size-whole name here old bytes place may.named may.found low (subst (λ v. bytes_left here.way false (ldterm_of (module_at here v)) ≡ bytes) may.stays all))
+        inl (size-whole name here old bytes place may.named may.found low (subst (λ v. bytes_left here.way false (discipline_of (module_at here v)) ≡ bytes) may.stays all))
 
 -- whichever queues are enabled
 pub moves-taken : (names : List QueueName) (s : State ℕ) (free : Free) (name : QueueName) (turn : Turn) → MovesOn (record s { enabled = names }) free name turn → MovesOn s free name turn

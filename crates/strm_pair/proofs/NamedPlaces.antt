@@ -8,9 +8,9 @@ use Rattle.strm_types.specs.declared.names.Place.{Place}
 use Rattle.strm_laws.specs.Earlier.{places_of}
 use Rattle.strm_laws.specs.ModuleTurns.{named_from}
 use Rattle.strm_types.specs.Names.{place_of, same_place}
-use Rattle.strm_laws.specs.Stacked.{Module, module_name}
+use Rattle.strm_laws.specs.Stacked.{Standing, module_name}
 
-module _ (ps : List (Module ℕ)) where
+module _ (ps : List (Standing ℕ)) where
   -- the places of a stream's modules that have places
   abbrev placed : List (Option Place)
   placed = places_of (take MODULES ps)
@@ -19,12 +19,12 @@ module _ (ps : List (Module ℕ)) where
   placed-long = length-map (take MODULES ps) (λ p. place_of (module_name p)) ∙ length-take MODULES ps
 
 -- the place of queues that one of these has
-place-among : {X : Type 0} (f : X → Module ℕ) (xs : List X) (i : ℕ) (d : X) → i < length xs → slice_index_or (places_of (map f xs)) i None ≡ place_of (module_name (f (slice_index_or xs i d)))
+place-among : {X : Type 0} (f : X → Standing ℕ) (xs : List X) (i : ℕ) (d : X) → i < length xs → slice_index_or (places_of (map f xs)) i None ≡ place_of (module_name (f (slice_index_or xs i d)))
 place-among f [] i d low = absurd (omega (arith, low))
 place-among f (x ∷ xs) zero d low = refl
 place-among f (x ∷ xs) (suc i) d low = place-among f xs i d (omega (arith, low))
 
-pub place-at : {X : Type 0} (f : X → Module ℕ) (xs ys : List X) (at : ℕ) (x : X) (kind : ModuleName) → 0 < at → at ≤ length (map f xs) → kind ≡ module_name (f x) → x ≡ slice_index_or ys (at - 1) x → ys ≡ xs
+pub place-at : {X : Type 0} (f : X → Standing ℕ) (xs ys : List X) (at : ℕ) (x : X) (kind : ModuleName) → 0 < at → at ≤ length (map f xs) → kind ≡ module_name (f x) → x ≡ slice_index_or ys (at - 1) x → ys ≡ xs
     → place_of kind ≡ slice_index_or (places_of (map f xs)) (at - 1) None
 place-at f xs ys at x kind inside within named there same =
     ap place_of (named ∙ ap (λ y. module_name (f y)) (there ∙ ap (λ zs. slice_index_or zs (at - 1) x) same))
@@ -44,7 +44,7 @@ found-from name at (Some other ∷ xs) found is = of (same_place other name) (λ
     of true more is = let here : at ≡ found = some-is at found is in (omega (arith, here), omega (arith, here))
     of false more is = let low = more is in (omega (arith, low.0), omega (arith, low.1))
 
-pub found-low : (name : Place) (ps : List (Module ℕ)) (found : ℕ) → named_from name 1 (places_of (take MODULES ps)) ≡ Some found → (0 < found) × (found ≤ length ps) × (found ≤ MODULES)
+pub found-low : (name : Place) (ps : List (Standing ℕ)) (found : ℕ) → named_from name 1 (places_of (take MODULES ps)) ≡ Some found → (0 < found) × (found ≤ length ps) × (found ≤ MODULES)
 found-low name ps found is =
     let low = found-from name 1 (places_of (take MODULES ps)) found is in
     let long = placed-long ps in

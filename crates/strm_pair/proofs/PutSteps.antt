@@ -11,17 +11,17 @@ use Rattle.strm_types.specs.declared.rules.Rule.TheVariants.{EndClosed}
 use Rattle.strm_types.specs.Cells as cells
 use Rattle.strm_types.specs.Drivers.{driver_put}
 use Rattle.strm_types.specs.Queue as plain
-use Rattle.strm_blocks.specs.Blocks.{IsStore, dropped, list_at, token}
+use Rattle.strm_blocks.specs.Blocks.{IsStore, dropped, list_at, token, StoreValue, in_hand}
 use Rattle.strm_head.specs.declared.head.Head as heads
-use Rattle.strm_head.specs.Heads.{head_in}
+use Rattle.strm_head.specs.Heads.{head_in, down_message, notes_of, sent_down}
 use Rattle.strm_queue.specs.declared.queue.Queue.{Queue}
 use Rattle.strm_queue.specs.Stored.{queue_in, HoldsReadable, Changes, FreesBlocks, FreesNone}
 use Rattle.strm_frame.specs.declared.modules.Acts.{Acts}
-use Rattle.strm_frame.specs.Hands.{CanPut, Handles, Hands, SamePool, Spends}
-use Rattle.strm_frame.specs.Outboxes.{sent_of}
+use Rattle.strm_frame.specs.Hands.{CanPut, Handles, Hands, SamePool, Spends, once, HasRoom, Shifts}
+use Rattle.strm_frame.specs.Outboxes.{sent_of, message_in, times_sent, parcels_in, AreChains}
 use Rattle.strm_frame.proofs.Shifting.{shifts-joined}
-use Rattle.strm_pty.specs.Does.{OnlyQueue, driver_cost}
-use Rattle.strm_pair.specs.Pairs.{end_at, with_end}
+use Rattle.strm_pty.specs.Does.{OnlyQueue, driver_cost, Makes, Swaps}
+use Rattle.strm_pair.specs.Pairs.{end_at, with_end, state_in, AreBeside, Stays, kept_by}
 use Rattle.strm_laws.specs.Earlier.{before_head, driver_place, modules_on}
 use Rattle.strm_pair.proofs.Sides.{driver-changed, driver-state, head-changed, head-state, driver-is, head-is}
 use Rattle.strm_types.specs.declared.names.Place.TheVariants as places
@@ -40,19 +40,14 @@ use Rattle.strm_laws.specs.Pair.{IsKeptAhead}
 use Rattle.strm_laws.specs.Puts.{across_of, earlier_at, noted, passed_up, put_at_driver, put_at_head, put_at_module, put_behind, put_below, put_in}
 use Rattle.strm_types.specs.Reads.{is_there}
 use Rattle.strm_laws.specs.State.{State, stream, with_stream, with_driver_queue}
-use Rattle.strm_blocks.specs.Blocks.{StoreValue, in_hand}
 use Rattle.strm_msg.specs.Messages.{IsChain}
 use Rattle.strm_msg.proofs.Chains.{kind-is}
 use Rattle.strm_msg.proofs.MadePlain.{parts-same}
 use Rattle.strm_head.specs.declared.putting.Down as heads_down
 use Rattle.strm_head.specs.declared.putting.Down.TheVariants as downs
-use Rattle.strm_head.specs.Heads.{down_message, notes_of, sent_down}
 use Rattle.strm_frame.specs.declared.parcels.Sent.{Sent}
-use Rattle.strm_frame.specs.Hands.{once, HasRoom, Shifts}
-use Rattle.strm_frame.specs.Outboxes.{message_in, times_sent, parcels_in, AreChains}
 use Rattle.strm_frame.proofs.Handing.{one-parts, one-chains}
 use Rattle.strm_frame.proofs.Shifting.{shifts-both, shifts-as}
-use Rattle.strm_pty.specs.Does.{Makes, Swaps}
 use Rattle.strm_pty.proofs.Doing.{times-one}
 use Rattle.strm_pair.specs.declared.streams.Streams.{Streams}
 use Rattle.strm_types.specs.declared.limits.TheConstants.{MODULES}
@@ -63,7 +58,6 @@ use Rattle.strm_types.proofs.ShapesOf.{same-flushing}
 use Rattle.strm_types.specs.ModuleQueues.{at_place}
 use Rattle.strm_laws.specs.SideCosts.{behind_costs, rises, side_drives}
 use Rattle.strm_laws.specs.StackCosts.{module_takes}
-use Rattle.strm_pair.specs.Pairs.{state_in, AreBeside, Stays, kept_by}
 use Rattle.strm_pair.specs.Framing.{kept-parts, kept-with, same-state, same-beside}
 use Rattle.strm_pair.specs.PutBy.{PutBy, CameBy}
 use Rattle.strm_pair.specs.Staying.{ComesToStand}

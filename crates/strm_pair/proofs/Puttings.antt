@@ -5,12 +5,12 @@ use Rattle.strm_types.specs.declared.names.Side.{Side}
 use Rattle.strm_types.proofs.BySide.{set-all}
 use Rattle.strm_laws.specs.Pushes.{may_stand, with_modules}
 use Rattle.strm_laws.specs.StackCosts.{EachOnce}
-use Rattle.strm_laws.specs.Stacked.{Module, module_name}
+use Rattle.strm_laws.specs.Stacked.{Standing, module_name}
 use Rattle.strm_laws.specs.State.{Stream, stream, with_stream}
 use Rattle.strm_laws.proofs.StackOnce.{push-once}
 use Rattle.strm_blocks.specs.Blocks.{StoreValue, list_at}
 use Rattle.strm_pair.specs.declared.ends.StreamEnd.{StreamEnd}
-use Rattle.strm_ldterm.specs.declared.ldterm.Tables.{Tables}
+use Rattle.strm_frame.specs.declared.queue_pair.Tables.{Tables}
 use Rattle.strm_pair.specs.declared.streams.Streams.{Streams}
 use Rattle.strm_pair.specs.Framing.{stream_with}
 use Rattle.strm_pair.specs.Lists.{first_list}
@@ -20,7 +20,7 @@ use Rattle.strm_pair.proofs.Sides.{set-state, stream-is}
 use Rattle.strm_pair.specs.Stacks.{modules_in, IsStackHeld, stack_owns, Stack}
 
 -- one that may stand there has a name of its own
-pub pushed-once : (o : Option (Module ℕ)) (new old : List (Module ℕ)) → may_stand o old ≡ true → IfSome o (λ p. new ≡ p ∷ old) → AreApart old → AreApart new
+pub pushed-once : (o : Option (Standing ℕ)) (new old : List (Standing ℕ)) → may_stand o old ≡ true → IfSome o (λ p. new ≡ p ∷ old) → AreApart old → AreApart new
 pushed-once None new old may is each = absurd (cc)
 pushed-once (Some p) new old may is each = subst AreApart (sym is) (push-once p old may each)
 
@@ -52,7 +52,7 @@ module _ (s : StoreValue) where
   }
 
   -- what the streams stand for with it
-  pub put-state : (p : Streams) (side : Side) (y : Stack) (z : Option Tables) (o : Option (Module ℕ)) → IfSome o (λ q. modules_in s y ≡ q ∷ modules_in s (end_at side p).stack)
+  pub put-state : (p : Streams) (side : Side) (y : Stack) (z : Option Tables) (o : Option (Standing ℕ)) → IfSome o (λ q. modules_in s y ≡ q ∷ modules_in s (end_at side p).stack)
       → IfSome o (λ q. state_in s (with_end side (record (end_at side p) { stack = y; shelf = z }) p) ≡ with_modules side (q ∷ (stream side (state_in s p)).modules) (state_in s p))
   put-state p side y z None is = tt
   put-state p side y z (Some q) is =

@@ -1,8 +1,9 @@
 -- The text of an ldterm is that of its settings and of both queues as they are kept.
 use Rattle.std.proofs.Common.{ℕ, ◌≡◌, ◌++◌, refl, sym, ap, ◌∙◌, append_assoc}
+use Rattle.std.specs.Prelude.{Some}
 use Rattle.strm_types.specs.Ldterms as plain
+use Rattle.strm_types.specs.Ldterms.{by_itself}
 use Rattle.strm_blocks.specs.Blocks.{StoreValue}
-use Rattle.strm_laws.specs.Stacked.{OfLdterm}
 use Rattle.strm_image.specs.declared.versions.QueueKind.TheVariants as queues
 use Rattle.strm_image.specs.declared.versions.Version.TheVariants.{Second}
 use Rattle.strm_image.specs.Modules.{module_format}
@@ -13,18 +14,23 @@ use Rattle.strm_image.proofs.SinkRows.{put_both}
 use Rattle.strm_image.proofs.WrittenRows.{ldterm_told}
 use Rattle.strm_queue.specs.Stored.{queue_in}
 use Rattle.strm_ldterm.specs.declared.ldterm.Ldterm.{Ldterm}
-use Rattle.strm_ldterm.specs.Stands.{ldterm_in}
+use Rattle.strm_ldterm.specs.Stands.{own_in}
+use Rattle.strm_frame.specs.declared.queue_pair.QueuePair.{QueuePair}
+use Rattle.strm_frame.specs.Standings.{pair_in, standing}
+use Rattle.strm_pair.specs.declared.modules.AnyModule.TheVariants as kinds
+use Rattle.strm_pair.specs.AnyModules.{module_in}
 use Rattle.strm_pair.specs.Imaging.{settings_text}
 
-ldterm_parts : (l : plain.Ldterm ℕ) → ldterm_text l ≡ settings_text l ++ ((queue Second queues.LdtermRead).text l.read_queue ++ (queue Second queues.LdtermWrite).text l.write_queue)
-ldterm_parts l = simp append_assoc refl
+ldterm_parts : (d : plain.Discipline ℕ) → ldterm_text d ≡ settings_text (by_itself d) ++ ((queue Second queues.LdtermRead).text d.read_queue ++ (queue Second queues.LdtermWrite).text d.write_queue)
+ldterm_parts d = simp append_assoc refl
 
-pub ldterm_written : (s : StoreValue) (x : Ldterm) (g : Given)
-    → put ((queue Second queues.LdtermWrite).text (queue_in s x.write_queue)) (put ((queue Second queues.LdtermRead).text (queue_in s x.read_queue)) (put (settings_text (ldterm_in s x)) g))
-    ≡ put ((module_format Second).text (OfLdterm (ldterm_in s x))) g
-ldterm_written s x g =
-    let front = settings_text (ldterm_in s x) in
-    let reads = (queue Second queues.LdtermRead).text (queue_in s x.read_queue) in
-    let writes = (queue Second queues.LdtermWrite).text (queue_in s x.write_queue) in
+pub ldterm_written : (s : StoreValue) (x : Ldterm) (pair : QueuePair) (g : Given)
+    → put ((queue Second queues.LdtermWrite).text (queue_in s pair.write)) (put ((queue Second queues.LdtermRead).text (queue_in s pair.read)) (put (settings_text (own_in s x)) g))
+    ≡ put ((module_format Second).text (module_in s (standing (kinds.Ldterm x) (Some pair)))) g
+ldterm_written s x pair g =
+    let d = plain.discipline (own_in s x) (pair_in s pair) in
+    let front = settings_text (own_in s x) in
+    let reads = (queue Second queues.LdtermRead).text (queue_in s pair.read) in
+    let writes = (queue Second queues.LdtermWrite).text (queue_in s pair.write) in
     put_both reads writes (put front g) ∙ put_both front (reads ++ writes) g
-    ∙ ap (λ xs. put xs g) (sym (ldterm_told (ldterm_in s x) ∙ ldterm_parts (ldterm_in s x)))
+    ∙ ap (λ xs. put xs g) (sym (ldterm_told d ∙ ldterm_parts d))

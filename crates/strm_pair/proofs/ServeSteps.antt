@@ -18,7 +18,7 @@ use Rattle.strm_types.specs.Budgets.{budget, cost_of, most}
 use Rattle.strm_types.specs.Deliver.{Carried, Fate, Parcel, carried, in_turn, tallied}
 use Rattle.strm_laws.specs.Earlier.{places_of}
 use Rattle.strm_types.specs.Input.{made_of}
-use Rattle.strm_types.specs.Ldterms.{Ldterm}
+use Rattle.strm_types.specs.Ldterms.{Discipline}
 use Rattle.strm_types.specs.ModuleQueues.{at_place}
 use Rattle.strm_types.specs.Modules.{act_among}
 use Rattle.strm_laws.specs.Pair.{IsKeptAhead}
@@ -26,16 +26,18 @@ use Rattle.strm_laws.specs.Puts.{earlier_at, module_acted, noted, put_in}
 use Rattle.strm_laws.specs.Spares.{spare, spare_behind}
 use Rattle.strm_laws.specs.SideCosts.{costs}
 use Rattle.strm_laws.specs.StackCosts.{stands_of}
-use Rattle.strm_laws.specs.Stacked.{Module, OfLdterm, OfPtem, OfPckt, module_serves}
+use Rattle.strm_laws.specs.Stacked.{Module, OfLdterm, OfPtem, OfPckt, Standing, module_serves}
 use Rattle.strm_laws.specs.State.{State, book, stream}
-use Rattle.strm_types.specs.LdtermCalls.{Begins, Ends, bytes_left, most_made}
-use Rattle.strm_laws.specs.TurnCalls.{asks_on, called, ldterm_of, module_at, treated}
+use Rattle.strm_types.specs.LdtermCalls.{Begins, Ends, bytes_left}
+use Rattle.strm_types.specs.LdtermStands.{disciplined}
+use Rattle.strm_types.specs.Standings.{HoldsOfPart, stood}
+use Rattle.strm_types.specs.Service.{most_made}
+use Rattle.strm_laws.specs.TurnCalls.{asks_on, called, discipline_of, module_at, treated, none_there}
 use Rattle.strm_types.proofs.CostsOf.{none-few}
 use Rattle.strm_laws.proofs.StackSpares.{acted-falls, units-fit}
 use Rattle.strm_laws.proofs.StackStays.{serve-names}
 use Rattle.strm_laws.proofs.Booked.{between-counts, made-within, made_in, master-told, slave-told}
-use Rattle.strm_laws.proofs.LdtermStops.{GoesOn, serves-ends, serves-goes}
-use Rattle.strm_laws.proofs.ModuleTurnCalls.{UnderWay, index-map, none_there, sent-stays, under_way}
+use Rattle.strm_laws.proofs.ModuleTurnCalls.{UnderWay, index-map, sent-stays, under_way, module-ends, module-goes}
 use Rattle.strm_blocks.specs.Blocks.{IsStore, StoreValue}
 use Rattle.strm_frame.specs.declared.service.Served.{Served}
 use Rattle.strm_frame.specs.declared.parcels.Sent.{Sent}
@@ -71,37 +73,28 @@ on-true false follows holds = tt
 pub holds-there : {P : Type 0} (Q : P → Type 0) (d : P) (i : ℕ) (ps : List P) → HoldsAt Q ps i → Q (slice_index_or ps i d)
 holds-there Q d i ps holds = holds d
 
--- what is known of calls of ldterm's service procedure is so of any module's
-module _ (here : Spot) (again : Bool) where
-  pub module-goes : (p : Module ℕ) → Begins here.way again (ldterm_of p) → let t = module_serves plain here 0 again None p in t.again ≡ true → GoesOn here.way again (ldterm_of p) t.bytes (ldterm_of t.acted.state)
-  module-goes (OfLdterm l) begins works = serves-goes here again l begins works
-  module-goes (OfPtem p) begins works = absurd (false≢true works)
-  module-goes (OfPckt p) begins works = absurd (false≢true works)
-
-  module-ends : (p : Module ℕ) → Begins here.way again (ldterm_of p) → let t = module_serves plain here 0 again None p in t.again ≡ false → Ends here.way again (ldterm_of p) t.bytes
-  module-ends (OfLdterm l) begins over = (serves-ends here again l begins over).0
-  module-ends (OfPtem p) begins over = record { treat = omega arith; done = omega arith }
-  module-ends (OfPckt p) begins over = record { treat = omega arith; done = omega arith }
-
 -- where a turn of a module begins or goes on, it may serve
-may-one : (way : Way) (again : Bool) (p : Module ℕ) → Begins way again (ldterm_of p) → MayServe way again p
-may-one Up true (OfLdterm l) begins = begins
-may-one Up false (OfLdterm l) begins = begins
-may-one Down true (OfLdterm l) begins = begins
-may-one Down false (OfLdterm l) begins = begins
-may-one way again (OfPtem p) begins = tt
-may-one way again (OfPckt p) begins = tt
+may-one : (way : Way) (again : Bool) (p : Standing ℕ) → Begins way again (discipline_of p) → MayServe way again p.part
+may-one way again p begins = by way again p.part begins
+  where
+    by : (way : Way) (again : Bool) (part : Module ℕ) → Begins way again (discipline_of (stood part p.queues)) → MayServe way again part
+    by Up true (OfLdterm l) begins = begins
+    by Up false (OfLdterm l) begins = begins
+    by Down true (OfLdterm l) begins = begins
+    by Down false (OfLdterm l) begins = begins
+    by way again (OfPtem q) begins = tt
+    by way again (OfPckt q) begins = tt
 
-pub may-serve : (way : Way) (again : Bool) (i : ℕ) (ps : List (Module ℕ)) → i < length ps → Begins way again (ldterm_of (slice_index_or ps i none_there)) → HoldsAt (MayServe way again) ps i
+pub may-serve : (way : Way) (again : Bool) (i : ℕ) (ps : List (Standing ℕ)) → i < length ps → Begins way again (discipline_of (slice_index_or ps i none_there)) → HoldsAt (HoldsOfPart (MayServe way again)) ps i
 may-serve way again i [] low begins = absurd (omega (arith, low))
 may-serve way again zero (p ∷ ps) low begins = λ d. may-one way again p begins
 may-serve way again (suc i) (p ∷ ps) low begins = may-serve way again i ps (omega (arith, low)) begins
 
 -- what is booked of a call, and what it told
-module _ (here : Spot) (again : Bool) (call : Call) (st : State ℕ) (tells : TellsAs here again call st) (begins : Begins here.way again (ldterm_of (module_at here st))) (low : here.at - 1 < length (stream here.side st).modules) where
+module _ (here : Spot) (again : Bool) (call : Call) (st : State ℕ) (tells : TellsAs here again call st) (begins : Begins here.way again (discipline_of (module_at here st))) (low : here.at - 1 < length (stream here.side st).modules) where
   -- it treated no more than it might
-  within-by : (stopped : Bool) → OnTrue stopped (Ends here.way again (ldterm_of (module_at here st)) call.bytes) → call.bytes ≡ treated here again (stop_at stopped call.bytes) (stream here.side st).modules
-      → call.bytes ≤ bytes_left here.way again (ldterm_of (module_at here st))
+  within-by : (stopped : Bool) → OnTrue stopped (Ends here.way again (discipline_of (module_at here st)) call.bytes) → call.bytes ≡ treated here again (stop_at stopped call.bytes) (stream here.side st).modules
+      → call.bytes ≤ bytes_left here.way again (discipline_of (module_at here st))
   within-by true ends bytes = ends.treat
   within-by false ends bytes =
       let l = module_at here st in
@@ -111,11 +104,11 @@ module _ (here : Spot) (again : Bool) (call : Call) (st : State ℕ) (tells : Te
       let same : call.bytes ≡ t.bytes = bytes ∙ index-map none_there (λ p. (module_serves plain here 0 again None p).bytes) 0 i ps low in
       at t.again refl (omega (arith, same))
     where
-      at : (more : Bool) → (module_serves plain here 0 again None (module_at here st)).again ≡ more → call.bytes ≤ (module_serves plain here 0 again None (module_at here st)).bytes → call.bytes ≤ bytes_left here.way again (ldterm_of (module_at here st))
+      at : (more : Bool) → (module_serves plain here 0 again None (module_at here st)).again ≡ more → call.bytes ≤ (module_serves plain here 0 again None (module_at here st)).bytes → call.bytes ≤ bytes_left here.way again (discipline_of (module_at here st))
       at true is most = let g = module-goes here again (module_at here st) begins is in omega (arith, g.treat, most)
-      at false is most = let e = module-ends here again (module_at here st) begins is in omega (arith, e.treat, most)
+      at false is most = let e = module-ends here again (module_at here st) begins is in omega (arith, e.0.treat, most)
 
-  pub call-within : call.bytes ≤ bytes_left here.way again (ldterm_of (module_at here st))
+  pub call-within : call.bytes ≤ bytes_left here.way again (discipline_of (module_at here st))
   call-within = within-by call.stopped tells.ends tells.bytes
 
   -- so what it made fits the books
@@ -123,7 +116,7 @@ module _ (here : Spot) (again : Bool) (call : Call) (st : State ℕ) (tells : Te
   told_in = (called here again (stop_in call) (stream here.side st).modules).gone
 
   abbrev left : ℕ
-  left = bytes_left here.way again (ldterm_of (module_at here st))
+  left = bytes_left here.way again (discipline_of (module_at here st))
 
   most-made : made_of told_in ≤ most_made left
   most-made = omega (arith, tells.made, call-within)
@@ -161,7 +154,7 @@ all-in s p all = record { apart = λ i. omega (arith, all i) }
 
 -- as many modules stand there, whatever the store
 pub within-any : (s t : StoreValue) (p : Streams) (side : Side) (at : ℕ) → at ≤ length (stream side (state_in s p)).modules → at ≤ length (stream side (state_in t p)).modules
-within-any s t p side at low = omega (arith, low, stack-long s t (end_at side p).stack, ap (λ (ms : List (Module ℕ)). length ms) (modules-are s p side), ap (λ (ms : List (Module ℕ)). length ms) (modules-are t p side))
+within-any s t p side at low = omega (arith, low, stack-long s t (end_at side p).stack, ap (λ (ms : List (Standing ℕ)). length ms) (modules-are s p side), ap (λ (ms : List (Standing ℕ)). length ms) (modules-are t p side))
 
 module _ (s t : StoreValue) (p q : Streams) (x : Stack) (here : Spot) (again : Bool) (served : Served) (f f' : Fates) where
   abbrev st : State ℕ
@@ -170,7 +163,7 @@ module _ (s t : StoreValue) (p q : Streams) (x : Stack) (here : Spot) (again : B
   abbrev old : Stack
   old = (end_at here.side p).stack
 
-  abbrev ms : List (Module ℕ)
+  abbrev ms : List (Standing ℕ)
   ms = (stream here.side st).modules
 
   -- what it tells of itself
@@ -180,7 +173,7 @@ module _ (s t : StoreValue) (p q : Streams) (x : Stack) (here : Spot) (again : B
       record {
         bytes = e.bytes ∙ ap (treated here again (stop_in (call_of served))) same;
         asks = e.asks ∙ ap (asks_on here again (stop_in (call_of served))) same;
-        ends = on-true served.stopped (holds-there (λ l. Ends here.way again (ldterm_of l) served.bytes) none_there (here.at - 1) ms) (subst (λ ls. OnTrue served.stopped (HoldsAt (λ l. Ends here.way again (ldterm_of l) served.bytes) ls (here.at - 1))) same e.ends);
+        ends = on-true served.stopped (holds-there (λ l. Ends here.way again (discipline_of l) served.bytes) none_there (here.at - 1) ms) (subst (λ ls. OnTrue served.stopped (HoldsAt (λ l. Ends here.way again (discipline_of l) served.bytes) ls (here.at - 1))) same e.ends);
         over = e.over;
         made = subst (λ ls. made_of (called here again (stop_in (call_of served)) ls).gone ≤ most_made served.bytes) same e.made;
       }
@@ -217,18 +210,21 @@ module _ (s t : StoreValue) (p q : Streams) (x : Stack) (here : Spot) (again : B
       }
 
 -- what a call sends takes little, also where it becomes packets
-begins-work : (way : Way) (again : Bool) (l : Ldterm ℕ) → Begins way again l → way ≡ Up → again ≡ true → is_some l.in_work ≡ true
+begins-work : (way : Way) (again : Bool) (l : Discipline ℕ) → Begins way again l → way ≡ Up → again ≡ true → is_some l.in_work ≡ true
 begins-work Up true l begins up more = begins
 begins-work Up false l begins up more = absurd (false≢true more)
 begins-work Down again l begins up more = absurd (cc)
 
 module _ (here : Spot) (again : Bool) (stop : Option ℕ) where
-  one-sends : (p : Module ℕ) → Begins here.way again (ldterm_of p) → cost_of most (module_serves plain here 0 again stop p).acted.sent ≤ 31
-  one-sends (OfLdterm l) begins = call-few here again stop l (begins-work here.way again l begins)
-  one-sends (OfPtem p) begins = none-few ℕ most 31
-  one-sends (OfPckt p) begins = none-few ℕ most 31
+  one-sends : (p : Standing ℕ) → Begins here.way again (discipline_of p) → cost_of most (module_serves plain here 0 again stop p).acted.sent ≤ 31
+  one-sends p begins = by p.part begins
+    where
+      by : (part : Module ℕ) → let q = stood part p.queues in Begins here.way again (discipline_of q) → cost_of most (module_serves plain here 0 again stop q).acted.sent ≤ 31
+      by (OfLdterm l) begins = let d = disciplined l p.queues in call-few here again stop d (begins-work here.way again d begins)
+      by (OfPtem q) begins = none-few ℕ most 31
+      by (OfPckt q) begins = none-few ℕ most 31
 
-  among-sends : (i : ℕ) (ps : List (Module ℕ)) → i < length ps → Begins here.way again (ldterm_of (slice_index_or ps i none_there)) → cost_of most (act_among (λ p. (module_serves plain here 0 again stop p).acted) i ps).sent ≤ 31
+  among-sends : (i : ℕ) (ps : List (Standing ℕ)) → i < length ps → Begins here.way again (discipline_of (slice_index_or ps i none_there)) → cost_of most (act_among (λ p. (module_serves plain here 0 again stop p).acted) i ps).sent ≤ 31
   among-sends i [] low begins = absurd (omega (arith, low))
   among-sends zero (p ∷ ps) low begins = one-sends p begins
   among-sends (suc i) (p ∷ ps) low begins = among-sends i ps (omega (arith, low)) begins
@@ -238,11 +234,11 @@ abbrev stage_cost : Way → UnderWay → ℕ
 stage_cost Up u = needs u.stage
 stage_cost Down u = 25
 
-one-cost : (way : Way) (here : Spot) (l : Module ℕ) → turn_cost (record here { way = way }) true l ≡ stage_cost way (under_way l)
+one-cost : (way : Way) (here : Spot) (l : Standing ℕ) → turn_cost (record here { way = way }) true l ≡ stage_cost way (under_way l)
 one-cost Up here l = refl
 one-cost Down here l = refl
 
-all-cost : (here : Spot) (ls : List (Module ℕ)) → map (turn_cost here true) ls ≡ map (stage_cost here.way) (map under_way ls)
+all-cost : (here : Spot) (ls : List (Standing ℕ)) → map (turn_cost here true) ls ≡ map (stage_cost here.way) (map under_way ls)
 all-cost here [] = refl
 all-cost here (l ∷ ls) = ap (λ n. n ∷ map (turn_cost here true) ls) (one-cost here.way here l) ∙ ap (λ ns. stage_cost here.way (under_way l) ∷ ns) (all-cost here ls)
 
@@ -257,7 +253,7 @@ next-room s t false sent next next' same room spends = tt
 
 -- a call whose messages are delivered
 module _ (r s : StoreValue) (o p : Streams) (here : Spot) (again : Bool) (call : Call) (sent_on : List Sent) (f f' : Fates)
-    (inside : 0 < here.at) (begins : Begins here.way again (ldterm_of (module_at here (state_in r o)))) (low : here.at - 1 < length (stream here.side (state_in r o)).modules)
+    (inside : 0 < here.at) (begins : Begins here.way again (discipline_of (module_at here (state_in r o)))) (low : here.at - 1 < length (stream here.side (state_in r o)).modules)
     (a : ActsAs r s o p here again call sent_on f f') where
   -- what its messages take, by the modules that stand there
   abbrev takes : ℕ
@@ -286,7 +282,7 @@ module _ (r s : StoreValue) (o p : Streams) (here : Spot) (again : Bool) (call :
   few-by t blocks = at call.stopped refl a.few
     where
       at : (stopped : Bool) → call.stopped ≡ stopped → OnTrue stopped (least_free s < STOP_BLOCKS)
-          → OnTrue stopped (call.bytes < bytes_left here.way again (ldterm_of (module_at here (state_in r o))) → IsKeptAhead here.way here.side (state_in r o) → least_free t < STOP_BLOCKS)
+          → OnTrue stopped (call.bytes < bytes_left here.way again (discipline_of (module_at here (state_in r o))) → IsKeptAhead here.way here.side (state_in r o) → least_free t < STOP_BLOCKS)
       at true is few = λ less ahead.
           let w = acts_in here again call (state_in r o) in
           let stays = stopped-stays here again call (state_in r o) a.itself low begins is less ahead in

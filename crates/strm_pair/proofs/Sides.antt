@@ -99,7 +99,7 @@ pub queue-same : (s t : StoreValue) (q : Queue) → list_at t q.list ≡ list_at
 queue-same s t q same = ap (λ l. record { messages = map message_of l; flows = plain_flows q.flows; want_read = q.want_read; no_enable = q.no_enable }) same
 
 -- a stream by its two queues and its modules
-abbrev pub stream_of : StreamEnd → state.Queue ℕ → List (stacked.Module ℕ) → state.Queue ℕ → streams.Stream ℕ
+abbrev pub stream_of : StreamEnd → state.Queue ℕ → List (stacked.Standing ℕ) → state.Queue ℕ → streams.Stream ℕ
 stream_of e h ms d = record {
   opened = e.opened;
   head = record { queue = h; read_mode = e.head.read_mode; control_mode = e.head.control_mode; tostop = e.head.tostop; group = e.head.group; hung_up = e.head.hung_up; signals = e.head.signals; ioctl = plain_slot e.head.ioctl };

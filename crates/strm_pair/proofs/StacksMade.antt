@@ -1,10 +1,11 @@
 -- The modules of a text, placed one behind the other.
 use Rattle.std.proofs.Common.{ℕ, zero, suc, ◌≡◌, ◌≤◌, ◌<◌, ◌+◌, cond, true, List, [], ◌∷◌, ◌++◌, length, map, take, get_or, refl, sym, ap, subst, ◌∙◌, arith}
-use Rattle.std.specs.Prelude.{is_some, sum_by, Option}
+use Rattle.std.specs.Prelude.{is_some, sum_by, Option, Some}
 use Rattle.std.proofs.lemmas.List.{map-append, take_more}
 use Rattle.std.proofs.lemmas.List.Sums.{sum_by-cons, sum_by-le-sum_by, sum_by_more_le, sum_by_push}
 use Rattle.strm_types.specs.declared.names.ModuleName.TheVariants as names
 use Rattle.strm_types.specs.Names.{same_module}
+use Rattle.strm_types.specs.Standings.{stood}
 use Rattle.strm_laws.specs.StackCosts.{EachOnce, times_there}
 use Rattle.strm_laws.specs.Stacked.{OfLdterm, module_name}
 use Rattle.strm_laws.proofs.StackOnce.{nothing-there, top-times}
@@ -16,14 +17,14 @@ use Rattle.strm_frame.specs.Stacks.{all_of, AreHeld}
 use Rattle.strm_image.specs.declared.modules.LdtermText.{LdtermText}
 use Rattle.strm_image.specs.declared.modules.ModuleText.{ModuleText}
 use Rattle.strm_image.specs.declared.modules.ModuleText.TheVariants as texts
-use Rattle.strm_image.specs.ModuleTexts.{ldterm_now, module_now, modules_now, names_now}
+use Rattle.strm_image.specs.ModuleTexts.{module_now, modules_now, names_now, own_now, pair_now}
 use Rattle.strm_ldterm.specs.declared.ldterm.Ldterm.{Ldterm}
-use Rattle.strm_ldterm.specs.declared.ldterm.Tables.{Tables}
-use Rattle.strm_ldterm.specs.Stands as stands
-use Rattle.strm_ldterm.specs.Stands.{ldterm_in}
-use Rattle.strm_pair.specs.declared.modules.AnyModule.{AnyModule}
+use Rattle.strm_frame.specs.declared.queue_pair.QueuePair.{QueuePair}
+use Rattle.strm_frame.specs.declared.queue_pair.Tables.{Tables}
+use Rattle.strm_ldterm.specs.Stands.{HasInHand, keeps_itself, own_in}
 use Rattle.strm_pair.specs.declared.modules.AnyModule.TheVariants as kinds
-use Rattle.strm_pair.specs.AnyModules.{IsHeld, keeps, module-frame, module_in, owns}
+use Rattle.strm_pair.specs.AnyModules.{AnyStanding, IsHeld, any-frame, keeps, module_in}
+use Rattle.strm_frame.specs.Standings.{IsPairReady, owns, pair_in, queues_own, standing}
 use Rattle.strm_pair.specs.Placing.{AreStacked, IsFreeFor, IsPlaced, module_blocks, own_of}
 use Rattle.strm_pair.specs.Runs.{Spent}
 use Rattle.strm_pair.specs.Standing.{FillsTwo, ldterm_blocks}
@@ -64,14 +65,14 @@ module _ (first k : ℕ) where
 
 -- ---- with one module more
 
-module _ {s t : StoreValue} {first : ℕ} {ms : List ModuleText} {xs : List AnyModule} {was : Option Tables} (so_far : AreStacked s t first ms xs was) where
+module _ {s t : StoreValue} {first : ℕ} {ms : List ModuleText} {xs : List AnyStanding} {was : Option Tables} (so_far : AreStacked s t first ms xs was) where
   -- an ldterm finds its lists empty
   pub free-for : (m : ModuleText) → sum_by is_ldterm ms + is_ldterm m ≤ 1 → IsFreeFor t first was m
   free-for (texts.Ldterm l) few = so_far.free (omega (arith, so_far.own first, all-few first first ms, few))
   free-for (texts.Ptem p) few = tt
   free-for texts.Pckt few = tt
 
-  module _ {u : StoreValue} {m : ModuleText} {x : AnyModule} {is : Option Tables} (placed : IsPlaced t u first was is m x) (few : sum_by is_ldterm ms + is_ldterm m ≤ 1) where
+  module _ {u : StoreValue} {m : ModuleText} {x : AnyStanding} {is : Option Tables} (placed : IsPlaced t u first was is m x) (few : sum_by is_ldterm ms + is_ldterm m ≤ 1) where
     -- it has no list while another one has
     none-own : (k : ℕ) → 0 < all_of owns xs k → owns x first ≡ 0
     none-own k some = omega (arith, some, so_far.own k, all-few first k ms, few, own-few first first m, placed.own first)
@@ -85,7 +86,7 @@ module _ {s t : StoreValue} {first : ℕ} {ms : List ModuleText} {xs : List AnyM
     }
 
     others : (map (module_in u) xs ≡ map (module_in t) xs) × AreHeld IsHeld owns u xs
-    others = stack-stays module_in IsHeld owns keeps module-frame t u xs same so_far.held
+    others = stack-stays module_in IsHeld owns keeps any-frame t u xs same so_far.held
 
     owns-all : (k : ℕ) → all_of owns (xs ++ x ∷ []) k ≡ sum_by (own_of first k) (ms ++ m ∷ [])
     owns-all k = omega (arith, sum_by_push (λ y. owns y k) xs x, so_far.own k, placed.own k, sum_by_push (own_of first k) ms m)
@@ -154,7 +155,7 @@ module _ (f k : ℕ) where
 
 -- ---- where the first one is to be placed
 
-pub stacked-none : (s : StoreValue) (first : ℕ) (shelf : Option Tables) (xs : List AnyModule) → xs ≡ [] → list_at s first ≡ [] → list_at s (first + 1) ≡ [] → is_some shelf ≡ true → AreStacked s s first [] xs shelf
+pub stacked-none : (s : StoreValue) (first : ℕ) (shelf : Option Tables) (xs : List AnyStanding) → xs ≡ [] → list_at s first ≡ [] → list_at s (first + 1) ≡ [] → is_some shelf ≡ true → AreStacked s s first [] xs shelf
 stacked-none s first shelf xs none reads writes there = subst (λ ys. AreStacked s s first [] ys shelf) (sym none) (record {
   state = refl;
   held = record { each = tt; apart = λ k. omega arith };
@@ -175,7 +176,7 @@ module _ (ms : List ModuleText) (i : ℕ) (m : ModuleText) (at : m ≡ get_or ms
     dblks = omega (arith, room.dblks, spent.dblks, sum_by_more_le module_blocks ms i m within, ap module_blocks at);
   }
 
-  pub stacked-more : {s t u : StoreValue} {first : ℕ} {xs ys : List AnyModule} {x : AnyModule} {was is : Option Tables} → EachOnce (names_now ms) → AreStacked s t first (take i ms) xs was → IsPlaced t u first was is m x → ys ≡ xs ++ x ∷ []
+  pub stacked-more : {s t u : StoreValue} {first : ℕ} {xs ys : List AnyStanding} {x : AnyStanding} {was is : Option Tables} → EachOnce (names_now ms) → AreStacked s t first (take i ms) xs was → IsPlaced t u first was is m x → ys ≡ xs ++ x ∷ []
       → AreStacked s u first (take (i + 1) ms) ys is
   stacked-more {s} {t} {u} {first} {xs} {ys} {x} {was} {is} each so_far placed pushed =
       let more : take (i + 1) ms ≡ take i ms ++ m ∷ [] = take_more ms i m within ∙ ap (λ k. take i ms ++ k ∷ []) (sym at) in
@@ -184,7 +185,7 @@ module _ (ms : List ModuleText) (i : ℕ) (m : ModuleText) (at : m ≡ get_or ms
 
 -- ---- a module without queues
 
-pub placed-bare : (s : StoreValue) (first : ℕ) (shelf : Option Tables) (t : ModuleText) (x : AnyModule) → module_in s x ≡ module_now t → IsHeld s x → ((i : ℕ) → keeps x i ≡ 0) → ((k : ℕ) → owns x k ≡ own_of first k t) → module_blocks t ≡ 0
+pub placed-bare : (s : StoreValue) (first : ℕ) (shelf : Option Tables) (t : ModuleText) (x : AnyStanding) → module_in s x ≡ module_now t → IsHeld s x → ((i : ℕ) → keeps x i ≡ 0) → ((k : ℕ) → owns x k ≡ own_of first k t) → module_blocks t ≡ 0
     → IsPlaced s s first shelf shelf t x
 placed-bare s first shelf t x is held rests own none = record {
   state = is;
@@ -198,11 +199,12 @@ placed-bare s first shelf t x is held rests own none = record {
 
 -- ---- an ldterm
 
-pub placed-ldterm : (s t : StoreValue) (first : ℕ) (was is : Option Tables) (text : ModuleText) (l : LdtermText) (x : Ldterm) → text ≡ texts.Ldterm l → ldterm_in t x ≡ ldterm_now l → stands.IsHeld t x → ((i : ℕ) → stands.keeps x i ≡ 0)
-    → ((k : ℕ) → stands.owns x k ≡ once first k + once (first + 1) k) → FillsTwo s t first → Spent s t (ldterm_blocks l) → IsPlaced s t first was is text (kinds.Ldterm x)
-placed-ldterm s t first was is text l x e state held rests own fills spent = subst (λ m. IsPlaced s t first was is m (kinds.Ldterm x)) (sym e) (record {
-  state = ap OfLdterm state;
-  held = held;
+pub placed-ldterm : (s t : StoreValue) (first : ℕ) (was is : Option Tables) (text : ModuleText) (l : LdtermText) (x : Ldterm) (pair : QueuePair) → text ≡ texts.Ldterm l → own_in t x ≡ own_now l → pair_in t pair ≡ pair_now l
+    → HasInHand t x (Some pair) → IsPairReady t pair → ((i : ℕ) → keeps_itself x i ≡ 0) → ((k : ℕ) → queues_own (Some pair) k ≡ once first k + once (first + 1) k) → FillsTwo s t first → Spent s t (ldterm_blocks l)
+    → IsPlaced s t first was is text (standing (kinds.Ldterm x) (Some pair))
+placed-ldterm s t first was is text l x pair e own_is pair_is held ready rests own fills spent = subst (λ m. IsPlaced s t first was is m (standing (kinds.Ldterm x) (Some pair))) (sym e) (record {
+  state = ap (λ part. stood (OfLdterm part) (Some (pair_in t pair))) own_is ∙ ap (λ queues. stood (OfLdterm (own_now l)) (Some queues)) pair_is;
+  held = record { queues = ready; itself = held };
   rests = rests;
   own = own;
   stays = λ none. absurd (omega (arith, none, own first, once-self first));

@@ -10,11 +10,11 @@ use Rattle.strm_types.specs.declared.names.Way.{Way}
 use Rattle.strm_types.specs.declared.names.Way.TheVariants.{Up, Down}
 use Rattle.strm_types.specs.declared.spots.Spot.{Spot}
 use Rattle.strm_types.specs.Cells.{plain}
-use Rattle.strm_types.specs.Deliver.{Acted, Parcel}
+use Rattle.strm_types.specs.Deliver.{Acted, Parcel, onward}
 use Rattle.strm_types.specs.Input.{input_begins, is_data, made_of, next_stage, passes, stages, stages_done, treats}
 use Rattle.strm_types.specs.LdtermCalls.{Begins, bytes_left}
 use Rattle.strm_types.specs.LdtermServes.{ldterm_serves}
-use Rattle.strm_types.specs.Ldterms.{Ldterm, onward}
+use Rattle.strm_types.specs.Ldterms.{Discipline}
 use Rattle.strm_types.specs.Message.{Message, cells_of, data_message, is_held, size_of}
 use Rattle.strm_types.specs.Modules.{act_among}
 use Rattle.strm_types.specs.OutputTurns.{Outgoing, output_serves, posted, unchanged, with_given}
@@ -22,12 +22,13 @@ use Rattle.strm_types.specs.Queue.{first_size, is_none_left, left_with}
 use Rattle.strm_types.specs.Service.{Serving}
 use Rattle.strm_types.specs.Termios.{opost}
 use Rattle.strm_types.specs.Typing.{gathered_up}
+use Rattle.strm_types.specs.Standings.{stood}
+use Rattle.strm_types.specs.LdtermStands.{disciplined}
 use Rattle.strm_laws.specs.Pair.{IsKeptAhead}
 use Rattle.strm_laws.specs.Puts.{SameButMade, module_acted}
-use Rattle.strm_laws.specs.Stacked.{Module, OfLdterm, OfPtem, OfPckt, module_serves}
+use Rattle.strm_laws.specs.Stacked.{Module, OfLdterm, OfPtem, OfPckt, Standing, module_serves}
 use Rattle.strm_laws.specs.State.{State, stream}
-use Rattle.strm_laws.specs.TurnCalls.{asks_on, called, ldterm_of, led, module_at, treated}
-use Rattle.strm_laws.proofs.ModuleTurnCalls.{none_there}
+use Rattle.strm_laws.specs.TurnCalls.{asks_on, called, discipline_of, led, module_at, none_there, treated}
 use Rattle.strm_laws.proofs.PutParts.{acted-holds, sent-holds}
 use Rattle.strm_laws.proofs.PutsKeep.{same-itself, same-stays}
 use Rattle.strm_laws.proofs.Staying.{SentOn, kept-ahead}
@@ -43,21 +44,21 @@ module _ (here : Spot) where
   abbrev Gathered : List (Parcel ℕ) → Type 0
   Gathered ps = (line : List ℕ) × (ps ≡ gathered_up plain here line)
 
-  stages-gathered : (n made : ℕ) (l : Ldterm ℕ) → is_some l.in_work ≡ true → is_some (stages plain here n made l).state.in_work ≡ false → Gathered (stages plain here n made l).sent
+  stages-gathered : (n made : ℕ) (l : Discipline ℕ) → is_some l.in_work ≡ true → is_some (stages plain here n made l).state.in_work ≡ false → Gathered (stages plain here n made l).sent
   stages-gathered zero made l some over = (l.gathered, refl)
   stages-gathered (suc n) made l some over = at (is_none_left t.sent) over (λ none. stages-gathered n (made + made_of t.gone) t.state still none)
     where
-      t : Acted ℕ (Ldterm ℕ)
+      t : Acted ℕ (Discipline ℕ)
       t = next_stage plain here made l
 
       still : is_some t.state.in_work ≡ true
       still = next-works here made l ∙ some
 
-      u : Acted ℕ (Ldterm ℕ)
+      u : Acted ℕ (Discipline ℕ)
       u = stages plain here n (made + made_of t.gone) t.state
 
-      at : (none : Bool) → is_some (cond {A = Acted ℕ (Ldterm ℕ)} none (record { state = u.state; notes = t.notes ++ u.notes; sent = u.sent; gone = t.gone ++ u.gone }) t).state.in_work ≡ false
-          → (is_some u.state.in_work ≡ false → Gathered u.sent) → Gathered (cond {A = Acted ℕ (Ldterm ℕ)} none (record { state = u.state; notes = t.notes ++ u.notes; sent = u.sent; gone = t.gone ++ u.gone }) t).sent
+      at : (none : Bool) → is_some (cond {A = Acted ℕ (Discipline ℕ)} none (record { state = u.state; notes = t.notes ++ u.notes; sent = u.sent; gone = t.gone ++ u.gone }) t).state.in_work ≡ false
+          → (is_some u.state.in_work ≡ false → Gathered u.sent) → Gathered (cond {A = Acted ℕ (Discipline ℕ)} none (record { state = u.state; notes = t.notes ++ u.notes; sent = u.sent; gone = t.gone ++ u.gone }) t).sent
       at true over behind = behind over
       at false over behind = absurd (false≢true (sym over ∙ still))
 
@@ -84,7 +85,7 @@ module _ (here : Spot) where
   given-on down m held [] = tt
   given-on down m held (c ∷ given) = (held, refl, sym down, λ is. omega arith)
 
-  output-on : here.way ≡ Down → (bytes : ℕ) (ms : List (Message ℕ)) (l : Ldterm ℕ) → let t = output_serves plain (record here { way = Down }) (Some bytes) 0 ms l in t.bytes < first_size ms → SentOn here t.acted.sent
+  output-on : here.way ≡ Down → (bytes : ℕ) (ms : List (Message ℕ)) (l : Discipline ℕ) → let t = output_serves plain (record here { way = Down }) (Some bytes) 0 ms l in t.bytes < first_size ms → SentOn here t.acted.sent
   output-on down bytes [] l less = tt
   output-on down bytes (m ∷ rest) l less = at (is_data m.kind && opost l.termios) refl (cells_of m) refl less
     where
@@ -99,7 +100,7 @@ module _ (here : Spot) (again : Bool) (bytes : ℕ) where
   abbrev up : Spot
   up = record here { way = Up }
 
-  serves-gathered : (more : Bool) (l : Ldterm ℕ) → Begins Up more l → let t = ldterm_serves plain up 0 more (Some bytes) l in t.again ≡ false → t.bytes < bytes_left Up more l → Gathered here t.acted.sent
+  serves-gathered : (more : Bool) (l : Discipline ℕ) → Begins Up more l → let t = ldterm_serves plain up 0 more (Some bytes) l in t.again ≡ false → t.bytes < bytes_left Up more l → Gathered here t.acted.sent
   serves-gathered true l begins over less = stages-gathered up (3 * bytes - stages_done l.stage) 0 l begins over
   serves-gathered false l begins over less = of l.read_queue.messages refl over less
     where
@@ -107,27 +108,33 @@ module _ (here : Spot) (again : Bool) (bytes : ℕ) where
       of [] is over less = ([], refl)
       of (m ∷ rest) is over less = at (is_data m.kind) over less
         where
-          begun : Ldterm ℕ
+          begun : Discipline ℕ
           begun = record l { read_queue = left_with rest l.read_queue; in_work = Some m }
 
-          at : (typed : Bool) → let t = cond {A = Serving ℕ (Ldterm ℕ)} typed (treats plain up bytes 0 begun) (passes plain up Up m rest l) in t.again ≡ false → t.bytes < bytes_left Up false l → Gathered here t.acted.sent
+          at : (typed : Bool) → let t = cond {A = Serving ℕ (Discipline ℕ)} typed (treats plain up bytes 0 begun) (passes plain up Up m rest l) in t.again ≡ false → t.bytes < bytes_left Up false l → Gathered here t.acted.sent
           at true over less = stages-gathered up (3 * bytes - stages_done begun.stage) 0 begun refl over
           at false over less = let size = ap first_size is in absurd (omega (arith, less, size))
 
-  module-on : (way : Way) → here.way ≡ way → (p : Module ℕ) → Begins way again (ldterm_of p) → let t = module_serves plain (record here { way = way }) 0 again (Some bytes) p in
-      t.again ≡ false → t.bytes < bytes_left way again (ldterm_of p) → SentOn here t.acted.sent
-  module-on Up is (OfLdterm l) begins over less = gathered-on here is (ldterm_serves plain up 0 again (Some bytes) l).acted.sent (serves-gathered again l begins over less)
-  module-on Down is (OfLdterm l) begins over less = by again less
-    where
-      by : (more : Bool) → let t = ldterm_serves plain (record here { way = Down }) 0 more (Some bytes) l in t.bytes < bytes_left Down more l → SentOn here t.acted.sent
-      by true less = output-on here is bytes l.write_queue.messages l less
-      by false less = output-on here is bytes l.write_queue.messages l less
-  module-on way is (OfPtem p) begins over less = tt
-  module-on way is (OfPckt p) begins over less = tt
+  down-on : here.way ≡ Down → (more : Bool) (l : Discipline ℕ) → let t = ldterm_serves plain (record here { way = Down }) 0 more (Some bytes) l in t.bytes < bytes_left Down more l → SentOn here t.acted.sent
+  down-on is true l less = output-on here is bytes l.write_queue.messages l less
+  down-on is false l less = output-on here is bytes l.write_queue.messages l less
 
-  among-on : (i : ℕ) (ps : List (Module ℕ)) → i < length ps → Begins here.way again (ldterm_of (slice_index_or ps i none_there))
+  module-on : (way : Way) → here.way ≡ way → (p : Standing ℕ) → Begins way again (discipline_of p) → let t = module_serves plain (record here { way = way }) 0 again (Some bytes) p in
+      t.again ≡ false → t.bytes < bytes_left way again (discipline_of p) → SentOn here t.acted.sent
+  module-on way is p begins over less = by way is p.part begins over less
+    where
+      by : (way : Way) → here.way ≡ way → (part : Module ℕ) → let q = stood part p.queues in Begins way again (discipline_of q) → let t = module_serves plain (record here { way = way }) 0 again (Some bytes) q in
+          t.again ≡ false → t.bytes < bytes_left way again (discipline_of q) → SentOn here t.acted.sent
+      by Up is (OfLdterm l) begins over less =
+          let d = disciplined l p.queues in
+          gathered-on here is (ldterm_serves plain up 0 again (Some bytes) d).acted.sent (serves-gathered again d begins over less)
+      by Down is (OfLdterm l) begins over less = down-on is again (disciplined l p.queues) less
+      by way is (OfPtem q) begins over less = tt
+      by way is (OfPckt q) begins over less = tt
+
+  among-on : (i : ℕ) (ps : List (Standing ℕ)) → i < length ps → Begins here.way again (discipline_of (slice_index_or ps i none_there))
       → slice_index_or (map (λ p. (module_serves plain here 0 again (Some bytes) p).again) ps) i false ≡ false
-      → slice_index_or (map (λ p. (module_serves plain here 0 again (Some bytes) p).bytes) ps) i 0 < bytes_left here.way again (ldterm_of (slice_index_or ps i none_there))
+      → slice_index_or (map (λ p. (module_serves plain here 0 again (Some bytes) p).bytes) ps) i 0 < bytes_left here.way again (discipline_of (slice_index_or ps i none_there))
       → SentOn here (act_among (λ p. (module_serves plain here 0 again (Some bytes) p).acted) i ps).sent
   among-on i [] low begins over less = absurd (omega (arith, low))
   among-on zero (p ∷ ps) low begins over less = module-on here.way refl p begins over less
@@ -145,8 +152,8 @@ led-same here again stop s =
     let w = module_acted here (called here again stop (stream here.side s).modules) s in
     sent-holds (SameButMade s) (same-stays s) plain w.sent w.state (acted-same here again stop s)
 
-pub stopped-stays : (here : Spot) (again : Bool) (call : Call) (s : State ℕ) → TellsAs here again call s → here.at - 1 < length (stream here.side s).modules → Begins here.way again (ldterm_of (module_at here s))
-    → call.stopped ≡ true → call.bytes < bytes_left here.way again (ldterm_of (module_at here s)) → IsKeptAhead here.way here.side s → StaysAlone ComesToStand (acts_in here again call s).state (acts_in here again call s).sent
+pub stopped-stays : (here : Spot) (again : Bool) (call : Call) (s : State ℕ) → TellsAs here again call s → here.at - 1 < length (stream here.side s).modules → Begins here.way again (discipline_of (module_at here s))
+    → call.stopped ≡ true → call.bytes < bytes_left here.way again (discipline_of (module_at here s)) → IsKeptAhead here.way here.side s → StaysAlone ComesToStand (acts_in here again call s).state (acts_in here again call s).sent
 stopped-stays here again call s tells low begins is less ahead =
     let ps = (stream here.side s).modules in
     let some : stop_in call ≡ Some call.bytes = ap (λ b. stop_at b call.bytes) is in

@@ -12,7 +12,7 @@ use Rattle.strm_types.specs.Names.{other, place_of}
 use Rattle.strm_types.proofs.BySide.{get-set-same}
 use Rattle.strm_laws.specs.Pushes.{all_taken, top_taken, with_modules}
 use Rattle.strm_laws.specs.Puts.{earlier_at, noted}
-use Rattle.strm_laws.specs.Stacked.{Module, module_name}
+use Rattle.strm_laws.specs.Stacked.{Standing, module_name}
 use Rattle.strm_laws.specs.State.{State, Stream, stream, with_stream}
 use Rattle.strm_laws.proofs.StackOnce.{pop-once}
 use Rattle.strm_blocks.specs.Blocks.{StoreValue, free_d, free_m, list_at}
@@ -20,7 +20,7 @@ use Rattle.strm_queue.specs.Stored.{queue_in, HoldsReadable}
 use Rattle.strm_queue.proofs.Placed.{ready-same}
 use Rattle.strm_pair.specs.declared.ends.StreamEnd.{StreamEnd}
 use Rattle.strm_pair.specs.declared.stacks.Taken.{Taken}
-use Rattle.strm_ldterm.specs.declared.ldterm.Tables.{Tables}
+use Rattle.strm_frame.specs.declared.queue_pair.Tables.{Tables}
 use Rattle.strm_pair.specs.declared.streams.Streams.{Streams}
 use Rattle.strm_pair.specs.Framing.{stays-at, still}
 use Rattle.strm_pair.specs.Lists.{first_list}
@@ -147,16 +147,16 @@ after_top rule side s = top_taken rule side (stream side s).modules s
 abbrev after_all : Rule → Side → State ℕ → Carried ℕ (State ℕ)
 after_all rule side s = all_taken rule side (stream side s).modules s
 
-abbrev joined : Rule → Side → List (Fate ℕ) → List (Module ℕ) → State ℕ → Carried ℕ (State ℕ)
+abbrev joined : Rule → Side → List (Fate ℕ) → List (Standing ℕ) → State ℕ → Carried ℕ (State ℕ)
 joined rule side gone ms s = record { state = (all_taken rule side ms s).state; gone = gone ++ (all_taken rule side ms s).gone }
 
-rest-stands : (rule : Rule) (side : Side) (p : Module ℕ) (ps : List (Module ℕ)) (s : State ℕ) → (stream side (top_taken rule side (p ∷ ps) s).state).modules ≡ ps
+rest-stands : (rule : Rule) (side : Side) (p : Standing ℕ) (ps : List (Standing ℕ)) (s : State ℕ) → (stream side (top_taken rule side (p ∷ ps) s).state).modules ≡ ps
 rest-stands rule side p ps s = ap (λ (x : Stream ℕ). x.modules) (get-set-same side (record (stream side s) { modules = ps }) s.ends)
 
 pub none-taken : (rule : Rule) (side : Side) (s : State ℕ) → length (stream side s).modules ≡ 0 → after_all rule side s ≡ record { state = s; gone = [] }
 none-taken rule side s none = by (stream side s).modules none
   where
-    by : (ms : List (Module ℕ)) → length ms ≡ 0 → all_taken rule side ms s ≡ record { state = s; gone = [] }
+    by : (ms : List (Standing ℕ)) → length ms ≡ 0 → all_taken rule side ms s ≡ record { state = s; gone = [] }
     by [] none = refl
     by (p ∷ ps) none = absurd (omega (arith, none))
 
@@ -164,17 +164,17 @@ module _ (rule : Rule) (side : Side) (s t : State ℕ) (is : t ≡ (after_top ru
   pub one-less : length (stream side t).modules ≡ n
   one-less = by (stream side s).modules refl
     where
-      by : (ms : List (Module ℕ)) → (stream side s).modules ≡ ms → length (stream side t).modules ≡ n
-      by [] none = absurd (omega (arith, many, ap (λ (ms : List (Module ℕ)). length ms) none))
+      by : (ms : List (Standing ℕ)) → (stream side s).modules ≡ ms → length (stream side t).modules ≡ n
+      by [] none = absurd (omega (arith, many, ap (λ (ms : List (Standing ℕ)). length ms) none))
       by (p ∷ ps) these =
           let left : (stream side t).modules ≡ ps = ap (λ (x : State ℕ). (stream side x).modules) (is ∙ ap (λ ms. (top_taken rule side ms s).state) these) ∙ rest-stands rule side p ps s in
-          omega (arith, many, ap (λ (ms : List (Module ℕ)). length ms) these, ap (λ (ms : List (Module ℕ)). length ms) left)
+          omega (arith, many, ap (λ (ms : List (Standing ℕ)). length ms) these, ap (λ (ms : List (Standing ℕ)). length ms) left)
 
   pub all-by-one : after_all rule side s ≡ record { state = (after_all rule side t).state; gone = (after_top rule side s).gone ++ (after_all rule side t).gone }
   all-by-one = by (stream side s).modules refl
     where
-      by : (ms : List (Module ℕ)) → (stream side s).modules ≡ ms → after_all rule side s ≡ record { state = (after_all rule side t).state; gone = (after_top rule side s).gone ++ (after_all rule side t).gone }
-      by [] none = absurd (omega (arith, many, ap (λ (ms : List (Module ℕ)). length ms) none))
+      by : (ms : List (Standing ℕ)) → (stream side s).modules ≡ ms → after_all rule side s ≡ record { state = (after_all rule side t).state; gone = (after_top rule side s).gone ++ (after_all rule side t).gone }
+      by [] none = absurd (omega (arith, many, ap (λ (ms : List (Standing ℕ)). length ms) none))
       by (p ∷ ps) these =
           let u = (top_taken rule side (p ∷ ps) s).state in
           let same : t ≡ u = is ∙ ap (λ ms. (top_taken rule side ms s).state) these in

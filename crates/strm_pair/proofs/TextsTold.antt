@@ -19,8 +19,8 @@ use Rattle.strm_pair.proofs.EndsMade.{names-same}
 
 module-told : (m : ModuleText) → GoodModule (module_now m) → IsModuleText m
 module-told (texts.Ldterm l) good = record {
-  column = good.column;
-  line = good.line;
+  column = good.kind.column;
+  line = good.kind.line;
 }
 module-told (texts.Ptem p) good = tt
 module-told texts.Pckt good = tt

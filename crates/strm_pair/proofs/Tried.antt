@@ -7,24 +7,24 @@ use Rattle.strm_types.specs.declared.names.Place.{Place}
 use Rattle.strm_laws.specs.Earlier.{places_of}
 use Rattle.strm_types.specs.Names.{place_of}
 use Rattle.strm_laws.specs.ModuleTurns.{named_from}
-use Rattle.strm_laws.specs.Pushes.{is_there}
-use Rattle.strm_laws.specs.Stacked.{Module, module_name}
+use Rattle.strm_laws.specs.Stacked.{Standing, module_name}
+use Rattle.strm_pair.specs.Named.{is_there}
 
 -- the places of the first modules are the first places
-first-places : (ps : List (Module ℕ)) (n i : ℕ) → i < n → slice_index_or (places_of (take n ps)) i None ≡ slice_index_or (places_of ps) i None
+first-places : (ps : List (Standing ℕ)) (n i : ℕ) → i < n → slice_index_or (places_of (take n ps)) i None ≡ slice_index_or (places_of ps) i None
 first-places [] zero i low = absurd (omega (arith, low))
 first-places [] (suc n) i low = refl
 first-places (p ∷ ps) zero i low = absurd (omega (arith, low))
 first-places (p ∷ ps) (suc n) zero low = refl
 first-places (p ∷ ps) (suc n) (suc i) low = first-places ps n i (omega (arith, low))
 
-many-within : (ps : List (Module ℕ)) (n i : ℕ) → i < n → i < length ps → i < length (places_of (take n ps))
+many-within : (ps : List (Standing ℕ)) (n i : ℕ) → i < n → i < length ps → i < length (places_of (take n ps))
 many-within [] n i low inside = absurd (omega (arith, inside))
 many-within (p ∷ ps) zero i low inside = absurd (omega (arith, low))
 many-within (p ∷ ps) (suc n) zero low inside = omega arith
 many-within (p ∷ ps) (suc n) (suc i) low inside = omega (arith, many-within ps n i (omega (arith, low)) (omega (arith, inside)))
 
-many-past : (ps : List (Module ℕ)) (n i : ℕ) → min (length ps) n ≤ i → length (places_of (take n ps)) ≤ i
+many-past : (ps : List (Standing ℕ)) (n i : ℕ) → min (length ps) n ≤ i → length (places_of (take n ps)) ≤ i
 many-past ps n i past = omega (arith, past, length-map (take n ps) (λ p. place_of (module_name p)), length-take n ps)
 
 -- the places from one on
@@ -47,10 +47,10 @@ from-none place at zero (o ∷ os) past = absurd (omega (arith, past))
 from-none place at (suc i) (o ∷ os) past = from-none place at i os (omega (arith, past))
 
 -- the search from one of the first modules on
-abbrev pub named_at : Place → ℕ → List (Module ℕ) → Option ℕ
+abbrev pub named_at : Place → ℕ → List (Standing ℕ) → Option ℕ
 named_at place i ps = named_from place (suc i) (drop i (places_of (take MODULES ps)))
 
-module _ (place : Place) (i j : ℕ) (ps : List (Module ℕ)) (o : Option Place) (next : j ≡ suc i) (low : i < MODULES) (inside : i < length ps) (is : o ≡ slice_index_or (places_of ps) (j - 1) None) where
+module _ (place : Place) (i j : ℕ) (ps : List (Standing ℕ)) (o : Option Place) (next : j ≡ suc i) (low : i < MODULES) (inside : i < length ps) (is : o ≡ slice_index_or (places_of ps) (j - 1) None) where
   there : is_there place (slice_index_or (places_of (take MODULES ps)) i None) ≡ is_there place o
   there =
       let same : i ≡ j - 1 = omega (arith, next) in
@@ -62,5 +62,5 @@ module _ (place : Place) (i j : ℕ) (ps : List (Module ℕ)) (o : Option Place)
   pub named-here : true ≡ is_there place o → Some j ≡ named_at place i ps
   named-here some = ap (λ k. Some k) next ∙ sym (from-here place (suc i) i (places_of (take MODULES ps)) (many-within ps MODULES i low inside) (there ∙ sym some))
 
-pub named-none : (place : Place) (i : ℕ) (ps : List (Module ℕ)) → min (length ps) MODULES ≤ i → None ≡ named_at place i ps
+pub named-none : (place : Place) (i : ℕ) (ps : List (Standing ℕ)) → min (length ps) MODULES ≤ i → None ≡ named_at place i ps
 named-none place i ps past = sym (from-none place (suc i) i (places_of (take MODULES ps)) (many-past ps MODULES i past))

@@ -1,6 +1,6 @@
 -- The messages of a pair have 256 bytes at most for each block that a store has.
 use Rattle.std.proofs.Common.{ℕ, ◌≡◌, ◌≤◌, ◌+◌, Bool, true, false, cond, List, [], ◌∷◌, ◌++◌, length, length-append, map, refl, ap, sym, arith}
-use Rattle.std.specs.Prelude.{◌*◌, None, sum_by}
+use Rattle.std.specs.Prelude.{◌*◌, Option, None, Some, sum_by}
 use Rattle.std.proofs.lemmas.Bool.{false≢true}
 use Rattle.std.proofs.lemmas.List.Sums.{sum_by-append, sum_by-cons}
 use Rattle.strm_types.specs.declared.names.Side.TheVariants.{Master, Slave}
@@ -9,8 +9,9 @@ use Rattle.strm_types.specs.Flush.{is_data_kind}
 use Rattle.strm_types.specs.Kinds.{is_body_kind, is_control_kind}
 use Rattle.strm_types.specs.Message.{Message, cells_of, part, size_of}
 use Rattle.strm_types.specs.Queue.{Queue, bytes_of}
+use Rattle.strm_types.specs.Standings.{QueuePair, stood}
 use Rattle.strm_laws.specs.Kept.{AreIdle}
-use Rattle.strm_laws.specs.Stacked.{Module, OfLdterm, OfPtem, OfPckt, queues_of_modules}
+use Rattle.strm_laws.specs.Stacked.{Standing, queues_of_modules}
 use Rattle.strm_laws.specs.State.{Stream, stream_queues}
 use Rattle.strm_image.specs.HasImage.{bytes_in}
 use Rattle.strm_blocks.specs.Blocks.{Block, StoreValue, IsStore, block_at, extent, list_at}
@@ -78,18 +79,21 @@ list-most (chain ∷ q) = omega (arith, size-most chain, bytes-extent chain, lis
 abbrev queue_bytes : Queue ℕ → ℕ
 queue_bytes q = bytes_of q.messages
 
-modules-bytes : (ps : List (Module ℕ)) → sum_by queue_bytes (queues_of_modules ps) ≡ bytes_of (messages_queued Up ps) + bytes_of (messages_queued Down ps)
+modules-bytes : (ps : List (Standing ℕ)) → sum_by queue_bytes (queues_of_modules ps) ≡ bytes_of (messages_queued Up ps) + bytes_of (messages_queued Down ps)
 modules-bytes [] = refl
-modules-bytes (OfLdterm l ∷ ps) = omega (
-  arith,
-  modules-bytes ps,
-  sum_by-cons queue_bytes l.read_queue (l.write_queue ∷ queues_of_modules ps),
-  sum_by-cons queue_bytes l.write_queue (queues_of_modules ps),
-  sum_by-append (λ (m : Message ℕ). size_of m) l.read_queue.messages (messages_queued Up ps),
-  sum_by-append (λ (m : Message ℕ). size_of m) l.write_queue.messages (messages_queued Down ps),
-)
-modules-bytes (OfPtem p ∷ ps) = modules-bytes ps
-modules-bytes (OfPckt p ∷ ps) = modules-bytes ps
+modules-bytes (p ∷ ps) = by p.queues (modules-bytes ps)
+  where
+    by : (queues : Option (QueuePair ℕ)) → sum_by queue_bytes (queues_of_modules ps) ≡ bytes_of (messages_queued Up ps) + bytes_of (messages_queued Down ps)
+        → let qs = stood p.part queues ∷ ps in sum_by queue_bytes (queues_of_modules qs) ≡ bytes_of (messages_queued Up qs) + bytes_of (messages_queued Down qs)
+    by None below = below
+    by (Some pair) below = omega (
+      arith,
+      below,
+      sum_by-cons queue_bytes pair.read (pair.write ∷ queues_of_modules ps),
+      sum_by-cons queue_bytes pair.write (queues_of_modules ps),
+      sum_by-append (λ (m : Message ℕ). size_of m) pair.read.messages (messages_queued Up ps),
+      sum_by-append (λ (m : Message ℕ). size_of m) pair.write.messages (messages_queued Down ps),
+    )
 
 module _ (s : StoreValue) where
   abbrev on_list : ℕ → ℕ

@@ -1,6 +1,6 @@
 -- What the queues of a pair have, as an image wants it: the flow control of each band, and few bytes.
 use Rattle.std.proofs.Common.{ℕ, ◌≡◌, List, [], ◌∷◌, ◌++◌, length, length-append, map, ◌∙◌, arith}
-use Rattle.std.specs.Prelude.{◌≤◌, ◌*◌, sum_by}
+use Rattle.std.specs.Prelude.{◌≤◌, ◌*◌, sum_by, Option, None, Some, IfSome}
 use Rattle.std.specs.List.{AllByRecursion}
 use Rattle.std.proofs.lemmas.List.{length-map}
 use Rattle.std.proofs.lemmas.List.Sums.{sum_by-cons}
@@ -8,9 +8,10 @@ use Rattle.strm_types.specs.declared.limits.TheConstants.{BANDS}
 use Rattle.strm_types.specs.declared.names.Side.{Side}
 use Rattle.strm_types.specs.declared.names.Side.TheVariants.{Master, Slave}
 use Rattle.strm_types.specs.Queue.{Queue, bytes_of}
+use Rattle.strm_types.specs.Standings.{QueuePair, stood}
 use Rattle.strm_blocks.specs.Blocks.{StoreValue, IsStore, list_at}
 use Rattle.strm_laws.specs.Restorable.{GoodStream, Restorable}
-use Rattle.strm_laws.specs.Stacked.{Module, OfLdterm, OfPtem, OfPckt, queues_of_modules}
+use Rattle.strm_laws.specs.Stacked.{Standing, queues_of_modules}
 use Rattle.strm_laws.specs.State.{Stream, queues_of, stream_queues}
 use Rattle.strm_image.specs.HasImage.{AreBanded, bytes_in}
 use Rattle.strm_queue.specs.declared.queue.Queue as kept
@@ -18,11 +19,11 @@ use Rattle.strm_queue.specs.Flows.{plain_flow}
 use Rattle.strm_queue.specs.Stored.{queue_in, IsReady}
 use Rattle.strm_queue.proofs.Bounds.{few-bytes}
 use Rattle.strm_queue.proofs.Sizes.{bytes-same}
+use Rattle.strm_frame.specs.declared.queue_pair.QueuePair as pairs
+use Rattle.strm_frame.specs.Standings.{IsPairReady, standing}
 use Rattle.strm_pair.specs.declared.ends.StreamEnd.{StreamEnd}
-use Rattle.strm_pair.specs.declared.modules.AnyModule.{AnyModule}
-use Rattle.strm_pair.specs.declared.modules.AnyModule.TheVariants as kinds
 use Rattle.strm_pair.specs.declared.streams.Streams.{Streams}
-use Rattle.strm_pair.specs.AnyModules.{IsHeld, module_in}
+use Rattle.strm_pair.specs.AnyModules.{AnyStanding, IsHeld, module_in}
 use Rattle.strm_pair.specs.Pairs.{state_in, AreHeld}
 use Rattle.strm_pair.specs.Stacks.{modules_in}
 use Rattle.strm_pair.specs.Streams.{IsSide, stream_in}
@@ -42,11 +43,13 @@ wide-banded [] wide = tt
 wide-banded (q ∷ qs) wide = (wide.0.banded, wide-banded qs wide.1)
 
 -- a module has two queues at most, and a stream eight
-two-each : (ps : List (Module ℕ)) → length (queues_of_modules ps) ≤ 2 * length ps
+two-each : (ps : List (Standing ℕ)) → length (queues_of_modules ps) ≤ 2 * length ps
 two-each [] = omega arith
-two-each (OfLdterm l ∷ ps) = omega (arith, two-each ps)
-two-each (OfPtem p ∷ ps) = omega (arith, two-each ps)
-two-each (OfPckt p ∷ ps) = omega (arith, two-each ps)
+two-each (p ∷ ps) = by p.queues (two-each ps)
+  where
+    by : (queues : Option (QueuePair ℕ)) → length (queues_of_modules ps) ≤ 2 * length ps → length (queues_of_modules (stood p.part queues ∷ ps)) ≤ 2 * length (p ∷ ps)
+    by None few = omega (arith, few)
+    by (Some pair) few = omega (arith, few)
 
 eight-queues : (side : Side) (t : Stream ℕ) → GoodStream side t → length (stream_queues t) ≤ 8
 eight-queues side t good = omega (arith, length-append (queues_of_modules t.modules) (t.driver.queue ∷ []), two-each t.modules, good.modules.few)
@@ -58,11 +61,14 @@ module _ (s : StoreValue) (is : IsStore s) where
     bytes = omega (arith, few-bytes s is q.list 0, bytes-same (list_at s q.list) ready.messages.chains);
   }
 
-  modules-wide : (xs : List AnyModule) → AllByRecursion (IsHeld s) xs → AllByRecursion IsWide (queues_of_modules (map (module_in s) xs))
+  modules-wide : (xs : List AnyStanding) → AllByRecursion (IsHeld s) xs → AllByRecursion IsWide (queues_of_modules (map (module_in s) xs))
   modules-wide [] held = tt
-  modules-wide (kinds.Ldterm x ∷ xs) held = (ready-wide x.read_queue held.0.read, (ready-wide x.write_queue held.0.write, modules-wide xs held.1))
-  modules-wide (kinds.Ptem x ∷ xs) held = modules-wide xs held.1
-  modules-wide (kinds.Pckt x ∷ xs) held = modules-wide xs held.1
+  modules-wide (x ∷ xs) held = by x.queues held.0.queues (modules-wide xs held.1)
+    where
+      by : (queues : Option pairs.QueuePair) → IfSome queues (IsPairReady s) → AllByRecursion IsWide (queues_of_modules (map (module_in s) xs))
+          → AllByRecursion IsWide (queues_of_modules (map (module_in s) (standing x.module queues ∷ xs)))
+      by None ready below = below
+      by (Some pair) ready below = (ready-wide pair.read ready.read, (ready-wide pair.write ready.write, below))
 
   stream-wide : (first : ℕ) (e : StreamEnd) → IsSide s first e → AllByRecursion IsWide (stream_queues (stream_in s e))
   stream-wide first e side = (

@@ -1,113 +1,153 @@
 -- The modules that may stand on a stream, beside a store: each is what one of its kind is by itself.
-use Rattle.std.specs.Prelude.{ℕ, ◌≡◌, ◌≤◌, ◌<◌, ◌+◌, Bool, false, [], Option, Some}
+use Rattle.std.specs.Prelude.{ℕ, ◌≡◌, Bool, false, List, [], ◌∷◌, map, Option, None, Some, is_some}
+use Rattle.std.specs.List.{AllByRecursion}
 use Rattle.std.proofs.Common.{refl, ap}
 use Rattle.strm_types.specs.declared.names.ModuleName.{ModuleName}
 use Rattle.strm_types.specs.declared.names.Way.{Way}
 use Rattle.strm_types.specs.declared.spots.Spot.{Spot}
 use Rattle.strm_types.specs.Cells.{plain}
+use Rattle.strm_types.specs.LdtermStands.{disciplined}
 use Rattle.strm_types.specs.Message.{Message}
-use Rattle.strm_laws.specs.Pushes.{named_by}
-use Rattle.strm_types.specs.Queue.{Queue}
-use Rattle.strm_laws.specs.Stacked.{Module, OfLdterm, OfPtem, OfPckt, module_name, module_puts, module_serves, with_module_queue, without_module_line}
+use Rattle.strm_types.specs.Names.{place_of}
+use Rattle.strm_types.specs.Standings.{QueuePair, has_queues, stood}
+use Rattle.strm_laws.specs.Stacked.{Module, OfLdterm, OfPtem, OfPckt, Standing, kind_name, module_name, module_puts, module_serves, without_kind_line}
 use Rattle.strm_laws.specs.TurnCalls.{ldterm_of}
-use Rattle.strm_blocks.specs.Blocks.{StoreValue, list_at}
+use Rattle.strm_blocks.specs.Blocks.{StoreValue}
+use Rattle.strm_frame.specs.declared.queue_pair.QueuePair as frame
+use Rattle.strm_frame.specs.declared.standing.Standing as standing
 use Rattle.strm_frame.specs.Hands.{SameOwn}
+use Rattle.strm_frame.specs.StandingLaws.{none-same, standing-frame}
+use Rattle.strm_frame.specs.Standings.{Fits, keeps_of, lists_of, owns, queues_in, queues_own, standing_in}
 use Rattle.strm_ldterm.specs.Bounds as bounds
-use Rattle.strm_ldterm.specs.Frames.{ldterm-frame}
-use Rattle.strm_ldterm.specs.Resting.{served-rests}
-use Rattle.strm_ldterm.specs.Served.{IsServed}
-use Rattle.strm_ldterm.specs.ServedLaws.{either-served, line-served, puts-served, queue-served, serves-served}
+use Rattle.strm_ldterm.specs.Frames.{own-frame, own-rested}
+use Rattle.strm_ldterm.specs.Resting.{own-rests}
+use Rattle.strm_ldterm.specs.Served.{MayBeServed}
+use Rattle.strm_ldterm.specs.ServedLaws.{either-served, line-served, puts-served, serves-served}
 use Rattle.strm_ldterm.specs.Stands as stands
-use Rattle.strm_ldterm.specs.Stands.{ldterm_in}
 use Rattle.strm_pty.specs.Beside.{ptem_in}
 use Rattle.strm_pty.specs.Packs.{pckt_in}
 use Rattle.strm_pair.specs.declared.modules.AnyModule.{AnyModule}
 use Rattle.strm_pair.specs.declared.modules.AnyModule.TheVariants as kinds
 
--- the lists of the store that are its own: ptem and pckt have none
-abbrev pub owns : AnyModule → ℕ → ℕ
-owns (kinds.Ldterm x) k = stands.owns x k
-owns (kinds.Ptem x) k = 0
-owns (kinds.Pckt x) k = 0
+-- whether its service procedure may be called: ptem and pckt have none, and a call does nothing
+abbrev pub MayServe : Way → Bool → Module ℕ → Type 0
+MayServe way again (OfLdterm l) = MayBeServed way again l
+MayServe way again (OfPtem p) = Unit {0}
+MayServe way again (OfPckt p) = Unit {0}
 
--- no line is unfinished
+-- how many blocks of each kind a call of it may count on; none of a module without queues is ever made
+abbrev pub kind_cost : Spot → Bool → Module ℕ → ℕ
+kind_cost here again p = bounds.turn_cost here again (ldterm_of p)
+
+-- what it stands for
+abbrev pub kind_in : StoreValue → AnyModule → Module ℕ
+kind_in s (kinds.Ldterm x) = OfLdterm (stands.own_in s x)
+kind_in s (kinds.Ptem x) = OfPtem (ptem_in x)
+kind_in s (kinds.Pckt x) = OfPckt pckt_in
+
+-- what it has in hand fits the store and its queues; ptem and pckt have none
+abbrev pub IsKindHeld : StoreValue → AnyModule → Option frame.QueuePair → Type 0
+IsKindHeld s (kinds.Ldterm x) queues = stands.HasInHand s x queues
+IsKindHeld s (kinds.Ptem x) queues = queues ≡ None
+IsKindHeld s (kinds.Pckt x) queues = queues ≡ None
+
+-- how often it keeps a message of a name in hand
+abbrev pub kind_keeps : AnyModule → ℕ → ℕ
+kind_keeps (kinds.Ldterm x) i = stands.keeps_itself x i
+kind_keeps (kinds.Ptem x) i = 0
+kind_keeps (kinds.Pckt x) i = 0
+
+-- One that was just made keeps nothing in hand, and fits any queues where those of its name have queues, and else none.
+abbrev pub FitsAny : Bool → AnyModule → Type 0
+FitsAny b x = (s : StoreValue) (queues : Option frame.QueuePair) → is_some queues ≡ b → IsKindHeld s x queues
+
+pub record IsFresh (name : ModuleName) (x : AnyModule) : Type 0 where
+  pub held : FitsAny (is_some (place_of name)) x
+  pub rests : (i : ℕ) → kind_keeps x i ≡ 0
+
+-- nothing of an unfinished line is left in it
 abbrev pub IsBare : AnyModule → Type 0
 IsBare (kinds.Ldterm x) = x.line ≡ []
 IsBare (kinds.Ptem x) = Unit {0}
 IsBare (kinds.Pckt x) = Unit {0}
 
--- whether its service procedure may be called: ptem and pckt have none, and a call does nothing
-abbrev pub MayServe : Way → Bool → Module ℕ → Type 0
-MayServe way again (OfLdterm l) = IsServed way again l
-MayServe way again (OfPtem p) = Unit {0}
-MayServe way again (OfPckt p) = Unit {0}
+-- the same of a module where it stands, with its queues
+abbrev pub AnyStanding : Type 0
+AnyStanding = standing.Standing AnyModule
 
--- how many blocks of each kind a call of it may count on; none of another module is ever made
-abbrev pub turn_cost : Spot → Bool → Module ℕ → ℕ
-turn_cost here again p = bounds.turn_cost here again (ldterm_of p)
+abbrev pub module_in : StoreValue → AnyStanding → Standing ℕ
+module_in s x = standing_in kind_in s x
 
--- what it stands for
-abbrev pub module_in : StoreValue → AnyModule → Module ℕ
-module_in s (kinds.Ldterm x) = OfLdterm (ldterm_in s x)
-module_in s (kinds.Ptem x) = OfPtem (ptem_in x)
-module_in s (kinds.Pckt x) = OfPckt pckt_in
+abbrev pub IsHeld : StoreValue → AnyStanding → Type 0
+IsHeld s x = Fits IsKindHeld s x
 
-abbrev pub IsHeld : StoreValue → AnyModule → Type 0
-IsHeld s (kinds.Ldterm x) = stands.IsHeld s x
-IsHeld s (kinds.Ptem x) = Unit {0}
-IsHeld s (kinds.Pckt x) = Unit {0}
+abbrev pub keeps : AnyStanding → ℕ → ℕ
+keeps x i = keeps_of kind_keeps x i
 
--- how often it keeps a message of a name in hand
-abbrev pub keeps : AnyModule → ℕ → ℕ
-keeps (kinds.Ldterm x) i = stands.keeps x i
-keeps (kinds.Ptem x) i = 0
-keeps (kinds.Pckt x) i = 0
+abbrev pub turn_cost : Spot → Bool → Standing ℕ → ℕ
+turn_cost here again x = kind_cost here again x.part
 
--- It stands for the same, and fits, where its lists are the same and what it keeps is.
-pub module-frame : (s t : StoreValue) (x : AnyModule) → SameOwn s t (owns x) (keeps x) → IsHeld s x → (module_in t x ≡ module_in s x) × IsHeld t x
-module-frame s t (kinds.Ldterm x) same held =
-    let r = ldterm-frame s t x (record { lists = same.lists; mblks = same.mblks; dblks = same.dblks; kept = same.kept }) held in (ap OfLdterm r.0, r.1)
-module-frame s t (kinds.Ptem x) same held = (refl, held)
-module-frame s t (kinds.Pckt x) same held = (refl, held)
+-- It stands for the same, and fits, where its queues' lists are the same and what it keeps is.
+pub module-frame : (s t : StoreValue) (x : AnyModule) (queues others : Option frame.QueuePair) → lists_of others ≡ lists_of queues
+    → SameOwn s t (queues_own queues) (kind_keeps x) → IsKindHeld s x queues → (kind_in t x ≡ kind_in s x) × IsKindHeld t x others
+module-frame s t (kinds.Ldterm x) queues others lists same held =
+    let r = own-frame s t x queues others lists (record { lists = same.lists; mblks = same.mblks; dblks = same.dblks; kept = same.kept }) held in (ap OfLdterm r.0, r.1)
+module-frame s t (kinds.Ptem x) queues others lists same held = (refl, none-same queues others lists held)
+module-frame s t (kinds.Pckt x) queues others lists same held = (refl, none-same queues others lists held)
+
+-- and where it keeps nothing, whatever stands on them
+pub module-rested : (s t : StoreValue) (x : AnyModule) (queues others : Option frame.QueuePair) → lists_of others ≡ lists_of queues
+    → ((i : ℕ) → kind_keeps x i ≡ 0) → IsKindHeld s x queues → (kind_in t x ≡ kind_in s x) × IsKindHeld t x others
+module-rested s t (kinds.Ldterm x) queues others lists none held = let r = own-rested s t x queues others lists none held in (ap OfLdterm r.0, r.1)
+module-rested s t (kinds.Ptem x) queues others lists none held = (refl, none-same queues others lists held)
+module-rested s t (kinds.Pckt x) queues others lists none held = (refl, none-same queues others lists held)
+
+pub any-frame : (s t : StoreValue) (x : AnyStanding) → SameOwn s t (owns x) (keeps x) → IsHeld s x → (module_in t x ≡ module_in s x) × IsHeld t x
+any-frame s t x same held = standing-frame kind_in IsKindHeld kind_keeps module-frame s t x same held
+
+-- It has queues where those of its name have.
+abbrev pub HasAsNamed : Standing ℕ → Type 0
+HasAsNamed p = has_queues p ≡ is_some (place_of (module_name p))
+
+kind-has : (s : StoreValue) (x : AnyModule) (queues : Option frame.QueuePair) → IsKindHeld s x queues → is_some (queues_in s queues) ≡ is_some (place_of (kind_name (kind_in s x)))
+kind-has s (kinds.Ldterm x) None held = absurd held
+kind-has s (kinds.Ldterm x) (Some pair) held = refl
+kind-has s (kinds.Ptem x) queues held = ap (λ o. is_some (queues_in s o)) held
+kind-has s (kinds.Pckt x) queues held = ap (λ o. is_some (queues_in s o)) held
+
+pub any-has : (s : StoreValue) (x : AnyStanding) → IsHeld s x → HasAsNamed (module_in s x)
+any-has s x held = kind-has s x.module x.queues held.itself
+
+pub all-have : (s : StoreValue) (xs : List AnyStanding) → AllByRecursion (IsHeld s) xs → AllByRecursion HasAsNamed (map (module_in s) xs)
+all-have s [] held = tt
+all-have s (x ∷ xs) held = (any-has s x held.0, all-have s xs held.1)
 
 -- where a turn may begin it keeps nothing
-pub serves-rests : (s : StoreValue) (x : AnyModule) (way : Way) (i : ℕ) → IsHeld s x → MayServe way false (module_in s x) → keeps x i ≡ 0
-serves-rests s (kinds.Ldterm x) way i held may = served-rests s x way i held may
-serves-rests s (kinds.Ptem x) way i held may = refl
-serves-rests s (kinds.Pckt x) way i held may = refl
+pub serves-rests : (s : StoreValue) (x : AnyModule) (queues : Option frame.QueuePair) (way : Way) (i : ℕ) → IsKindHeld s x queues → MayServe way false (kind_in s x) → kind_keeps x i ≡ 0
+serves-rests s (kinds.Ldterm x) queues way i held may = own-rests s x queues way i held may
+serves-rests s (kinds.Ptem x) queues way i held may = refl
+serves-rests s (kinds.Pckt x) queues way i held may = refl
 
--- A module as its name makes it, while nothing stands on the lists of its own: they are among two from a number on. It keeps nothing in hand.
-pub record IsMade (first : ℕ) (kind : ModuleName) (x : AnyModule) : Type 0 where
-  pub named : (s : StoreValue) → module_name (module_in s x) ≡ kind
-  pub state : (s : StoreValue) → ((k : ℕ) → 0 < owns x k → list_at s k ≡ []) → named_by (Some kind) ≡ Some (module_in s x)
-  pub held : (s : StoreValue) → ((k : ℕ) → 0 < owns x k → list_at s k ≡ []) → IsHeld s x
-  pub within : (k : ℕ) → 0 < owns x k → (first ≤ k) × (k < first + 2)
-  pub apart : (k : ℕ) → owns x k ≤ 1
-  pub rests : (i : ℕ) → keeps x i ≡ 0
-
--- A turn of either queue may begin where none is under way; behind a call one may begin, or the call is made again; and a put, another queue or a
--- line that is gone leave it so.
+-- A turn of either queue may begin where none is under way; behind a call one may begin, or the call is made again; and a put or a line that is gone leave
+-- it so.
 pub either-serves : (way at : Way) (p : Module ℕ) → MayServe way false p → MayServe at false p
 either-serves way at (OfLdterm l) may = either-served way at l may
 either-serves way at (OfPtem p) may = tt
 either-serves way at (OfPckt p) may = tt
 
-pub serves-on : (here : Spot) (again : Bool) (stop : Option ℕ) (p : Module ℕ) → MayServe here.way again p → (let t = module_serves plain here 0 again stop p in MayServe here.way t.again t.acted.state)
-serves-on here again stop (OfLdterm l) may = serves-served plain here 0 again stop l may
-serves-on here again stop (OfPtem p) may = tt
-serves-on here again stop (OfPckt p) may = tt
+pub serves-on : (here : Spot) (again : Bool) (stop : Option ℕ) (p : Module ℕ) (queues : Option (QueuePair ℕ)) → MayServe here.way again p
+    → (let t = module_serves plain here 0 again stop (stood p queues) in MayServe here.way t.again t.acted.state.part)
+serves-on here again stop (OfLdterm l) queues may = serves-served plain here 0 again stop (disciplined l queues) may
+serves-on here again stop (OfPtem p) queues may = tt
+serves-on here again stop (OfPckt p) queues may = tt
 
-pub puts-serve : (here : Spot) (m : Message ℕ) (way : Way) (again : Bool) (p : Module ℕ) → MayServe way again p → MayServe way again (module_puts plain 0 here m p).state
-puts-serve here m way again (OfLdterm l) may = puts-served here m way again l may
-puts-serve here m way again (OfPtem p) may = may
-puts-serve here m way again (OfPckt p) may = may
+pub puts-serve : (here : Spot) (m : Message ℕ) (way : Way) (again : Bool) (p : Module ℕ) (queues : Option (QueuePair ℕ)) → MayServe way again p
+    → MayServe way again (module_puts plain 0 here m (stood p queues)).state.part
+puts-serve here m way again (OfLdterm l) queues may = puts-served here m way again (disciplined l queues) may
+puts-serve here m way again (OfPtem p) queues may = may
+puts-serve here m way again (OfPckt p) queues may = may
 
-pub queue-serves : (at : Way) (q : Queue ℕ) (way : Way) (again : Bool) (p : Module ℕ) → MayServe way again p → MayServe way again (with_module_queue at q p)
-queue-serves at q way again (OfLdterm l) may = queue-served at q way again l may
-queue-serves at q way again (OfPtem p) may = may
-queue-serves at q way again (OfPckt p) may = may
-
-pub line-serves : (way : Way) (again : Bool) (p : Module ℕ) → MayServe way again p → MayServe way again (without_module_line p)
+pub line-serves : (way : Way) (again : Bool) (p : Module ℕ) → MayServe way again p → MayServe way again (without_kind_line p)
 line-serves way again (OfLdterm l) may = line-served way again l may
 line-serves way again (OfPtem p) may = may
 line-serves way again (OfPckt p) may = may

@@ -31,7 +31,7 @@ pub still : (s t : StoreValue) (keeps : ℕ → ℕ) → t.hand ≡ s.hand → t
 still s t keeps hand mblks dblks = record { mblks = mblks; dblks = dblks; kept = λ i some. ap (λ h. in_hand (record s { hand = h }) i) hand }
 
 -- a stream with these modules
-abbrev pub stream_with : StoreValue → StreamEnd → List (plain.Module ℕ) → state.Stream ℕ
+abbrev pub stream_with : StoreValue → StreamEnd → List (plain.Standing ℕ) → state.Stream ℕ
 stream_with s e modules = record {
   opened = e.opened;
   head = head_in s e.head;

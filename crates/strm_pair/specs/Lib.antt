@@ -1,5 +1,6 @@
 pub mod Alone
 pub mod AnyModules
+pub mod Given
 pub mod Stacks
 pub mod PutBy
 pub mod Took

@@ -18,8 +18,9 @@ use Rattle.strm_laws.specs.Pair.{IsKeptAhead}
 use Rattle.strm_laws.specs.Puts.{module_acted}
 use Rattle.strm_laws.specs.Spares.{spare}
 use Rattle.strm_laws.specs.State.{State, stream}
-use Rattle.strm_types.specs.LdtermCalls.{Begins, Ends, bytes_left, most_made}
-use Rattle.strm_laws.specs.TurnCalls.{asks_on, called, ldterm_of, led, module_at, treated}
+use Rattle.strm_types.specs.LdtermCalls.{Begins, Ends, bytes_left}
+use Rattle.strm_types.specs.Service.{most_made}
+use Rattle.strm_laws.specs.TurnCalls.{asks_on, called, discipline_of, led, module_at, treated}
 use Rattle.strm_blocks.specs.Blocks.{StoreValue, times_in}
 use Rattle.strm_frame.specs.declared.parcels.Sent.{Sent}
 use Rattle.strm_frame.specs.declared.service.Served.{Served}
@@ -61,7 +62,7 @@ call_units bytes = 3 * bytes + 33
 
 -- that much is left, however far a call goes
 abbrev pub MayBook : Spot → Bool → State ℕ → Type 0
-MayBook here again s = call_units (bytes_left here.way again (ldterm_of (module_at here s))) ≤ spare s
+MayBook here again s = call_units (bytes_left here.way again (discipline_of (module_at here s))) ≤ spare s
 
 -- all that is in hand is kept by the stacks
 abbrev pub IsKeptAll : StoreValue → Streams → Type 0
@@ -72,7 +73,7 @@ IsKeptAll s p = (i : ℕ) → times_in i s.hand ≡ kept_by p i
 pub record MayCall (s : StoreValue) (p : Streams) (here : Spot) (again : Bool) : Type 0 where
   pub inside : 0 < here.at
   pub within : here.at ≤ length (stream here.side (state_in s p)).modules
-  pub begins : Begins here.way again (ldterm_of (module_at here (state_in s p)))
+  pub begins : Begins here.way again (discipline_of (module_at here (state_in s p)))
   pub beside : AreBeside s p
   pub hand : IsKeptAll s p
   pub room : HasRoom s (call_cost here again (state_in s p))
@@ -85,7 +86,7 @@ acts_in here again call s = module_acted here (called here again (stop_in call) 
 pub record TellsAs (here : Spot) (again : Bool) (call : Call) (s : State ℕ) : Type 0 where
   pub bytes : call.bytes ≡ treated here again (stop_in call) (stream here.side s).modules
   pub asks : call.again ≡ asks_on here again (stop_in call) (stream here.side s).modules
-  pub ends : OnTrue call.stopped (Ends here.way again (ldterm_of (module_at here s)) call.bytes)
+  pub ends : OnTrue call.stopped (Ends here.way again (discipline_of (module_at here s)) call.bytes)
   pub over : OnTrue call.stopped (call.again ≡ false)
   pub made : made_of (called here again (stop_in call) (stream here.side s).modules).gone ≤ most_made call.bytes
 
@@ -100,7 +101,7 @@ pub record StackServes (old new : StoreValue) (x y : Stack) (here : Spot) (again
   pub over : OnTrue served.stopped (served.again ≡ false)
   pub few : OnTrue served.stopped (least_free new < STOP_BLOCKS)
   pub some : OnTrue served.stopped (HasRoom old STOP_BLOCKS → 0 < served.bytes)
-  pub ends : OnTrue served.stopped (HoldsAt (λ p. Ends here.way again (ldterm_of p) served.bytes) (modules_in old x) (here.at - 1))
+  pub ends : OnTrue served.stopped (HoldsAt (λ p. Ends here.way again (discipline_of p) served.bytes) (modules_in old x) (here.at - 1))
   pub made : made_of (called here again (stop_of served) (modules_in old x)).gone ≤ most_made served.bytes
   pub held : IsStackHeld new y
   pub own : OnlyOwn old new (stack_owns x) (stack_owns y)
@@ -131,7 +132,7 @@ pub record ActsAs (old new : StoreValue) (p q : Streams) (here : Spot) (again : 
 -- A call that stopped left few blocks free, where what it sent is kept ahead.
 abbrev pub LeavesFew : Spot → Bool → Call → State ℕ → StoreValue → Type 0
 LeavesFew here again call s new =
-    OnTrue call.stopped (call.bytes < bytes_left here.way again (ldterm_of (module_at here s)) → IsKeptAhead here.way here.side s → least_free new < STOP_BLOCKS)
+    OnTrue call.stopped (call.bytes < bytes_left here.way again (discipline_of (module_at here s)) → IsKeptAhead here.way here.side s → least_free new < STOP_BLOCKS)
 
 -- A call did what it says, and what it sent is delivered.
 pub record CallsAs (old new : StoreValue) (p q : Streams) (here : Spot) (again : Bool) (call : Call) (told told' : Fates) : Type 0 where
@@ -148,13 +149,13 @@ pub record CallsAs (old new : StoreValue) (p q : Streams) (here : Spot) (again :
 
 -- Calls that treated fewer bytes of a turn than its message has, as it began, stopped where few blocks are free, if what they sent is kept ahead.
 abbrev pub StopsFew : Spot → ℕ → State ℕ → StoreValue → Type 0
-StopsFew here bytes old new = bytes < bytes_left here.way false (ldterm_of (module_at here old)) → IsKeptAhead here.way here.side old → least_free new < STOP_BLOCKS
+StopsFew here bytes old new = bytes < bytes_left here.way false (discipline_of (module_at here old)) → IsKeptAhead here.way here.side old → least_free new < STOP_BLOCKS
 
 -- Calls treated so many bytes of a turn, one at least where the message has any, and it would end here. So much of the books was taken at most.
 pub record TreatsAs (here : Spot) (bytes : ℕ) (old new : State ℕ) (told told' : Fates) : Type 0 where
   pub gone : List (Fate ℕ)
-  pub within : bytes ≤ bytes_left here.way false (ldterm_of (module_at here old))
-  pub some : bytes ≡ 0 → bytes_left here.way false (ldterm_of (module_at here old)) ≡ 0
+  pub within : bytes ≤ bytes_left here.way false (discipline_of (module_at here old))
+  pub some : bytes ≡ 0 → bytes_left here.way false (discipline_of (module_at here old)) ≡ 0
   pub stands : here.at - 1 < length (stream here.side new).modules
   pub moves : (name : QueueName) → moved_on plain here name bytes old
       ≡ record { turn = Moved bytes; state = module_turn_ended name here (not (bytes == 0)) new; gone = gone }

@@ -1,36 +1,38 @@
 -- What holds of stacks of modules, whatever stands on them.
-use Rattle.std.specs.Prelude.{ℕ, ◌≡◌, List, [], ◌∷◌, length, map}
+use Rattle.std.specs.Prelude.{ℕ, ◌≡◌, List, [], ◌∷◌, length, map, Option}
 use Rattle.std.specs.List.{AllByRecursion}
-use Rattle.std.proofs.Common.{arith, sym, ◌∙◌}
+use Rattle.std.proofs.Common.{arith, refl, sym, ◌∙◌}
 use Rattle.std.proofs.lemmas.List.{length-map}
 use Rattle.std.proofs.lemmas.List.Sums.{sum_by-cons}
 use Rattle.strm_types.specs.declared.names.Way.TheVariants.{Up}
-use Rattle.strm_laws.specs.Stacked.{IsAtRest}
+use Rattle.strm_laws.specs.Stacked.{IsAtRest, KindRests}
 use Rattle.strm_blocks.specs.Blocks.{StoreValue}
+use Rattle.strm_frame.specs.declared.queue_pair.QueuePair.{QueuePair}
 use Rattle.strm_frame.specs.Hands.{SameOwn}
 use Rattle.strm_frame.specs.StackLaws.{stack-stays}
 use Rattle.strm_frame.specs.Stacks.{all_of}
-use Rattle.strm_ldterm.specs.Resting.{served-rests}
+use Rattle.strm_ldterm.specs.Resting.{own-rests}
 use Rattle.strm_pair.specs.declared.modules.AnyModule.{AnyModule}
 use Rattle.strm_pair.specs.declared.modules.AnyModule.TheVariants as kinds
-use Rattle.strm_pair.specs.AnyModules.{IsHeld, keeps, module-frame, module_in, owns}
+use Rattle.strm_pair.specs.AnyModules.{AnyStanding, IsHeld, IsKindHeld, any-frame, keeps, kind_in, kind_keeps, module_in}
+use Rattle.strm_frame.specs.Standings.{owns}
 use Rattle.strm_pair.specs.ModuleLists.{none-own, stack-shown}
 use Rattle.strm_pair.specs.Stacks.{modules_in, IsStackHeld, stack_owns, stack_keeps, Stack}
 use Rattle.strm_pair.specs.Streams.{AreFor, AreShown}
 
 -- modules at rest keep nothing
-rest-keeps : (s : StoreValue) (x : AnyModule) → IsHeld s x → IsAtRest (module_in s x) → (i : ℕ) → keeps x i ≡ 0
-rest-keeps s (kinds.Ldterm x) held rest i = served-rests s x Up i held rest
-rest-keeps s (kinds.Ptem x) held rest i = omega arith
-rest-keeps s (kinds.Pckt x) held rest i = omega arith
+rest-keeps : (s : StoreValue) (x : AnyModule) (queues : Option QueuePair) → IsKindHeld s x queues → KindRests (kind_in s x) → (i : ℕ) → kind_keeps x i ≡ 0
+rest-keeps s (kinds.Ldterm x) queues held rest i = own-rests s x queues Up i held rest
+rest-keeps s (kinds.Ptem x) queues held rest i = refl
+rest-keeps s (kinds.Pckt x) queues held rest i = refl
 
-pub rests-keep : (s : StoreValue) (xs : List AnyModule) → AllByRecursion (IsHeld s) xs → AllByRecursion (λ p. IsAtRest p) (map (module_in s) xs) → (i : ℕ) → all_of keeps xs i ≡ 0
+pub rests-keep : (s : StoreValue) (xs : List AnyStanding) → AllByRecursion (IsHeld s) xs → AllByRecursion (λ p. IsAtRest p) (map (module_in s) xs) → (i : ℕ) → all_of keeps xs i ≡ 0
 rests-keep s [] held rest i = omega arith
-rests-keep s (x ∷ xs) held rest i = omega (arith, sum_by-cons (λ y. keeps y i) x xs, rest-keeps s x held.0 rest.0 i, rests-keep s xs held.1 rest.1 i)
+rests-keep s (x ∷ xs) held rest i = omega (arith, sum_by-cons (λ y. keeps y i) x xs, rest-keeps s x.module x.queues held.0.itself rest.0 i, rests-keep s xs held.1 rest.1 i)
 
 -- A stack stands for the same, and fits, wherever its own lists are the same and what it keeps in hand is.
 pub stack-frame : (s t : StoreValue) (x : Stack) → SameOwn s t (stack_owns x) (stack_keeps x) → IsStackHeld s x → (modules_in t x ≡ modules_in s x) × IsStackHeld t x
-stack-frame s t x same held = stack-stays module_in IsHeld owns keeps module-frame s t x.modules.items same held
+stack-frame s t x same held = stack-stays module_in IsHeld owns keeps any-frame s t x.modules.items same held
 
 -- where nothing of a turn is under way it keeps nothing
 pub stack-idle : (s : StoreValue) (x : Stack) → IsStackHeld s x → AllByRecursion (λ p. IsAtRest p) (modules_in s x) → (i : ℕ) → stack_keeps x i ≡ 0
@@ -38,7 +40,7 @@ stack-idle s x held idle = rests-keep s x.modules.items held.each idle
 
 -- and the two lists that are for it show its queues
 pub stack-shows : (s : StoreValue) (x : Stack) (first : ℕ) → IsStackHeld s x → AllByRecursion (λ p. IsAtRest p) (modules_in s x) → AreFor s first (stack_owns x) → AreShown s first (modules_in s x)
-stack-shows s x first held idle are = stack-shown s first x.modules.items held idle are
+stack-shows s x first held idle are = stack-shown s first x.modules.items held are
 
 -- without a module it owns no list
 pub stack-bare : (s : StoreValue) (x : Stack) → IsStackHeld s x → modules_in s x ≡ [] → (k : ℕ) → stack_owns x k ≡ 0

@@ -8,7 +8,7 @@ use Rattle.strm_types.specs.Cells.{plain}
 use Rattle.strm_laws.specs.ModuleTurns.{module_turned, moved_by, moved_within, place_named}
 use Rattle.strm_laws.specs.State.{State, stream}
 use Rattle.strm_types.specs.LdtermCalls.{bytes_left}
-use Rattle.strm_laws.specs.TurnCalls.{ldterm_of, module_at}
+use Rattle.strm_laws.specs.TurnCalls.{discipline_of, module_at}
 use Rattle.strm_laws.specs.TurnOutcomes.{stayed_put}
 use Rattle.strm_pair.specs.declared.module_turns.Begun.{Begun}
 use Rattle.strm_pair.specs.declared.module_turns.Begun.TheVariants.{Over, Serves}
@@ -22,7 +22,7 @@ pub record MayMove (old new : State ℕ) (name : QueueName) (here : Spot) : Type
   pub inside : 0 < here.at
   pub within : here.at ≤ length (stream here.side old).modules
   pub low : here.at ≤ MODULES
-  pub few : bytes_left here.way false (ldterm_of (module_at here old)) ≤ 16777216
+  pub few : bytes_left here.way false (discipline_of (module_at here old)) ≤ 16777216
   pub moves : (turn : Turn) → module_turned plain name turn old ≡ moved_within plain here name turn old
 
 -- Or the turn is over, and moved nothing, whatever it is answered.

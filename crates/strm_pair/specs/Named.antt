@@ -1,25 +1,32 @@
 -- The module of a stream whose queues have a name, and what is said of it. Places count from 1 for the module on top.
-use Rattle.std.specs.Prelude.{ℕ, List, [], flat_map, Option, None, Some}
+use Rattle.std.specs.Prelude.{ℕ, Bool, false, List, [], flat_map, Option, None, Some}
 use Rattle.strm_types.specs.declared.names.Place.{Place}
 use Rattle.strm_types.specs.declared.names.Way.{Way}
 use Rattle.strm_types.specs.Message.{Message}
-use Rattle.strm_types.specs.ModuleQueues.{at_place, messages_at}
+use Rattle.strm_types.specs.ModuleQueues.{at_place}
+use Rattle.strm_types.specs.Names.{same_place}
+use Rattle.strm_types.specs.Standings.{messages_at}
 use Rattle.strm_laws.specs.ModuleTurns.{place_named}
-use Rattle.strm_laws.specs.Stacked.{Module, module_queue}
+use Rattle.strm_laws.specs.Stacked.{Standing}
+
+-- a place of queues is this one
+abbrev pub is_there : Place → Option Place → Bool
+is_there place None = false
+is_there place (Some there) = same_place there place
 
 -- what is said of the module at a place, where there is one
-abbrev pub at_found : {A : Type 0} → (Module ℕ → A) → A → List (Module ℕ) → Option ℕ → A
+abbrev pub at_found : {A : Type 0} → (Standing ℕ → A) → A → List (Standing ℕ) → Option ℕ → A
 at_found say otherwise ps None = otherwise
 at_found say otherwise ps (Some at) = at_place say otherwise at ps
 
 -- what is said of the one whose queues have a name, where one stands there
-abbrev pub at_named : {A : Type 0} → Place → (Module ℕ → A) → A → List (Module ℕ) → A
+abbrev pub at_named : {A : Type 0} → Place → (Standing ℕ → A) → A → List (Standing ℕ) → A
 at_named place say otherwise ps = at_found say otherwise ps (place_named place ps)
 
 -- the messages on its queue of a way
-abbrev pub messages_named : Place → Way → List (Module ℕ) → List (Message ℕ)
-messages_named place way ps = at_named place (messages_at module_queue way) [] ps
+abbrev pub messages_named : Place → Way → List (Standing ℕ) → List (Message ℕ)
+messages_named place way ps = at_named place (messages_at way) [] ps
 
 -- the messages on the queues of a way of all modules that have one, from the top down
-abbrev pub messages_queued : Way → List (Module ℕ) → List (Message ℕ)
-messages_queued way ps = flat_map (messages_at module_queue way) ps
+abbrev pub messages_queued : Way → List (Standing ℕ) → List (Message ℕ)
+messages_queued way ps = flat_map (messages_at way) ps

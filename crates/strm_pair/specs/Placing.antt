@@ -9,9 +9,9 @@ use Rattle.strm_frame.specs.Stacks.{all_of, AreHeld}
 use Rattle.strm_image.specs.declared.modules.ModuleText.{ModuleText}
 use Rattle.strm_image.specs.declared.modules.ModuleText.TheVariants as texts
 use Rattle.strm_image.specs.ModuleTexts.{module_now, modules_now, names_now}
-use Rattle.strm_ldterm.specs.declared.ldterm.Tables.{Tables}
-use Rattle.strm_pair.specs.declared.modules.AnyModule.{AnyModule}
-use Rattle.strm_pair.specs.AnyModules.{IsHeld, keeps, module_in, owns}
+use Rattle.strm_frame.specs.declared.queue_pair.Tables.{Tables}
+use Rattle.strm_pair.specs.AnyModules.{AnyStanding, IsHeld, keeps, module_in}
+use Rattle.strm_frame.specs.Standings.{owns}
 use Rattle.strm_pair.specs.Runs.{Spent}
 use Rattle.strm_pair.specs.Standing.{FillsTwo, IsLdtermText, ldterm_blocks}
 
@@ -40,7 +40,7 @@ IsFreeFor s first shelf (texts.Ptem p) = Unit {0}
 IsFreeFor s first shelf texts.Pckt = Unit {0}
 
 -- A module stands as a text has it. It keeps nothing in hand. Where it has no list of its own, the store and the shelf are as they were.
-pub record IsPlaced (old new : StoreValue) (first : ℕ) (was is : Option Tables) (text : ModuleText) (x : AnyModule) : Type 0 where
+pub record IsPlaced (old new : StoreValue) (first : ℕ) (was is : Option Tables) (text : ModuleText) (x : AnyStanding) : Type 0 where
   pub state : module_in new x ≡ module_now text
   pub held : IsHeld new x
   pub rests : (i : ℕ) → keeps x i ≡ 0
@@ -56,7 +56,7 @@ pub record AreModuleTexts (ms : List ModuleText) : Type 0 where
   pub names : EachOnce (names_now ms)
 
 -- Modules stand as a text has them, the one on top first. While none has queues, the lists for these are empty, and their tables are on the shelf.
-pub record AreStacked (old new : StoreValue) (first : ℕ) (ms : List ModuleText) (xs : List AnyModule) (shelf : Option Tables) : Type 0 where
+pub record AreStacked (old new : StoreValue) (first : ℕ) (ms : List ModuleText) (xs : List AnyStanding) (shelf : Option Tables) : Type 0 where
   pub state : map (module_in new) xs ≡ modules_now ms
   pub held : AreHeld IsHeld owns new xs
   pub rests : (i : ℕ) → all_of keeps xs i ≡ 0

@@ -8,7 +8,7 @@ use Rattle.strm_types.specs.Message.{Message, is_held}
 use Rattle.strm_types.specs.ModuleQueues.{at_place}
 use Rattle.strm_types.specs.Modules.{put_among}
 use Rattle.strm_laws.specs.StackCosts.{module_takes}
-use Rattle.strm_laws.specs.Stacked.{Module, module_puts}
+use Rattle.strm_laws.specs.Stacked.{Standing, module_puts}
 use Rattle.strm_laws.specs.State.{State}
 use Rattle.strm_blocks.specs.Blocks.{StoreValue}
 use Rattle.strm_queue.specs.Stored.{FreesNone}
@@ -19,7 +19,8 @@ use Rattle.strm_frame.specs.Hands.{once, Handles, SamePool, Shifts, Spends}
 use Rattle.strm_frame.specs.Outboxes.{message_in, times_sent, parcels_in, AreChains}
 use Rattle.strm_frame.specs.Stacks.{all_in, all_of, AreHeld}
 use Rattle.strm_pair.specs.declared.streams.Streams.{Streams}
-use Rattle.strm_pair.specs.AnyModules.{IsHeld, keeps, module_in, owns}
+use Rattle.strm_pair.specs.AnyModules.{IsHeld, keeps, module_in}
+use Rattle.strm_frame.specs.Standings.{owns}
 use Rattle.strm_pair.specs.Pairs.{state_in, AreBeside, kept_by}
 use Rattle.strm_pair.specs.Stacks.{modules_in, Stack}
 
@@ -47,7 +48,7 @@ pub record CameBy (old new : StoreValue) (p q : Streams) (message : ℕ) (down :
   pub blocks : is_held (message_in old message).kind ≡ true → FreesNone old new
 
 -- what the modules of a stack do with a message that is put at one of them
-abbrev pub taken_at : Spot → Message ℕ → List (Module ℕ) → Acted ℕ (List (Module ℕ))
+abbrev pub taken_at : Spot → Message ℕ → List (Standing ℕ) → Acted ℕ (List (Standing ℕ))
 taken_at to m ms = put_among (module_puts plain 0) (to.at - 1) to m ms
 
 -- A stack of modules took a message at a place.

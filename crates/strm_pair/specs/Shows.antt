@@ -9,7 +9,6 @@ use Rattle.strm_types.specs.declared.names.QueueName.{QueueName}
 use Rattle.strm_types.specs.Both.{AllSides}
 use Rattle.strm_types.specs.ModuleQueues as modules
 use Rattle.strm_types.specs.Queue.{count_of, is_full, first_size}
-use Rattle.strm_laws.specs.Stacked.{module_queue}
 use Rattle.strm_laws.specs.State.{State, Stream, stream}
 use Rattle.strm_blocks.specs.Blocks.{StoreValue}
 use Rattle.strm_queue.specs.Stored.{messages_on}
@@ -44,7 +43,7 @@ count_in place way band t = count_of band (messages_in place way t)
 abbrev pub full_in : Place → Way → ℕ → Stream ℕ → Bool
 full_in Head Up band t = is_full band t.head.queue
 full_in Driver Down band t = is_full band t.driver.queue
-full_in Ldterm way band t = at_named Ldterm (modules.full_at module_queue way band) false t.modules
+full_in Ldterm way band t = at_named Ldterm (modules.full_at way band) false t.modules
 full_in _ _ band t = false
 
 -- how many bytes count in a band of a queue: none in one that doesn't exist

@@ -5,13 +5,14 @@ use Rattle.strm_blocks.specs.Blocks.{StoreValue}
 use Rattle.strm_frame.specs.Stacks.{all_of, AreHeld}
 use Rattle.strm_frame.specs.declared.stack.Stack as frame
 use Rattle.strm_pair.specs.declared.modules.AnyModule.{AnyModule}
-use Rattle.strm_pair.specs.AnyModules.{IsHeld, keeps, module_in, owns}
+use Rattle.strm_frame.specs.Standings.{owns}
+use Rattle.strm_pair.specs.AnyModules.{IsHeld, keeps, module_in}
 
 abbrev pub Stack : Type 0
 Stack = frame.Stack AnyModule
 
 -- what the modules of a stack stand for
-abbrev pub modules_in : StoreValue → Stack → List (plain.Module ℕ)
+abbrev pub modules_in : StoreValue → Stack → List (plain.Standing ℕ)
 modules_in s x = map (module_in s) x.modules.items
 
 -- a stack and the store fit

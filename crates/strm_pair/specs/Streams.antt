@@ -7,7 +7,6 @@ use Rattle.strm_types.specs.Both.{AllSides}
 use Rattle.strm_types.specs.Queue.{IsOrdered}
 use Rattle.strm_laws.specs.StackCosts.{EachOnce}
 use Rattle.strm_laws.specs.Stacked as plain
-use Rattle.strm_laws.specs.Stacked.{IsAtRest}
 use Rattle.strm_laws.specs.State.{Stream}
 use Rattle.strm_blocks.specs.Blocks.{StoreValue, list_at}
 use Rattle.strm_pair.specs.declared.ends.StreamEnd.{StreamEnd}
@@ -24,7 +23,7 @@ pub record AreFor (s : StoreValue) (first : ℕ) (owns : ℕ → ℕ) : Type 0 w
 
 -- What the two lists show of modules: what stands on their read queues, and on their write queues. Each queue is in order, and no other message stands on
 -- one.
-pub record AreShown (s : StoreValue) (first : ℕ) (ps : List (plain.Module ℕ)) : Type 0 where
+pub record AreShown (s : StoreValue) (first : ℕ) (ps : List (plain.Standing ℕ)) : Type 0 where
   pub up : messages_on s first ≡ messages_queued Up ps
   pub down : messages_on s (first + 1) ≡ messages_queued Down ps
   pub ordered : AllByRecursion (λ q. IsOrdered q.messages) (plain.queues_of_modules ps)
@@ -47,7 +46,7 @@ pub record IsBlank (s : StoreValue) (first : ℕ) : Type 0 where
   pub down : list_at s (first + 3) ≡ []
 
 -- no two of the modules of a stream have the same name
-abbrev pub AreApart : List (plain.Module ℕ) → Type 0
+abbrev pub AreApart : List (plain.Standing ℕ) → Type 0
 AreApart ps = EachOnce (map plain.module_name ps)
 
 -- A side's queues stand on lists of their own, from a number on: the head's, which has what readers may read alone, and the

@@ -7,7 +7,7 @@ use Rattle.strm_types.specs.declared.names.ModuleName.{ModuleName}
 use Rattle.strm_types.specs.Deliver.{Acted, tallied}
 use Rattle.strm_laws.specs.Pushes.{top_on, top_taken}
 use Rattle.strm_types.specs.Service.{cleared}
-use Rattle.strm_laws.specs.Stacked.{Module, module_line, module_name, module_queue, with_module_queue, without_module_line}
+use Rattle.strm_laws.specs.Stacked.{Standing, module_name, without_kind_line, kind_line}
 use Rattle.strm_laws.specs.State.{stream}
 use Rattle.strm_blocks.specs.Blocks.{StoreValue, list_at}
 use Rattle.strm_queue.specs.Stored.{FreesBlocks}
@@ -19,8 +19,8 @@ use Rattle.strm_pair.specs.Pairs.{state_in}
 use Rattle.strm_pair.specs.Stacks.{modules_in, IsStackHeld, stack_owns, stack_keeps, Stack}
 
 -- what a module lets go by a rule that is taken off a side's stream
-abbrev pub let_go_of : Side → Rule → Module ℕ → Acted ℕ (Module ℕ)
-let_go_of side rule p = cleared module_queue with_module_queue module_line without_module_line side rule p
+abbrev pub let_go_of : Side → Rule → Standing ℕ → Acted ℕ (Standing ℕ)
+let_go_of side rule p = cleared kind_line without_kind_line side rule p
 
 -- No module stood there, and nothing changed.
 pub record TookNone (old new : StoreValue) (x y : Stack) (told told' : Fates) : Type 0 where
@@ -31,8 +31,8 @@ pub record TookNone (old new : StoreValue) (x y : Stack) (told told' : Fates) : 
 
 -- It was on top of the others, which stay. Its lists are empty now, and the lists that weren't the stack's are as they were.
 pub record TookTop (side : Side) (rule : Rule) (old new : StoreValue) (x y : Stack) (told told' : Fates) (taken : Taken) : Type 0 where
-  pub top : Module ℕ
-  pub rest : List (Module ℕ)
+  pub top : Standing ℕ
+  pub rest : List (Standing ℕ)
   pub was : modules_in old x ≡ top ∷ rest
   pub name : taken.name ≡ module_name top
   pub notes : taken.notes.items ≡ (let_go_of side rule top).notes

@@ -11,8 +11,8 @@ ghost use Rattle.strm_queue.specs.Stored.{IsReady};
 
 use crate::stacks::{Stack, take_modules};
 use strm_blocks::Blocks;
+use strm_frame::Tables;
 use strm_head::Head;
-use strm_ldterm::Tables;
 use strm_queue::{Flush, OTHER_HIGH, OTHER_LOW, Queue};
 use strm_types::{Openness, Side};
 

@@ -10,7 +10,6 @@ ghost use Rattle.strm_laws.specs.Ledgers.{FewBooked};
 ghost use Rattle.strm_laws.specs.ModuleTurns.{module_turn_ended, module_turned, place_named, queue_ended, stayed_at};
 ghost use Rattle.strm_laws.specs.Pair.{MovesOn};
 ghost use Rattle.strm_types.specs.Service.{end_relieves, has_more};
-ghost use Rattle.strm_laws.specs.Stacked.{module_queue};
 ghost use Rattle.strm_laws.specs.State.{stream, with_stream};
 ghost use Rattle.strm_blocks.specs.Blocks.{StoreValue};
 ghost use Rattle.strm_pair.specs.declared.module_turns.Begun.TheVariants.{Over};
@@ -47,9 +46,9 @@ impl Streams {
         requires within { here.at ≤ length (stream here.side (state_in (B.value store.now) self.old)).modules }
         ensures state { let s = state_in (B.value store.now) self.old in state_in (B.value store.now) self.new
             ≡ with_stream here.side (queue_ended here took (stream here.side s)) s }
-        ensures room { result.room ≡ at_place (end_relieves module_queue took here.way) false here.at
+        ensures room { result.room ≡ at_place (end_relieves took here.way) false here.at
             (stream here.side (state_in (B.value store.now) self.old)).modules }
-        ensures more { result.more ≡ at_place (has_more module_queue here.way) false here.at
+        ensures more { result.more ≡ at_place (has_more here.way) false here.at
             (stream here.side (state_in (B.value store.now) self.old)).modules }
         ensures beside { AreBeside (B.value store.now) self.new }
         ensures keeps { (i : ℕ) → kept_by self.new i ≡ kept_by self.old i }

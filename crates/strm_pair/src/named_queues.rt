@@ -1,14 +1,12 @@
 //! The module of a stack whose queues have a name, and what stands on them. Places count from 1 for the module on top.
 
-ghost use Rattle.std.specs.Prelude.{ℕ, ◌≡◌, ◌<◌, false, length};
+ghost use Rattle.std.specs.Prelude.{◌≡◌, ◌<◌, false, length};
 ghost use Rattle.strm_types.specs.ModuleQueues.{full_at};
 ghost use Rattle.strm_laws.specs.ModuleTurns.{place_named};
-ghost use Rattle.strm_laws.specs.Pushes.{is_there};
 ghost use Rattle.strm_types.specs.Queue.{bytes_of, count_of, first_size};
-ghost use Rattle.strm_laws.specs.Stacked.{module_queue};
 ghost use Rattle.strm_blocks.specs.Blocks.{StoreValue};
 ghost use Rattle.strm_frame.specs.Stacks.{IsPlace};
-ghost use Rattle.strm_pair.specs.Named.{at_named, messages_named};
+ghost use Rattle.strm_pair.specs.Named.{at_named, is_there, messages_named};
 ghost use Rattle.strm_pair.specs.Stacks.{modules_in, IsStackHeld};
 
 use crate::stacks::{Stack, module_count, place_at};
@@ -95,7 +93,7 @@ pub(crate) fn is_full_named<B: Blocks>(
     band: Band,
 ) -> bool
     requires held { IsStackHeld (B.value store.now) stack.now }
-    ensures { result ≡ at_named place (full_at module_queue way band.0) false (modules_in (B.value store.now) stack.now) }
+    ensures { result ≡ at_named place (full_at way band.0) false (modules_in (B.value store.now) stack.now) }
 {
     match place_named(stack, place) {
         Some(at) => stack.is_full(store, at, way, band),

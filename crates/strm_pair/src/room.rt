@@ -6,7 +6,6 @@ ghost use Rattle.std.specs.Prelude.{ℕ, ◌≡◌, ◌<◌};
 ghost use Rattle.strm_types.specs.ModuleQueues.{place_past, with_waiting};
 ghost use Rattle.strm_laws.specs.Past.{end_queue, has_room_past, may_pass, waits_on, with_end_queue, writer_waits};
 ghost use Rattle.strm_types.specs.Queue.{is_full};
-ghost use Rattle.strm_laws.specs.Stacked.{module_queue};
 ghost use Rattle.strm_laws.specs.Writes.{is_full_below};
 ghost use Rattle.strm_blocks.specs.Blocks.{StoreValue};
 ghost use Rattle.strm_queue.specs.Stored.{IsReady};
@@ -60,7 +59,7 @@ impl StreamEnd {
     // Has a writer wait for room in a band of the nearest queue past a place.
     fn wait_past(&mut self, way: Way, at: usize, band: Band)
         ensures stream { (s : StoreValue) → let t = stream_in s self.old in
-            stream_in s self.new ≡ waits_on way band.0 (place_past module_queue way at t.modules) t }
+            stream_in s self.new ≡ waits_on way band.0 (place_past way at t.modules) t }
         ensures side { (s : StoreValue) (first : ℕ) → IsSide s first self.old → IsSide s first self.new }
     {
         match self.stack.place_past(way, at) {

@@ -5,7 +5,7 @@ ghost use Rattle.std.specs.Prelude.{◌≡◌, ◌≤◌, ◌<◌, ◌+◌, ◌^
 ghost use Rattle.strm_types.specs.declared.limits.TheConstants.{MODULES, STOP_BLOCKS};
 ghost use Rattle.strm_laws.specs.State.{stream};
 ghost use Rattle.strm_types.specs.LdtermCalls.{bytes_left};
-ghost use Rattle.strm_laws.specs.TurnCalls.{ldterm_of, module_at};
+ghost use Rattle.strm_laws.specs.TurnCalls.{discipline_of, module_at};
 ghost use Rattle.strm_frame.specs.Outboxes.{sent_of};
 ghost use Rattle.strm_pair.specs.ModuleServed.{ActsAs, BookTakes, CallsAs, IsKeptAll, MayBook, MayCall, StackServes, StopsFew, TreatsAs, between, call_of, with_more};
 
@@ -159,7 +159,7 @@ impl Streams {
         requires inside { 0 < here.at }
         requires low { here.at ≤ MODULES }
         requires within { here.at ≤ length (stream here.side (state_in (B.value store.old) self.old)).modules }
-        requires few { bytes_left here.way false (ldterm_of (module_at here (state_in (B.value store.old) self.old))) ≤ 16777216 }
+        requires few { bytes_left here.way false (discipline_of (module_at here (state_in (B.value store.old) self.old))) ≤ 16777216 }
         ensures treats { TreatsAs here result (state_in (B.value store.old) self.old)
             (state_in (B.value store.new) self.new) told.old told.new }
         ensures few { StopsFew here result (state_in (B.value store.old) self.old) (B.value store.new) }

@@ -5,7 +5,11 @@ ghost use Rattle.std.specs.Prelude.{ℕ, ◌≡◌, ◌<◌, ◌≤◌, ◌+◌,
 ghost use Rattle.strm_types.specs.Dropped.{is_met};
 ghost use Rattle.strm_laws.specs.Earlier.{places_of};
 ghost use Rattle.strm_laws.specs.Pushes.{below_top, may_stand, named_by};
+ghost use Rattle.strm_types.specs.Names.{place_of};
 ghost use Rattle.strm_blocks.specs.Blocks.{StoreValue, list_at};
+ghost use Rattle.strm_frame.specs.Standings.{owns};
+ghost use Rattle.strm_pair.specs.AnyModules.{AnyStanding, IsBare};
+ghost use Rattle.strm_pair.specs.Given.{GivenFor};
 ghost use Rattle.strm_pair.specs.Stacks.{modules_in, IsStackHeld, stack_owns, stack_keeps};
 ghost use Rattle.strm_pair.specs.Taken.{TookNone, TookTop};
 
@@ -13,8 +17,7 @@ use crate::ends::StreamEnd;
 use crate::modules::AnyModule;
 use arrayvec::ArrayVec;
 use strm_blocks::Blocks;
-use strm_frame::Module;
-use strm_ldterm::Tables;
+use strm_frame::{Module, QueuePair, Standing, Tables};
 use strm_types::{Fates, ModuleName, Note, Place, Rule, Side};
 
 /// The modules of a side's stream.
@@ -43,25 +46,33 @@ pub(crate) fn place_at(stack: &Stack, at: usize) -> Option<Place>
     ensures { (s : StoreValue) → result ≡ slice_index_or (places_of (modules_in s stack.now)) (at - 1) None }
 {
     match stack.modules.as_slice().get(at - 1) {
-        Some(module) => module.name().place(),
+        Some(standing) => standing.module.name().place(),
         None => None,
     }
+}
+
+// The queues of a module that was taken off, where it has any. Its line was let go.
+fn queues_of(standing: Standing<AnyModule>) -> Option<QueuePair>
+    requires { IsBare standing.module }
+    ensures { (k : ℕ) → 0 < owns standing k → is_some result ≡ true }
+{
+    standing.queues
 }
 
 /// Takes the module on top off its stack, if there is one, and puts the tables of its queues onto the shelf. Its unfinished line is let go where
 /// it stands.
 pub(crate) fn pop_top(stack: &mut Stack, shelf: &mut Option<Tables>)
-    ensures rest { (x : AnyModule) (xs : List AnyModule) → stack.old.modules.items ≡ x ∷ xs → stack.new.modules.items ≡ xs }
+    ensures rest { (x : AnyStanding) (xs : List AnyStanding) → stack.old.modules.items ≡ x ∷ xs → stack.new.modules.items ≡ xs }
     ensures shelf { (k : ℕ) → (stack_owns stack.old k ≡ 0 → is_some shelf.old ≡ true) → stack_owns stack.new k ≡ 0 → is_some shelf.new ≡ true }
 {
     if let Some(top) = stack.modules.as_mut_slice().first_mut() {
-        top.wipe();
+        top.module.wipe();
     }
-    let Some(module) = stack.pop() else {
+    let Some(standing) = stack.pop() else {
         return;
     };
-    if let Some(tables) = module.into_tables() {
-        *shelf = Some(tables);
+    if let Some(queues) = queues_of(standing) {
+        *shelf = Some(queues.into_tables());
     }
 }
 
@@ -76,8 +87,8 @@ pub(crate) fn take_modules(stack: &mut Stack, shelf: &mut Option<Tables>)
 }
 
 /// Takes the module on top off its stack, which keeps nothing in hand: what stands on the queues and in the line of the
-/// module goes by a rule, and its tables onto the shelf. It tells whether the M_IOCTL of a number went with them, where one is sought. `None` where no module stands
-/// (streamio(7I): I_POP; close(2)).
+/// module goes by a rule, and its tables onto the shelf. It tells whether the M_IOCTL of a number went with them, where one is
+/// sought. `None` where no module stands (streamio(7I): I_POP; close(2)).
 pub(crate) fn take_top<B: Blocks>(
     end: &mut StreamEnd,
     store: &mut B,
@@ -106,6 +117,23 @@ pub(crate) fn take_top<B: Blocks>(
     })
 }
 
+// The queues that a module of a name is given when it is pushed, where modules of its name have any: on two lists from a number on, and their
+// tables are taken off the shelf.
+fn queues_for(name: ModuleName, first: usize, shelf: &mut Option<Tables>) -> Option<QueuePair>
+    requires first { first ≤ 6 }
+    requires shelf { is_some (place_of name) ≡ true → is_some shelf.old ≡ true }
+    ensures given { GivenFor name first result }
+    ensures shelf { result ≡ None → shelf.new ≡ shelf.old }
+{
+    if name.place().is_none() {
+        return None;
+    }
+    let Some(tables) = shelf.take() else {
+        unreachable!()
+    };
+    Some(QueuePair::new(first, first + 1, tables))
+}
+
 /// Pushes a module on top of a stack, as its name makes it: one that may stand there (streamio(7I): I_PUSH). The queues of the
 /// stack stand on two lists, behind those of its stream's ends, which start from a number on.
 pub(crate) fn push_named<B: Blocks>(
@@ -129,5 +157,8 @@ pub(crate) fn push_named<B: Blocks>(
     ensures keeps { (i : ℕ) → stack_keeps stack.new i ≡ stack_keeps stack.old i }
 {
     let _ = store;
-    let _ = stack.push(AnyModule::made(name, first + 2, shelf));
+    let _ = stack.push(Standing {
+        module: AnyModule::made(name),
+        queues: queues_for(name, first + 2, shelf),
+    });
 }

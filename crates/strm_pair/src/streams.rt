@@ -25,9 +25,8 @@ use crate::ends::{StreamEnd, first_list};
 use crate::stacks::Stack;
 use std::alloc::{AllocError, Global};
 use strm_blocks::Blocks;
-use strm_frame::Enabled;
+use strm_frame::{Enabled, Tables};
 use strm_head::Head;
-use strm_ldterm::Tables;
 use strm_queue::{HEAD_HIGH, HEAD_LOW, OTHER_HIGH, OTHER_LOW, Queue, Table};
 use strm_types::{
     Answer, Book, Both, Caller, Content, Event, Fates, Mode, Openness, Place, QueueName, READ_MAX,

@@ -11,3 +11,4 @@ pub mod Parting
 pub mod Hanging
 pub mod Putting
 pub mod Taken
+pub mod Alone

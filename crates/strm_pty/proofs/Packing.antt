@@ -10,11 +10,10 @@ use Rattle.strm_types.specs.declared.rules.Fates.{Fates}
 use Rattle.strm_types.specs.declared.spots.Spot.{Spot}
 use Rattle.strm_types.specs.Cells.{cells_made, plain}
 use Rattle.strm_types.specs.Costs.{packet_blocks}
-use Rattle.strm_types.specs.Deliver.{Acted, Parcel, tallied, toward}
+use Rattle.strm_types.specs.Deliver.{Acted, Parcel, tallied, toward, onward}
 use Rattle.strm_types.specs.Flush.{is_data_kind}
 use Rattle.strm_types.specs.Flushing.{asked_by, is_flush}
 use Rattle.strm_types.specs.Kinds.{kind_number}
-use Rattle.strm_types.specs.Ldterms.{onward}
 use Rattle.strm_types.specs.Message.{Message, is_held}
 use Rattle.strm_types.specs.Pckts.{Pckt, flush_passed, is_flush_passed, is_packed, is_stop_or_start, pckt_packs, writers_flush}
 use Rattle.strm_types.specs.Rules.{made_more}

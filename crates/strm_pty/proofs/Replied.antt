@@ -9,10 +9,9 @@ use Rattle.strm_types.specs.declared.spots.Spot.{Spot}
 use Rattle.strm_types.specs.declared.winsize.Winsize.{Winsize}
 use Rattle.strm_types.specs.Acks.{ack_message, payload, telling_message}
 use Rattle.strm_types.specs.Commands.{is_asked}
-use Rattle.strm_types.specs.Deliver.{Acted, Parcel, toward}
+use Rattle.strm_types.specs.Deliver.{Acted, Parcel, toward, onward}
 use Rattle.strm_types.specs.Flush.{is_data_kind}
 use Rattle.strm_types.specs.Ioctls.{nak_message, read_ioc}
-use Rattle.strm_types.specs.Ldterms.{onward}
 use Rattle.strm_types.specs.Message.{Message}
 use Rattle.strm_types.specs.Ptems as plain
 use Rattle.strm_types.specs.Budgets.{own_at}

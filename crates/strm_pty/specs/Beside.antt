@@ -1,5 +1,5 @@
 -- The module ptem beside a store: what it stands for, and what a put at it did (ptem(7M)).
-use Rattle.std.specs.Prelude.{ℕ, ◌≡◌, ◌<◌, ◌≤◌, true, false, []}
+use Rattle.std.specs.Prelude.{ℕ, ◌≡◌, ◌<◌, ◌≤◌, true}
 use Rattle.strm_types.specs.declared.limits.TheConstants.{MODULES}
 use Rattle.strm_types.specs.declared.names.Way.{Way}
 use Rattle.strm_types.specs.declared.names.Way.TheVariants.{Up, Down}
@@ -10,7 +10,6 @@ use Rattle.strm_types.specs.Message.{Message}
 use Rattle.strm_types.specs.Ptems as plain
 use Rattle.strm_types.specs.Budgets.{own_at}
 use Rattle.strm_types.specs.Tables.{ptem_does}
-use Rattle.strm_types.specs.Service.{Serving}
 use Rattle.strm_blocks.specs.Blocks.{StoreValue, IsInHand, in_hand}
 use Rattle.strm_msg.specs.Messages.{IsChain}
 use Rattle.strm_frame.specs.declared.modules.Acts.{Acts}
@@ -56,7 +55,3 @@ pub record MayAnswer (store : StoreValue) (message : ℕ) (here : Spot) (way : W
   pub asked : is_asked (message_in store message) ≡ true
   pub goes : here.way ≡ way
   pub room : HasRoom store (answer_blocks way)
-
--- a call of a service procedure where there is none: nothing is done
-abbrev pub idle : plain.Ptem → Serving ℕ plain.Ptem
-idle p = record { acted = record { state = p; notes = []; sent = []; gone = [] }; bytes = 0; again = false }

@@ -5,8 +5,8 @@ use crate::pckt::{self, Pckt};
 use crate::ptem::{self, Ptem};
 use arrayvec::ArrayVec;
 use strm_blocks::{Blocks, InHand};
-use strm_frame::{Acts, LetGo, Module, Outbox, Served, TurnEnd};
-use strm_types::{Asks, Band, Fates, ModuleName, Rule, Side, Spot, Way};
+use strm_frame::{Acts, Module, Outbox, QueuePair, Served};
+use strm_types::{Asks, Fates, ModuleName, Spot, Way};
 
 impl Module for Pckt {
     ghost use Rattle.std.specs.Prelude.{◌≡◌, refl, None, [], false};
@@ -16,7 +16,8 @@ impl Module for Pckt {
     ghost use Rattle.strm_types.specs.Pckts as plain;
     ghost use Rattle.strm_types.specs.Tables.{pckt_does};
     ghost use Rattle.strm_types.proofs.PcktWithin.{pckt-within};
-    ghost use Rattle.strm_types.specs.Service.{unserved};
+    ghost use Rattle.strm_types.specs.Service.{acts_alone, unserved};
+    ghost use Rattle.strm_frame.specs.StandingLaws.{none-same};
     ghost use Rattle.strm_pty.specs.Packs.{pckt_in, puts};
 
     ghost Plain = { plain.Pckt };
@@ -25,29 +26,23 @@ impl Module for Pckt {
 
     ghost name_of = { λ p. names.Pckt };
 
-    ghost IsHeld = { λ s x. Unit {0} };
-
-    ghost owns = { λ x k. 0 };
+    ghost IsHeld = { λ s x queues. queues ≡ None };
 
     ghost keeps = { λ x i. 0 };
 
-    ghost puts = { puts };
-
-    ghost queue_of = { λ way p. None };
-
-    ghost with_queue = { λ way q p. p };
+    ghost puts = { λ here m x. acts_alone (puts here m) x };
 
     ghost line_of = { λ p. [] };
 
     ghost without_line = { λ p. p };
 
-    ghost asks = { λ way p. Empty };
+    ghost asks = { λ way x. Empty };
 
-    ghost serves = { λ here again stop p. unserved p };
+    ghost serves = { λ here again stop x. unserved x };
 
     ghost MayServe = { λ way again p. again ≡ false };
 
-    ghost MayStop = { λ way again bytes p. ⊥ };
+    ghost MayStop = { λ way again bytes x. ⊥ };
 
     ghost does = { λ p. pckt_does };
 
@@ -59,6 +54,7 @@ impl Module for Pckt {
 
     fn put<B: Blocks>(
         &mut self,
+        _queues: &mut Option<QueuePair>,
         store: &mut B,
         here: Spot,
         message: InHand,
@@ -68,42 +64,13 @@ impl Module for Pckt {
         pckt::put(store, here, message, told)
     }
 
-    fn has_queue(&self, _way: Way) -> bool {
-        false
-    }
-
-    fn is_full<B: Blocks>(&self, _store: &B, _way: Way, _band: Band) -> bool {
-        false
-    }
-
-    fn count<B: Blocks>(&self, _store: &B, _way: Way, _band: Band) -> usize {
-        0
-    }
-
-    fn sizes<B: Blocks>(&self, _store: &B, _way: Way) -> (usize, usize) {
-        (0, 0)
-    }
-
-    fn first_size<B: Blocks>(&self, _store: &B, _way: Way) -> usize {
-        0
-    }
-
-    fn none_waits_up<B: Blocks>(&self, _store: &B) -> bool {
-        true
-    }
-
-    fn line_len(&self) -> usize {
-        0
-    }
-
-    fn let_wait(&mut self, _way: Way, _band: Band) {}
-
-    fn asks<B: Blocks>(&self, _store: &B, _way: Way) -> Asks {
+    fn asks<B: Blocks>(&self, _queues: &Option<QueuePair>, _store: &B, _way: Way) -> Asks {
         Asks::Empty
     }
 
     fn serve<B: Blocks>(
         &mut self,
+        _queues: &mut Option<QueuePair>,
         _store: &mut B,
         _here: Spot,
         _again: bool,
@@ -120,37 +87,27 @@ impl Module for Pckt {
         }
     }
 
-    fn end_turn<B: Blocks>(&mut self, _store: &B, _way: Way, _took: bool) -> TurnEnd {
-        TurnEnd {
-            room: false,
-            more: false,
-        }
+    fn line_len(&self) -> usize {
+        0
     }
 
-    fn clear<B: Blocks>(
-        &mut self,
-        _store: &mut B,
-        _side: Side,
-        _rule: Rule,
-        _seeking: Option<u32>,
-        _told: &mut Fates,
-    ) -> LetGo {
-        LetGo::nothing()
+    fn clear_line(&mut self) -> usize {
+        0
     }
 
-    ghost within = { λ here m p. pckt-within cells.plain 0 here m };
+    ghost within = { λ here m x. pckt-within cells.plain 0 here m };
 
-    ghost frame = { λ s t x same held. (refl, held) };
+    ghost frame = { λ s t x queues others lists same held. (refl, none-same queues others lists held) };
 
-    ghost rests = { λ s x way i held may. refl };
+    ghost rested = { λ s t x queues others lists none held. (refl, none-same queues others lists held) };
+
+    ghost rests = { λ s x queues way i held may. refl };
 
     ghost either_way = { λ way other p may. may };
 
-    ghost turn_goes = { λ here again stop p may. refl };
+    ghost turn_goes = { λ here again stop x may. refl };
 
-    ghost put_stays = { λ here m p way again may. may };
-
-    ghost queue_stays = { λ at q p way again may. may };
+    ghost put_stays = { λ here m x way again may. may };
 
     ghost line_stays = { λ p way again may. may };
 }
@@ -162,7 +119,9 @@ impl Module for Ptem {
     ghost use Rattle.strm_types.specs.Ptems as plain;
     ghost use Rattle.strm_types.specs.Tables.{ptem_does};
     ghost use Rattle.strm_types.proofs.PtemWithin.{ptem-within};
-    ghost use Rattle.strm_pty.specs.Beside.{idle, ptem_in};
+    ghost use Rattle.strm_types.specs.Service.{acts_alone, unserved};
+    ghost use Rattle.strm_frame.specs.StandingLaws.{none-same};
+    ghost use Rattle.strm_pty.specs.Beside.{ptem_in};
 
     ghost Plain = { plain.Ptem };
 
@@ -170,29 +129,23 @@ impl Module for Ptem {
 
     ghost name_of = { λ p. names.Ptem };
 
-    ghost IsHeld = { λ s x. Unit {0} };
-
-    ghost owns = { λ x k. 0 };
+    ghost IsHeld = { λ s x queues. queues ≡ None };
 
     ghost keeps = { λ x i. 0 };
 
-    ghost puts = { plain.ptem_puts };
-
-    ghost queue_of = { λ way p. None };
-
-    ghost with_queue = { λ way q p. p };
+    ghost puts = { λ here m x. acts_alone (plain.ptem_puts here m) x };
 
     ghost line_of = { λ p. [] };
 
     ghost without_line = { λ p. p };
 
-    ghost asks = { λ way p. Empty };
+    ghost asks = { λ way x. Empty };
 
-    ghost serves = { λ here again stop p. idle p };
+    ghost serves = { λ here again stop x. unserved x };
 
     ghost MayServe = { λ way again p. again ≡ false };
 
-    ghost MayStop = { λ way again bytes p. ⊥ };
+    ghost MayStop = { λ way again bytes x. ⊥ };
 
     ghost does = { λ p. ptem_does };
 
@@ -204,6 +157,7 @@ impl Module for Ptem {
 
     fn put<B: Blocks>(
         &mut self,
+        _queues: &mut Option<QueuePair>,
         store: &mut B,
         here: Spot,
         message: InHand,
@@ -213,42 +167,13 @@ impl Module for Ptem {
         ptem::put(self, store, here, message)
     }
 
-    fn has_queue(&self, _way: Way) -> bool {
-        false
-    }
-
-    fn is_full<B: Blocks>(&self, _store: &B, _way: Way, _band: Band) -> bool {
-        false
-    }
-
-    fn count<B: Blocks>(&self, _store: &B, _way: Way, _band: Band) -> usize {
-        0
-    }
-
-    fn sizes<B: Blocks>(&self, _store: &B, _way: Way) -> (usize, usize) {
-        (0, 0)
-    }
-
-    fn first_size<B: Blocks>(&self, _store: &B, _way: Way) -> usize {
-        0
-    }
-
-    fn none_waits_up<B: Blocks>(&self, _store: &B) -> bool {
-        true
-    }
-
-    fn line_len(&self) -> usize {
-        0
-    }
-
-    fn let_wait(&mut self, _way: Way, _band: Band) {}
-
-    fn asks<B: Blocks>(&self, _store: &B, _way: Way) -> Asks {
+    fn asks<B: Blocks>(&self, _queues: &Option<QueuePair>, _store: &B, _way: Way) -> Asks {
         Asks::Empty
     }
 
     fn serve<B: Blocks>(
         &mut self,
+        _queues: &mut Option<QueuePair>,
         _store: &mut B,
         _here: Spot,
         _again: bool,
@@ -265,37 +190,27 @@ impl Module for Ptem {
         }
     }
 
-    fn end_turn<B: Blocks>(&mut self, _store: &B, _way: Way, _took: bool) -> TurnEnd {
-        TurnEnd {
-            room: false,
-            more: false,
-        }
+    fn line_len(&self) -> usize {
+        0
     }
 
-    fn clear<B: Blocks>(
-        &mut self,
-        _store: &mut B,
-        _side: Side,
-        _rule: Rule,
-        _seeking: Option<u32>,
-        _told: &mut Fates,
-    ) -> LetGo {
-        LetGo::nothing()
+    fn clear_line(&mut self) -> usize {
+        0
     }
 
-    ghost within = { λ here m p. ptem-within here m p };
+    ghost within = { λ here m x. ptem-within here m x.part };
 
-    ghost frame = { λ s t x same held. (refl, held) };
+    ghost frame = { λ s t x queues others lists same held. (refl, none-same queues others lists held) };
 
-    ghost rests = { λ s x way i held may. refl };
+    ghost rested = { λ s t x queues others lists none held. (refl, none-same queues others lists held) };
+
+    ghost rests = { λ s x queues way i held may. refl };
 
     ghost either_way = { λ way other p may. may };
 
-    ghost turn_goes = { λ here again stop p may. refl };
+    ghost turn_goes = { λ here again stop x may. refl };
 
-    ghost put_stays = { λ here m p way again may. may };
-
-    ghost queue_stays = { λ at q p way again may. may };
+    ghost put_stays = { λ here m x way again may. may };
 
     ghost line_stays = { λ p way again may. may };
 }

@@ -1,13 +1,13 @@
 //! Answers to ioctls, ioctls that tell of a change, and signals (streamio(7I): I_STR; STREAMS Programming Guide: M_IOCACK, M_IOCNAK,
 //! M_IOCTL, M_PCSIG).
 
-ghost use Rattle.std.specs.Prelude.{◌≡◌, ◌<◌, ◌≤◌, ◌^◌, ◌++◌, drop, false, length, [], ◌∷◌};
+ghost use Rattle.std.specs.Prelude.{◌≡◌, ◌<◌, ◌≤◌, ◌++◌, drop, false, length, [], ◌∷◌};
 ghost use Rattle.std.specs.Option.{option_to_list};
 ghost use Rattle.strm_types.specs.declared.names.Way.TheVariants.{Up, Down};
 ghost use Rattle.strm_types.specs.Acks.{ack_message, payload, telling_message};
 ghost use Rattle.strm_types.specs.Flush.{is_data_kind};
 ghost use Rattle.strm_types.specs.Ioctls.{ioc_bytes, nak_message};
-ghost use Rattle.strm_types.specs.Ldterms.{onward};
+ghost use Rattle.strm_types.specs.Deliver.{onward};
 ghost use Rattle.strm_types.specs.Ptems.{signals_up, window_signal};
 ghost use Rattle.strm_types.specs.Typing.{bare};
 ghost use Rattle.strm_blocks.specs.Blocks.{IsInHand, block_at, in_hand, token};

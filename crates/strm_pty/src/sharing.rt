@@ -1,10 +1,10 @@
 //! A payload that two messages show over one data block (dupb(9F); STREAMS Programming Guide, "Message Structure").
 
-ghost use Rattle.std.specs.Prelude.{◌≡◌, ◌<◌, ◌≤◌, ◌^◌, ◌++◌, MatchResult, drop, false, length, [], ◌∷◌};
+ghost use Rattle.std.specs.Prelude.{◌≡◌, ◌<◌, ◌≤◌, ◌++◌, MatchResult, drop, false, length, [], ◌∷◌};
 ghost use Rattle.strm_types.specs.declared.names.Way.TheVariants.{Up, Down};
 ghost use Rattle.strm_types.specs.Acks.{ack_message, telling_message};
 ghost use Rattle.strm_types.specs.Flush.{is_data_kind};
-ghost use Rattle.strm_types.specs.Ldterms.{onward};
+ghost use Rattle.strm_types.specs.Deliver.{onward};
 ghost use Rattle.strm_types.specs.Typing.{bare};
 ghost use Rattle.strm_blocks.specs.Blocks.{IsInHand, in_hand, token};
 ghost use Rattle.strm_msg.specs.Bytes.{bytes_of};

@@ -31,15 +31,14 @@ use Rattle.strm_laws.specs.Kept.{came, gone}
 use Rattle.strm_types.specs.Deliver.{Fate, Goes, carried}
 use Rattle.strm_types.specs.declared.modes.ControlMode.TheVariants.{Discard}
 use Rattle.strm_types.specs.declared.modes.ReadMode.TheVariants.{MessageDiscard}
-use Rattle.strm_types.specs.Ldterms.{new_ldterm}
 use Rattle.strm_types.specs.Write.{chunk_count}
 use Rattle.strm_types.specs.Message.{Message, cells_of, size_of, is_held, is_high_priority, rank_of, band_of, data_message}
 use Rattle.strm_types.specs.Names.{driver_of, is_closed}
 use Rattle.strm_laws.specs.Refusals.{blocks_asked, blocks_taken, at_end, in_range, refused, turn_refused}
 use Rattle.strm_types.specs.Needs.{needs}
 use Rattle.strm_types.specs.Refused.{has_no_data}
-use Rattle.strm_laws.specs.Stacked.{OfLdterm}
 use Rattle.strm_laws.specs.State.{State, Stream, with_stream}
+use Rattle.strm_laws.specs.Pushes.{module_named}
 use Rattle.strm_laws.proofs.Samples.{head_with, flow, queue, ordinary, proto, urgent, options}
 
 abbrev caller : Side → Caller
@@ -168,7 +167,7 @@ pushes-want-room-in-the-books = refl
 
 -- where an ldterm stands, another one is refused and a ptem isn't, and it may be taken off and looked at
 abbrev stacked : State ℕ
-stacked = pair (end Open false [] []) (record (end Open false [] []) { modules = OfLdterm new_ldterm ∷ [] }) (book 0 0) (book 0 0)
+stacked = pair (end Open false [] []) (record (end Open false [] []) { modules = module_named Ldterm ∷ [] }) (book 0 0) (book 0 0)
 
 pub one-ldterm-stands-on-a-stream : map (λ asked. answers asked stacked) (Push (Some Ldterm) ∷ Push (Some Ptem) ∷ Pop ∷ Look ∷ []) ≡ at_last (Some Einval) ∷ at_last None ∷ at_last None ∷ at_last None ∷ []
 one-ldterm-stands-on-a-stream = refl

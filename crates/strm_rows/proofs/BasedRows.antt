@@ -1,31 +1,33 @@
 -- Which numbers the bytes of a base have, counted by hand in the order of an image.
 use Rattle.std.proofs.Common.{ℕ, ◌≡◌, true, false, List, [], ◌∷◌, map, refl}
+use Rattle.strm_types.specs.declared.names.ModuleName.TheVariants as names
 use Rattle.strm_types.specs.declared.names.Dir.{Dir}
 use Rattle.strm_types.specs.declared.names.Dir.TheVariants.{MasterToSlave, SlaveToMaster}
 use Rattle.strm_types.specs.declared.names.Openness.TheVariants.{Open}
 use Rattle.strm_types.specs.Books.{new_book}
 use Rattle.strm_types.specs.Cells.{Base, Made, Tagged, Written}
-use Rattle.strm_types.specs.Ldterms.{new_ldterm}
 use Rattle.strm_types.specs.Message.{Message, cells_of, weight_of}
-use Rattle.strm_types.specs.Ptems.{new_ptem}
 use Rattle.strm_types.specs.Rules.{no_fates}
+use Rattle.strm_types.specs.Standings.{messages_at}
+use Rattle.strm_types.specs.declared.names.Way.TheVariants.{Up, Down}
 use Rattle.strm_laws.specs.Based.{based}
 use Rattle.strm_laws.specs.Ledgers.{Balanced, base_count, is_booked}
-use Rattle.strm_laws.specs.Stacked.{Module, OfLdterm, OfPtem, module_line}
+use Rattle.strm_laws.specs.Stacked.{Standing, module_line, ldterm_stands}
 use Rattle.strm_laws.specs.State.{State, Stream, opening}
-use Rattle.strm_laws.proofs.Samples.{head_with, options, ordinary, proto, queue, urgent}
+use Rattle.strm_laws.specs.Pushes.{module_named}
+use Rattle.strm_laws.proofs.Samples.{head_with, options, ordinary, proto, queue, urgent, fresh}
 
 -- On the master's side a message waits at the head and one at the driver. On the slave's an ldterm below a ptem has the line "ab", on its read queue
 -- "c", and on its write queue an M_SETOPTS and "d"; there one waits at the head and one at the driver too.
-abbrev end : List (Message ℕ) → List (Module ℕ) → List (Message ℕ) → Stream ℕ
+abbrev end : List (Message ℕ) → List (Standing ℕ) → List (Message ℕ) → Stream ℕ
 end head modules driver = record { opened = Open; head = head_with (queue head []) false; modules = modules; driver = record { queue = queue driver [] } }
 
-abbrev line : Module ℕ
-line = OfLdterm (record new_ldterm { line = 97 ∷ 98 ∷ []; read_queue = queue (ordinary (99 ∷ []) ∷ []) []; write_queue = queue (options ∷ ordinary (100 ∷ []) ∷ []) [] })
+abbrev line : Standing ℕ
+line = ldterm_stands (record fresh { line = 97 ∷ 98 ∷ []; read_queue = queue (ordinary (99 ∷ []) ∷ []) []; write_queue = queue (options ∷ ordinary (100 ∷ []) ∷ []) [] })
 
 abbrev base : State ℕ
 base = record {
-  ends = record { master = end (ordinary (65 ∷ 66 ∷ []) ∷ []) [] (proto ∷ []); slave = end (urgent ∷ []) (OfPtem new_ptem ∷ line ∷ []) (ordinary (101 ∷ 102 ∷ []) ∷ []) };
+  ends = record { master = end (ordinary (65 ∷ 66 ∷ []) ∷ []) [] (proto ∷ []); slave = end (urgent ∷ []) (module_named names.Ptem ∷ line ∷ []) (ordinary (101 ∷ 102 ∷ []) ∷ []) };
   locked = false;
   enabled = [];
   next_ioctl = 1;
@@ -41,13 +43,11 @@ toward_master n byte = record { byte = byte; origin = Base SlaveToMaster n }
 abbrev cells : List (Message Tagged) → List (List Tagged)
 cells ms = map cells_of ms
 
-abbrev read_queues : Module Tagged → List (List Tagged)
-read_queues (OfLdterm l) = cells l.read_queue.messages
-read_queues _ = []
+abbrev read_queues : Standing Tagged → List (List Tagged)
+read_queues x = cells (messages_at Up x)
 
-abbrev write_queues : Module Tagged → List (List Tagged)
-write_queues (OfLdterm l) = cells l.write_queue.messages
-write_queues _ = []
+abbrev write_queues : Standing Tagged → List (List Tagged)
+write_queues x = cells (messages_at Down x)
 
 -- what goes to the slave: at the master's driver, then in the line, on the read queue and at the slave's head
 pub masters-driver-is-first : cells (based base).ends.master.driver.queue.messages ≡ (toward_slave 0 1 ∷ toward_slave 1 2 ∷ toward_slave 2 3 ∷ toward_slave 3 4 ∷ toward_slave 4 5 ∷ []) ∷ []

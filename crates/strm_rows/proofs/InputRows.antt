@@ -14,13 +14,13 @@ use Rattle.strm_types.specs.Flush.{is_data_kind}
 use Rattle.strm_types.specs.Input.{back_on, begins_next, finished, is_data, left_of, made_of, stages_done, then_on, to_treat, with_left}
 use Rattle.strm_types.specs.LdtermPuts.{ldterm_puts}
 use Rattle.strm_types.specs.LdtermServes.{ldterm_serves}
-use Rattle.strm_types.specs.Ldterms.{Ldterm, Stage, Between, Begun, Answered, new_ldterm}
+use Rattle.strm_types.specs.Ldterms.{Discipline, Stage, Between, Begun, Answered}
 use Rattle.strm_types.specs.Message.{Message, data_message, cells_of, band_of, size_of, rank_of, is_high_priority}
 use Rattle.strm_types.specs.Queue.{Queue, Flow}
 use Rattle.strm_types.specs.Service.{Serving}
 use Rattle.strm_rows.proofs.EchoRows.{rubbed}
 use Rattle.strm_rows.proofs.LdtermRows.{at, down, flushing, protocol, queue_with, to_write, up, waiting}
-use Rattle.strm_laws.proofs.Samples.{flow, ordinary, without_parts}
+use Rattle.strm_laws.proofs.Samples.{flow, fresh, ordinary, without_parts}
 use Rattle.strm_rows.proofs.TypingRows.{lined, with_modes}
 
 abbrev here : Spot
@@ -76,10 +76,10 @@ unfolding cells_of
 left-to-treat = refl
 
 -- One thing after another: the next one is told how many cells were made before it; where something is sent, none follows.
-abbrev does : List (Parcel ℕ) → Acted ℕ (Ldterm ℕ)
+abbrev does : List (Parcel ℕ) → Acted ℕ (Discipline ℕ)
 does sent = record { state = lined []; notes = Enable Up ∷ []; sent = sent; gone = told }
 
-abbrev then_does : ℕ → Ldterm ℕ → Acted ℕ (Ldterm ℕ)
+abbrev then_does : ℕ → Discipline ℕ → Acted ℕ (Discipline ℕ)
 then_does made p = record { state = record p { column = made }; notes = Room Up ∷ []; sent = up (ordinary []) ∷ []; gone = Comes SlaveToMaster (7 ∷ []) ∷ [] }
 
 pub one-thing-after-another : then_on 5 (does []) then_does
@@ -93,7 +93,7 @@ pub nothing-begins : begins_next plain here [] (lined []) ≡ record { state = l
 nothing-begins = refl
 
 -- The end of a turn: what was gathered goes up, what is left goes back, and no echo is under way. What was typed before stays.
-abbrev in_turn : List ℕ → Ldterm ℕ
+abbrev in_turn : List ℕ → Discipline ℕ
 in_turn gathered = record (lined (97 ∷ [])) {
   stopped = true;
   after_lnext = true;
@@ -104,7 +104,7 @@ in_turn gathered = record (lined (97 ∷ [])) {
   stage = Answered (5 ∷ []);
 }
 
-abbrev behind_turn : Ldterm ℕ
+abbrev behind_turn : Discipline ℕ
 behind_turn = record (lined (97 ∷ [])) { stopped = true; after_lnext = true; read_queue = standing (data_of 0 (8 ∷ []) ∷ data_of 0 (2 ∷ []) ∷ []) }
 
 pub turns-end : map (λ gathered. finished plain here (in_turn gathered)) ((5 ∷ 6 ∷ []) ∷ [] ∷ [])
@@ -115,7 +115,7 @@ turns-end = refl
 
 -- turns of the write queue
 
-abbrev output : List (Message ℕ) → Bool → Ldterm ℕ
+abbrev output : List (Message ℕ) → Bool → Discipline ℕ
 output messages want_read = record (in_turn []) { write_queue = queue_with messages (waiting true false) want_read }
 
 -- what stands first goes down: M_PROTO whole, and M_DATA as output under the first modes, which have OPOST and ONLCR
@@ -161,20 +161,20 @@ abbrev flows : List Flow
 flows = replicate 256 (flow 512 128 false)
 
 -- one on whose read queue these messages stand
-abbrev reading : List (Message ℕ) → Ldterm ℕ
+abbrev reading : List (Message ℕ) → Discipline ℕ
 reading messages = record (lined []) { read_queue = queue_with messages flows true }
 
 -- one behind that: a turn has begun, with this line, what is left and this echo on the write queue
-abbrev read : List ℕ → List (Message ℕ) → List (Message ℕ) → Ldterm ℕ
+abbrev read : List ℕ → List (Message ℕ) → List (Message ℕ) → Discipline ℕ
 read line left echo = record (lined line) { read_queue = queue_with left flows false; write_queue = queue_with echo flows true }
 
-abbrev in_work : List ℕ → Stage ℕ → Ldterm ℕ → Ldterm ℕ
+abbrev in_work : List ℕ → Stage ℕ → Discipline ℕ → Discipline ℕ
 in_work bytes stage p = record p { in_work = Some (ordinary bytes); stage = stage; echoing = true }
 
-abbrev serves : Bool → Option ℕ → Ldterm ℕ → Serving ℕ (Ldterm ℕ)
+abbrev serves : Bool → Option ℕ → Discipline ℕ → Serving ℕ (Discipline ℕ)
 serves again stop p = ldterm_serves plain here 0 again stop p
 
-abbrev served : Ldterm ℕ → Bool → List (Parcel ℕ) → List (Fate ℕ) → ℕ → Bool → Serving ℕ (Ldterm ℕ)
+abbrev served : Discipline ℕ → Bool → List (Parcel ℕ) → List (Fate ℕ) → ℕ → Bool → Serving ℕ (Discipline ℕ)
 served p enables sent gone bytes again = record {
   acted = record { state = p; notes = if enables then Enable Down ∷ [] else []; sent = sent; gone = gone };
   bytes = bytes;
@@ -200,16 +200,16 @@ nothing-typed = refl
 
 -- "hello\nyo\n", in three calls: each line goes up before its newline is echoed
 
-abbrev greeting : Ldterm ℕ
+abbrev greeting : Discipline ℕ
 greeting = reading (ordinary (104 ∷ 101 ∷ 108 ∷ 108 ∷ 111 ∷ 10 ∷ 121 ∷ 111 ∷ 10 ∷ []) ∷ [])
 
-abbrev greeting_1 : Ldterm ℕ
+abbrev greeting_1 : Discipline ℕ
 greeting_1 = in_work (121 ∷ 111 ∷ 10 ∷ []) (Answered (10 ∷ [])) (read [] [] (ordinary (104 ∷ 101 ∷ 108 ∷ 108 ∷ 111 ∷ []) ∷ []))
 
-abbrev greeting_2 : Ldterm ℕ
+abbrev greeting_2 : Discipline ℕ
 greeting_2 = in_work [] (Answered (10 ∷ [])) (read [] [] (ordinary (104 ∷ 101 ∷ 108 ∷ 108 ∷ 111 ∷ 10 ∷ 121 ∷ 111 ∷ []) ∷ []))
 
-abbrev greeting_3 : Ldterm ℕ
+abbrev greeting_3 : Discipline ℕ
 greeting_3 = read [] [] (ordinary (104 ∷ 101 ∷ 108 ∷ 108 ∷ 111 ∷ 10 ∷ 121 ∷ 111 ∷ 10 ∷ []) ∷ [])
 
 pub greeting-first : serves false None greeting
@@ -267,13 +267,13 @@ sends-before-it-stops = refl
 
 -- START where output is stopped: the M_START goes down first, and the byte is treated in the next call, which enables the write queue
 
-abbrev stopped : Ldterm ℕ → Ldterm ℕ
+abbrev stopped : Discipline ℕ → Discipline ℕ
 stopped p = record p { stopped = true }
 
 abbrev held : List (Message ℕ)
 held = ordinary (5 ∷ []) ∷ []
 
-abbrev started : Ldterm ℕ
+abbrev started : Discipline ℕ
 started = record (read [] [] held) { in_work = Some (ordinary (120 ∷ [])); stage = Begun true 17 }
 
 pub starts-first : serves false None (stopped (record (reading (ordinary (17 ∷ 120 ∷ []) ∷ [])) { write_queue = queue_with held flows true }))
@@ -304,7 +304,7 @@ stops-output = refl
 
 -- Without ICANON what a turn gathered goes up at its end, or with a signal key, before the flush.
 
-abbrev raw : Ldterm ℕ → Ldterm ℕ
+abbrev raw : Discipline ℕ → Discipline ℕ
 raw p = with_modes 0x2500 0x8a39 p
 
 pub gathered-goes-up : serves false None (raw (reading (ordinary (97 ∷ 10 ∷ 98 ∷ []) ∷ [])))
@@ -317,7 +317,7 @@ pub gathered-before-it-stops : serves false (Some 2) (raw (reading (ordinary (97
 unfolding data_message cells_of band_of size_of rank_of is_high_priority
 gathered-before-it-stops = refl
 
-abbrev signalled : Ldterm ℕ
+abbrev signalled : Discipline ℕ
 signalled = in_work (98 ∷ []) (Answered (94 ∷ 67 ∷ [])) (raw (read [] [] (ordinary (97 ∷ []) ∷ [])))
 
 pub gathered-before-a-signal : serves false None (raw (reading (ordinary (97 ∷ 3 ∷ 98 ∷ []) ∷ [])))
@@ -326,7 +326,7 @@ unfolding data_message cells_of band_of size_of rank_of is_high_priority
 gathered-before-a-signal = refl
 
 -- an M_FLUSH that comes down before the next call takes the echo, and the rest of the turn has one of its own
-abbrev flushed : Ldterm ℕ
+abbrev flushed : Discipline ℕ
 flushed = (ldterm_puts (at Slave Down) (flushing (2 ∷ [])) signalled).state
 
 pub echo-begins-again : serves true None flushed
@@ -335,7 +335,7 @@ unfolding data_message cells_of band_of size_of rank_of is_high_priority is_data
 echo-begins-again = refl
 
 -- from the high-water mark on an echo is lost: two bytes stand, the third doesn't
-abbrev narrow : List (Message ℕ) → Ldterm ℕ → Ldterm ℕ
+abbrev narrow : List (Message ℕ) → Discipline ℕ → Discipline ℕ
 narrow messages p = record p { write_queue = queue_with messages (flow 2 1 false ∷ []) true }
 
 pub echo-is-cut : serves false None (narrow [] (reading (ordinary (97 ∷ 98 ∷ 99 ∷ []) ∷ [])))
@@ -353,16 +353,16 @@ echo-without-enabling = refl
 abbrev typed_cell : ℕ → ℕ → Tagged
 typed_cell n byte = record { byte = byte; origin = Written MasterToSlave n }
 
-abbrev tagged_reading : List Tagged → Ldterm Tagged
+abbrev tagged_reading : List Tagged → Discipline Tagged
 tagged_reading cells =
     let m : Message Tagged = record { kind = Data; band = 0; control = None; body = Some cells; plain = [] } in
-    record new_ldterm { read_queue = record { messages = m ∷ []; flows = flows; want_read = true; no_enable = false } }
+    record fresh { read_queue = record { messages = m ∷ []; flows = flows; want_read = true; no_enable = false } }
 
 abbrev made_cell : ℕ → ℕ → Fate Tagged
 made_cell n byte = Comes SlaveToMaster (record { byte = byte; origin = Made SlaveToMaster n } ∷ [])
 
 -- "a", ERASE of it with its three made cells, and "b"
-abbrev tagged_turn : Serving Tagged (Ldterm Tagged)
+abbrev tagged_turn : Serving Tagged (Discipline Tagged)
 tagged_turn = ldterm_serves tagged here 6 false None (tagged_reading (typed_cell 1 97 ∷ typed_cell 2 127 ∷ typed_cell 3 98 ∷ []))
 
 pub made-cells-numbered-on : tagged_turn.acted.gone

@@ -14,17 +14,17 @@ use Rattle.strm_types.specs.declared.spots.Spot.{Spot}
 use Rattle.strm_types.specs.Deliver.{Acted, Parcel, Goes}
 use Rattle.strm_types.specs.Flush.{is_data_kind}
 use Rattle.strm_types.specs.LdtermPuts.{ldterm_puts}
-use Rattle.strm_types.specs.Ldterms.{Ldterm, Between, Answered, new_ldterm, both}
+use Rattle.strm_types.specs.Ldterms.{Discipline, Between, Answered, both}
 use Rattle.strm_types.specs.Message.{Message, band_of, cells_of, is_high_priority, rank_of, size_of}
 use Rattle.strm_types.specs.Queue.{Queue, Flow}
 use Rattle.strm_types.specs.Termios.{first_termios}
-use Rattle.strm_laws.proofs.Samples.{flow, ordinary, without_parts}
+use Rattle.strm_laws.proofs.Samples.{flow, ordinary, without_parts, fresh}
 
 -- one as it is pushed: it runs, and its queues are empty, with the marks 512 and 128
 abbrev new_one : Queue ℕ
 new_one = record { messages = []; flows = replicate 256 (flow 512 128 false); want_read = true; no_enable = false }
 
-pub pushed : new_ldterm {C = ℕ} ≡ record {
+pub pushed : fresh {C = ℕ} ≡ record {
   termios = first_termios;
   stopped = false;
   after_lnext = false;
@@ -57,7 +57,7 @@ to_read = protocol 2 (1 ∷ []) (2 ∷ 3 ∷ []) ∷ ordinary (4 ∷ 5 ∷ []) �
 abbrev pub to_write : List (Message ℕ)
 to_write = protocol 2 (21 ∷ []) (22 ∷ 23 ∷ []) ∷ ordinary (24 ∷ []) ∷ []
 
-abbrev pub busy : Ldterm ℕ
+abbrev pub busy : Discipline ℕ
 busy = record {
   termios = first_termios;
   stopped = true;
@@ -121,8 +121,8 @@ unfolding cells_of band_of is_high_priority size_of is_data_kind
 flushed-both-ways = refl
 
 -- of a new one: no line is told
-pub flushed-as-new : ldterm_puts (at Slave Up) (flushing (3 ∷ [])) new_ldterm ≡ record {
-  state = new_ldterm;
+pub flushed-as-new : ldterm_puts (at Slave Up) (flushing (3 ∷ [])) fresh ≡ record {
+  state = fresh;
   notes = [];
   sent = up (flushing (3 ∷ [])) ∷ [];
   gone = Goes MasterToSlave Flushed [] ∷ Goes SlaveToMaster Flushed [] ∷ [];
@@ -169,7 +169,7 @@ pub no-echo-to-flush : (ldterm_puts (at Slave Down) (flushing (6 ∷ 1 ∷ [])) 
 no-echo-to-flush = refl
 
 -- one that asks for nothing, or for a band that isn't there, passes
-abbrev passes : Ldterm ℕ → Parcel ℕ → Acted ℕ (Ldterm ℕ)
+abbrev passes : Discipline ℕ → Parcel ℕ → Acted ℕ (Discipline ℕ)
 passes p sent = record { state = p; notes = []; sent = sent ∷ []; gone = [] }
 
 pub flushes-of-nothing : map (λ bytes. ldterm_puts (at Slave Up) (flushing bytes) busy) ([] ∷ (0 ∷ []) ∷ (7 ∷ []) ∷ [])

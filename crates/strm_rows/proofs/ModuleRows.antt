@@ -1,6 +1,6 @@
 -- What the definitions of modules' queues compute, on small stacks.
 use Rattle.std.proofs.Common.{ℕ, ◌≡◌, true, false, List, [], ◌∷◌, map, refl}
-use Rattle.std.specs.Prelude.{Option, None, Some}
+use Rattle.std.specs.Prelude.{None, Some}
 use Rattle.strm_types.specs.declared.names.Way.{Way}
 use Rattle.strm_types.specs.declared.names.Way.TheVariants.{Up, Down}
 use Rattle.strm_types.specs.declared.names.Side.{Side}
@@ -17,20 +17,15 @@ use Rattle.strm_types.specs.Names.{driver_of}
 use Rattle.strm_types.specs.Service.{cleared, turn_ended}
 use Rattle.strm_types.specs.Message.{data_message, band_of, is_high_priority, size_of, cells_of}
 use Rattle.strm_types.specs.Queue.{Queue}
+use Rattle.strm_types.specs.Standings.{Standing, stood}
 use Rattle.strm_types.specs.ModuleQueues.{place_past, place_before, can_pass, waits_past}
 
--- a module as its two queues
-record Two : Type 0 where
-  read : Option (Queue ℕ)
-  write : Option (Queue ℕ)
+-- a module that is its unfinished line, with its queues
+abbrev Two : Type 0
+Two = Standing (List ℕ) ℕ
 
-abbrev of_way : Way → Two → Option (Queue ℕ)
-of_way Up p = p.read
-of_way Down p = p.write
-
-abbrev with_way : Way → Queue ℕ → Two → Two
-with_way Up q p = record p { read = Some q }
-with_way Down q p = record p { write = Some q }
+abbrev two : Queue ℕ → Queue ℕ → Two
+two read write = stood (5 ∷ 6 ∷ []) (Some (record { read = read; write = write }))
 
 -- a queue of one band with three bytes and a high-water mark
 abbrev filled : ℕ → Queue ℕ
@@ -41,53 +36,53 @@ waited high = record (filled high) { flows = record { high = high; low = 1; want
 
 -- from the top: no queue, both queues, the upper one full; none; both, the lower one full
 abbrev none : Two
-none = record { read = None; write = None }
+none = stood [] None
 
 abbrev four : List Two
-four = none ∷ record { read = Some (filled 3); write = Some (filled 4) } ∷ none ∷ record { read = Some (filled 4); write = Some (filled 3) } ∷ []
+four = none ∷ two (filled 3) (filled 4) ∷ none ∷ two (filled 4) (filled 3) ∷ []
 
-pub nearest-past : map (λ at. place_past of_way Down at four) (0 ∷ 1 ∷ 2 ∷ 3 ∷ 4 ∷ 5 ∷ []) ≡ Some 2 ∷ Some 2 ∷ Some 4 ∷ Some 4 ∷ None ∷ None ∷ []
+pub nearest-past : map (λ at. place_past Down at four) (0 ∷ 1 ∷ 2 ∷ 3 ∷ 4 ∷ 5 ∷ []) ≡ Some 2 ∷ Some 2 ∷ Some 4 ∷ Some 4 ∷ None ∷ None ∷ []
 nearest-past = refl
 
-pub nearest-past-upward : map (λ at. place_past of_way Up at four) (0 ∷ 1 ∷ 2 ∷ 3 ∷ 4 ∷ 5 ∷ []) ≡ None ∷ None ∷ None ∷ Some 2 ∷ Some 2 ∷ Some 4 ∷ []
+pub nearest-past-upward : map (λ at. place_past Up at four) (0 ∷ 1 ∷ 2 ∷ 3 ∷ 4 ∷ 5 ∷ []) ≡ None ∷ None ∷ None ∷ Some 2 ∷ Some 2 ∷ Some 4 ∷ []
 nearest-past-upward = refl
 
-pub nearest-before : map (λ at. place_before of_way Down at four) (0 ∷ 2 ∷ 3 ∷ 5 ∷ []) ≡ None ∷ None ∷ Some 2 ∷ Some 4 ∷ []
+pub nearest-before : map (λ at. place_before Down at four) (0 ∷ 2 ∷ 3 ∷ 5 ∷ []) ≡ None ∷ None ∷ Some 2 ∷ Some 4 ∷ []
 nearest-before = refl
 
-pub nearest-before-upward : map (λ at. place_before of_way Up at four) (0 ∷ 2 ∷ 4 ∷ []) ≡ Some 2 ∷ Some 4 ∷ None ∷ []
+pub nearest-before-upward : map (λ at. place_before Up at four) (0 ∷ 2 ∷ 4 ∷ []) ≡ Some 2 ∷ Some 4 ∷ None ∷ []
 nearest-before-upward = refl
 
 -- the nearest queue decides, whatever stands behind it
-pub nearest-decides : map (λ at. can_pass of_way Down 0 at four) (0 ∷ 2 ∷ 4 ∷ []) ≡ Some true ∷ Some false ∷ None ∷ []
+pub nearest-decides : map (λ at. can_pass Down 0 at four) (0 ∷ 2 ∷ 4 ∷ []) ≡ Some true ∷ Some false ∷ None ∷ []
 unfolding data_message band_of is_high_priority size_of cells_of
 nearest-decides = refl
 
-pub nearest-decides-upward : map (λ at. can_pass of_way Up 0 at four) (5 ∷ 4 ∷ 2 ∷ []) ≡ Some true ∷ Some false ∷ None ∷ []
+pub nearest-decides-upward : map (λ at. can_pass Up 0 at four) (5 ∷ 4 ∷ 2 ∷ []) ≡ Some true ∷ Some false ∷ None ∷ []
 unfolding data_message band_of is_high_priority size_of cells_of
 nearest-decides-upward = refl
 
 -- a writer waits at that one alone
-pub waits-at-the-nearest : waits_past of_way with_way Down 0 2 four ≡ none ∷ record { read = Some (filled 3); write = Some (filled 4) } ∷ none ∷ record { read = Some (filled 4); write = Some (waited 3) } ∷ []
+pub waits-at-the-nearest : waits_past Down 0 2 four ≡ none ∷ two (filled 3) (filled 4) ∷ none ∷ two (filled 4) (waited 3) ∷ []
 waits-at-the-nearest = refl
 
-pub waits-nowhere : waits_past of_way with_way Up 0 2 four ≡ four
+pub waits-nowhere : waits_past Up 0 2 four ≡ four
 waits-nowhere = refl
 
 -- a queue that is taken off its stream
 abbrev emptied_of : ℕ → Queue ℕ
 emptied_of high = record { messages = []; flows = record { high = high; low = 1; want_write = false } ∷ []; want_read = true; no_enable = false }
 
-abbrev line_of : Two → List ℕ
-line_of p = 5 ∷ 6 ∷ []
+abbrev itself : List ℕ → List ℕ
+itself line = line
 
-abbrev same : Two → Two
-same p = p
+abbrev without : List ℕ → List ℕ
+without line = []
 
 -- the read queue, the line and the write queue, in this order, each in its direction
-pub cleared-in-order : cleared of_way with_way line_of same Slave ModulePopped (record { read = Some (waited 3); write = Some (filled 4) })
+pub cleared-in-order : cleared itself without Slave ModulePopped (two (waited 3) (filled 4))
     ≡ record {
-      state = record { read = Some (emptied_of 3); write = Some (emptied_of 4) };
+      state = stood [] (Some (record { read = emptied_of 3; write = emptied_of 4 }));
       notes = Room Up ∷ [];
       sent = [];
       gone = Goes MasterToSlave ModulePopped (7 ∷ 8 ∷ 9 ∷ [])
@@ -97,7 +92,7 @@ pub cleared-in-order : cleared of_way with_way line_of same Slave ModulePopped (
 unfolding data_message band_of is_high_priority size_of cells_of
 cleared-in-order = refl
 
-pub nothing-to-clear : cleared of_way with_way (λ p. []) same Slave ModulePopped none ≡ record { state = none; notes = []; sent = []; gone = [] }
+pub nothing-to-clear : cleared itself without Slave ModulePopped none ≡ record { state = none; notes = []; sent = []; gone = [] }
 nothing-to-clear = refl
 
 -- a turn that took bytes lets the writer go, where the count is low; one that may not treat the message clears want-read

@@ -1,6 +1,7 @@
 -- Turns of modules' queues, as worked out by hand from the STREAMS Programming Guide, ldterm(7M) and termio(7I).
 use Rattle.std.proofs.Common.{ℕ, ◌≡◌, Bool, true, false, List, [], ◌∷◌, ◌++◌, map, refl}
 use Rattle.std.specs.Prelude.{None, Some}
+use Rattle.strm_types.specs.declared.names.ModuleName.TheVariants as names
 use Rattle.strm_types.specs.declared.answers.Turn.{Turn}
 use Rattle.strm_types.specs.declared.answers.Turn.TheVariants.{Moved, Blocked, Idle}
 use Rattle.strm_types.specs.declared.entries.Entry.TheVariants.{Turned}
@@ -12,29 +13,28 @@ use Rattle.strm_types.specs.declared.names.Way.TheVariants.{Up, Down}
 use Rattle.strm_types.specs.Books.{new_book}
 use Rattle.strm_types.specs.Cells.{plain}
 use Rattle.strm_types.specs.Deliver.{carried}
-use Rattle.strm_types.specs.Ldterms.{new_ldterm}
 use Rattle.strm_types.specs.Message.{Message, band_of, cells_of, data_message, is_high_priority, rank_of, size_of}
 use Rattle.strm_laws.specs.ModuleTurns.{calls, module_turned, place_named, whole_module}
 use Rattle.strm_types.specs.Names.{driver_of}
-use Rattle.strm_types.specs.Ptems.{new_ptem}
 use Rattle.strm_types.specs.Queue.{Flow, Queue}
-use Rattle.strm_laws.specs.Stacked.{Module, OfLdterm, OfPtem, module_queues}
+use Rattle.strm_laws.specs.Stacked.{Standing, module_queues, ldterm_stands}
 use Rattle.strm_laws.specs.State.{State, Stream, new_stream}
 use Rattle.strm_laws.specs.Step.{IsTurn, after}
 use Rattle.strm_laws.specs.TurnOutcomes.{TurnOutcome}
 use Rattle.strm_laws.specs.Turns.{turned, whole_turn}
-use Rattle.strm_laws.proofs.Samples.{head_with, ordinary}
+use Rattle.strm_laws.proofs.Samples.{head_with, ordinary, fresh}
 use Rattle.strm_laws.specs.Past.{may_pass}
+use Rattle.strm_laws.specs.Pushes.{module_named}
 
 -- a queue of one band that is full from three bytes on, whose last turn left messages there
 abbrev busy : List (Message ℕ) → Bool → Queue ℕ
 busy messages waits = record { messages = messages; flows = record { high = 3; low = 1; want_write = waits } ∷ []; want_read = false; no_enable = false }
 
-abbrev module_with : Queue ℕ → Queue ℕ → Module ℕ
-module_with above below = OfLdterm (record new_ldterm { read_queue = above; write_queue = below })
+abbrev module_with : Queue ℕ → Queue ℕ → Standing ℕ
+module_with above below = ldterm_stands (record fresh { read_queue = above; write_queue = below })
 
 -- a pair whose slave's stream has these modules between a head and a driver
-abbrev stacked : Queue ℕ → List (Module ℕ) → Queue ℕ → Stream ℕ
+abbrev stacked : Queue ℕ → List (Standing ℕ) → Queue ℕ → Stream ℕ
 stacked above modules below = record { opened = Open; head = head_with above false; modules = modules; driver = record { queue = below } }
 
 abbrev pair : Stream ℕ → State ℕ
@@ -59,7 +59,7 @@ record Seen : Type 0 where
 abbrev queues_on : Stream ℕ → List (Queue ℕ)
 queues_on on = on.head.queue ∷ of_top on.modules
   where
-    of_top : List (Module ℕ) → List (Queue ℕ)
+    of_top : List (Standing ℕ) → List (Queue ℕ)
     of_top [] = on.driver.queue ∷ []
     of_top (p ∷ ps) = module_queues p ++ on.driver.queue ∷ []
 
@@ -173,7 +173,7 @@ unfolding carried cells_of band_of is_high_priority size_of rank_of data_message
 too-few-calls = refl
 
 -- no turn begins in a module while one is under way
-pub under-way : (module_turned plain writing (Moved 1) (pair (stacked (busy [] false) (OfLdterm (record new_ldterm { read_queue = busy [] false; write_queue = busy (ordinary (7 ∷ []) ∷ []) false; in_work = Some (ordinary (1 ∷ [])) }) ∷ []) (busy [] false)))).turn ≡ Blocked
+pub under-way : (module_turned plain writing (Moved 1) (pair (stacked (busy [] false) (ldterm_stands (record fresh { read_queue = busy [] false; write_queue = busy (ordinary (7 ∷ []) ∷ []) false; in_work = Some (ordinary (1 ∷ [])) }) ∷ []) (busy [] false)))).turn ≡ Blocked
 unfolding cells_of band_of is_high_priority size_of
 under-way = refl
 
@@ -190,7 +190,7 @@ names-found = refl
 
 -- a module without queues stands in no one's way: what it stands above is found, and the queue past it is asked for room
 abbrev above_one : Stream ℕ
-above_one = stacked (busy [] false) (OfPtem new_ptem ∷ module_with (busy [] false) (busy full false) ∷ OfPtem new_ptem ∷ []) (busy [] false)
+above_one = stacked (busy [] false) (module_named names.Ptem ∷ module_with (busy [] false) (busy full false) ∷ module_named names.Ptem ∷ []) (busy [] false)
 
 pub name-found-below : map (λ place. place_named place above_one.modules) (Ldterm ∷ Driver ∷ []) ≡ Some 2 ∷ None ∷ []
 name-found-below = refl

@@ -14,7 +14,7 @@ use Rattle.strm_types.specs.declared.termios.Termios.{Termios}
 use Rattle.strm_types.specs.Asking.{ldterm_asks}
 use Rattle.strm_types.specs.Cells.{Tagged, Written, Made, plain, tagged}
 use Rattle.strm_types.specs.Deliver.{Fate, Goes, Comes, Parcel}
-use Rattle.strm_types.specs.Ldterms.{Ldterm}
+use Rattle.strm_types.specs.Ldterms.{Discipline}
 use Rattle.strm_types.specs.Message.{Message, cells_of, is_high_priority, rank_of, size_of}
 use Rattle.strm_types.specs.Output.{Output, made_for, post, posts, raised}
 use Rattle.strm_types.specs.OutputTurns.{output_serves}
@@ -137,10 +137,10 @@ cells-go-out = refl
 -- turns
 
 -- one with such modes, whose output is stopped or not, with these messages on its write queue
-abbrev writing : ℕ → Bool → List (Message ℕ) → Ldterm ℕ
+abbrev writing : ℕ → Bool → List (Message ℕ) → Discipline ℕ
 writing word stopped messages = record (lined []) { termios = output word; stopped = stopped; column = 6; write_queue = queue_with messages (waiting true false) true }
 
-abbrev behind : ℕ → ℕ → List (Message ℕ) → Ldterm ℕ
+abbrev behind : ℕ → ℕ → List (Message ℕ) → Discipline ℕ
 behind word column messages = record (lined []) { termios = output word; column = column; write_queue = queue_with messages (waiting true false) false }
 
 abbrev banded : ℕ → List ℕ → Message ℕ
@@ -218,10 +218,10 @@ nothing-stands = refl
 
 -- A turn that stops treats so many bytes, and what is left goes back in front of those of its band. One that stops at its end leaves none, and one
 -- that treats nothing sends nothing.
-abbrev stopped_at : ℕ → Message ℕ → Serving ℕ (Ldterm ℕ)
+abbrev stopped_at : ℕ → Message ℕ → Serving ℕ (Discipline ℕ)
 stopped_at most m = output_serves plain (at Slave Down) (Some most) 3 (m ∷ ordinary (98 ∷ []) ∷ []) (writing 0x5 false [])
 
-abbrev leaves : ℕ → ℕ → List (Message ℕ) → List (Parcel ℕ) → List (Fate ℕ) → Serving ℕ (Ldterm ℕ)
+abbrev leaves : ℕ → ℕ → List (Message ℕ) → List (Parcel ℕ) → List (Fate ℕ) → Serving ℕ (Discipline ℕ)
 leaves bytes column messages sent gone = record { acted = record { state = behind 0x5 column messages; notes = []; sent = sent; gone = gone }; bytes = bytes; again = false }
 
 pub output-stops : map (λ most. stopped_at most (banded 2 (97 ∷ 10 ∷ 99 ∷ []))) (0 ∷ 1 ∷ 2 ∷ 3 ∷ 4 ∷ [])

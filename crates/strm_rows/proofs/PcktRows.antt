@@ -1,6 +1,7 @@
 -- What pckt does with what is put at it, as worked out by hand from pckt(7M) and sys/stream.h.
 use Rattle.std.proofs.Common.{ℕ, ◌≡◌, true, false, List, [], ◌∷◌, ◌++◌, map, refl, replicate}
 use Rattle.std.specs.Prelude.{Option, None, Some}
+use Rattle.strm_types.specs.declared.names.ModuleName.TheVariants as names
 use Rattle.strm_types.specs.declared.kinds.MsgKind.TheVariants.{Data, Proto, Sig, Ctl, Ioctl, Setopts, Iocack, Iocnak, Pcproto, Pcsig, Read, Flush, Stop, Start, Hangup, Error}
 use Rattle.strm_types.specs.declared.names.Dir.TheVariants.{MasterToSlave, SlaveToMaster}
 use Rattle.strm_types.specs.declared.names.Side.TheVariants.{Master, Slave}
@@ -13,8 +14,8 @@ use Rattle.strm_types.specs.Kinds.{kind_number}
 use Rattle.strm_types.specs.Message.{Message, band_of, cells_of, is_high_priority}
 use Rattle.strm_types.specs.Pckts.{Pckt, is_packed, pckt_puts}
 use Rattle.strm_laws.specs.Puts.{booked, put_in}
-use Rattle.strm_laws.specs.Stacked.{OfPckt}
 use Rattle.strm_laws.specs.State.{State, new_stream, opening, with_book, with_stream}
+use Rattle.strm_laws.specs.Pushes.{module_named}
 use Rattle.strm_laws.proofs.Samples.{header, ordinary, proto, urgent, without_parts}
 
 pub kinds-that-are-packed :
@@ -183,7 +184,7 @@ stop-is-one-byte = refl
 -- In a pair what is made is numbered from what was made before in the direction of what goes up, and booked there.
 
 abbrev below_pckt : ℕ → State Tagged
-below_pckt made = with_book SlaveToMaster (record { written = 5; made = 60 }) (with_book MasterToSlave (record { written = 3; made = made }) (with_stream Slave (record new_stream { modules = OfPckt (record {}) ∷ [] }) opening))
+below_pckt made = with_book SlaveToMaster (record { written = 5; made = 60 }) (with_book MasterToSlave (record { written = 3; made = made }) (with_stream Slave (record new_stream { modules = module_named names.Pckt ∷ [] }) opening))
 
 abbrev made_before : ℕ → ℕ → Tagged
 made_before n b = record { byte = b; origin = Made MasterToSlave n }

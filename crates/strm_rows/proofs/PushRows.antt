@@ -1,6 +1,6 @@
 -- Pushes, pops and closes of streams with modules, worked out by hand (streamio(7I): I_PUSH, I_POP, I_LOOK; ldterm(7M); close(2)).
 use Rattle.std.proofs.Common.{ℕ, ◌≡◌, true, false, List, [], ◌∷◌, map, refl, replicate}
-use Rattle.std.specs.Prelude.{None, Some}
+use Rattle.std.specs.Prelude.{None, Some, Option}
 use Rattle.strm_types.specs.declared.answers.Answer.TheVariants.{Done, Name}
 use Rattle.strm_types.specs.declared.modes.ReadMode.TheVariants.{ByteStream, MessageDiscard, MessageKeep}
 use Rattle.strm_types.specs.declared.names.ModuleName.TheVariants as names
@@ -16,42 +16,42 @@ use Rattle.strm_laws.specs.Calls.{name_told}
 use Rattle.strm_laws.specs.Closes.{closed_at}
 use Rattle.strm_types.specs.Deliver.{Carried, Goes, carried}
 use Rattle.strm_types.specs.Heads as heads
-use Rattle.strm_types.specs.Ldterms.{new_ldterm}
 use Rattle.strm_types.specs.Message.{Message, cells_of, size_of, is_held, band_of, is_high_priority}
 use Rattle.strm_types.specs.Names.{driver_of}
 use Rattle.strm_types.specs.Options.{mode_number}
-use Rattle.strm_types.specs.Pckts.{new_pckt}
-use Rattle.strm_types.specs.Ptems.{new_ptem}
-use Rattle.strm_laws.specs.Pushes.{may_stand, named_by, popped, pushed, pushed_named, top_on}
+use Rattle.strm_laws.specs.Pushes.{may_stand, named_by, popped, pushed, pushed_named, top_on, module_named}
 use Rattle.strm_types.specs.Queue.{Flow}
 use Rattle.strm_laws.specs.Refusals.{none_waits_up, at_end}
 use Rattle.strm_laws.specs.Past.{has_room_past, writer_waits}
-use Rattle.strm_laws.specs.Stacked.{Module, OfLdterm, OfPtem, OfPckt, module_line, module_name}
+use Rattle.strm_laws.specs.Stacked.{Standing, module_line, module_name, ldterm_stands}
 use Rattle.strm_laws.specs.State.{State, Stream, with_stream}
-use Rattle.strm_laws.proofs.Samples.{flow, head_with, ordinary, proto, queue, header, without_parts}
+use Rattle.strm_laws.proofs.Samples.{flow, head_with, ordinary, proto, queue, header, without_parts, fresh}
 use Rattle.strm_types.specs.Slots.{PlainSlot}
 use Rattle.strm_types.specs.declared.ioctls.TheConstants.{TCSETSW}
 use Rattle.strm_types.specs.declared.kinds.MsgKind.TheVariants.{Ioctl, Iocack}
 use Rattle.strm_types.specs.declared.slots.Slot.TheVariants.{Free, Waiting, Answered}
+use Rattle.strm_types.specs.Standings.{QueuePair}
 
 -- a module with these messages on its read queue, whose bands are so, and on its write queue, and this unfinished line
-abbrev holding : List (Message ℕ) → List Flow → List (Message ℕ) → List ℕ → Module ℕ
-holding above flows below line = OfLdterm (record new_ldterm { read_queue = queue above flows; write_queue = queue below []; line = line })
+abbrev holding : List (Message ℕ) → List Flow → List (Message ℕ) → List ℕ → Standing ℕ
+holding above flows below line = ldterm_stands (record fresh { read_queue = queue above flows; write_queue = queue below []; line = line })
 
-abbrev flows_of : Module ℕ → List Flow
-flows_of (OfLdterm l) = l.read_queue.flows
-flows_of (OfPtem p) = []
-flows_of (OfPckt p) = []
+abbrev flows_of : Standing ℕ → List Flow
+flows_of x = by x.queues
+  where
+    by : Option (QueuePair ℕ) → List Flow
+    by None = []
+    by (Some pair) = pair.read.flows
 
 abbrev one : ℕ → List (Message ℕ)
 one b = ordinary (b ∷ []) ∷ []
 
 -- an open stream with these messages at its head, these modules, and these messages on its driver's queue
-abbrev end : List (Message ℕ) → List (Module ℕ) → List (Message ℕ) → Stream ℕ
+abbrev end : List (Message ℕ) → List (Standing ℕ) → List (Message ℕ) → Stream ℕ
 end above ps below = record { opened = Open; head = head_with (queue above []) false; modules = ps; driver = record { queue = queue below [] } }
 
 -- a pair of which the slave's stream has these modules, and these messages wait on the master's driver
-abbrev pair : List (Message ℕ) → List (Module ℕ) → List QueueName → State ℕ
+abbrev pair : List (Message ℕ) → List (Standing ℕ) → List QueueName → State ℕ
 pair waits ps enabled = record {
   ends = record { master = end [] [] waits; slave = end (one 1) ps (one 2) };
   locked = false;
@@ -67,29 +67,29 @@ abbrev writes : QueueName
 writes = record { side = Slave; place = Ldterm; way = Down }
 
 -- the module that is pushed stands on top, and the head reads messages from now on
-pub push-stands-on-top : map module_line (pushed Slave (OfLdterm new_ldterm) (pair [] (holding [] [] [] (9 ∷ []) ∷ []) [])).state.ends.slave.modules ≡ [] ∷ (9 ∷ []) ∷ []
+pub push-stands-on-top : map module_line (pushed Slave (module_named names.Ldterm) (pair [] (holding [] [] [] (9 ∷ []) ∷ []) [])).state.ends.slave.modules ≡ [] ∷ (9 ∷ []) ∷ []
 unfolding carried cells_of size_of
 push-stands-on-top = refl
 
-pub push-sets-the-mode : (pushed Slave (OfLdterm new_ldterm) (pair [] [] [])).state.ends.slave.head.read_mode ≡ MessageKeep
+pub push-sets-the-mode : (pushed Slave (module_named names.Ldterm) (pair [] [] [])).state.ends.slave.head.read_mode ≡ MessageKeep
 unfolding carried cells_of size_of
 push-sets-the-mode = refl
 
-pub push-lets-nothing-go : (pushed Slave (OfLdterm new_ldterm) (pair (one 7) [] [])).gone ≡ []
+pub push-lets-nothing-go : (pushed Slave (module_named names.Ldterm) (pair (one 7) [] [])).gone ≡ []
 unfolding carried cells_of size_of
 push-lets-nothing-go = refl
 
 -- what waits on the other side's driver may come, where anything waits there; and nothing where it is the master's stream that grows
-pub push-lets-come : map (λ waits. (pushed Slave (OfLdterm new_ldterm) (pair waits [] [])).state.enabled) ([] ∷ one 7 ∷ []) ≡ [] ∷ (driver_of Master ∷ []) ∷ []
+pub push-lets-come : map (λ waits. (pushed Slave (module_named names.Ldterm) (pair waits [] [])).state.enabled) ([] ∷ one 7 ∷ []) ≡ [] ∷ (driver_of Master ∷ []) ∷ []
 unfolding carried cells_of size_of
 push-lets-come = refl
 
-pub push-on-the-other-side : (pushed Master (OfLdterm new_ldterm) (pair (one 7) [] [])).state.enabled ≡ driver_of Slave ∷ []
+pub push-on-the-other-side : (pushed Master (module_named names.Ldterm) (pair (one 7) [] [])).state.enabled ≡ driver_of Slave ∷ []
 unfolding carried cells_of size_of
 push-on-the-other-side = refl
 
 -- a module below with messages is let come before the driver
-pub push-above-a-module : (pushed Slave (OfLdterm new_ldterm) (pair (one 7) (holding (one 3) [] [] [] ∷ []) [])).state.enabled ≡ reads ∷ []
+pub push-above-a-module : (pushed Slave (module_named names.Ldterm) (pair (one 7) (holding (one 3) [] [] [] ∷ []) [])).state.enabled ≡ reads ∷ []
 unfolding carried cells_of size_of
 push-above-a-module = refl
 
@@ -99,10 +99,10 @@ unfolding carried cells_of size_of
 push-by-name = refl
 
 -- one of a name stands once, beside others
-pub stands-once : map (λ ps. may_stand {C = ℕ} (named_by (Some names.Ldterm)) ps) ([] ∷ (OfLdterm new_ldterm ∷ []) ∷ []) ≡ true ∷ false ∷ []
+pub stands-once : map (λ ps. may_stand {C = ℕ} (named_by (Some names.Ldterm)) ps) ([] ∷ (module_named names.Ldterm ∷ []) ∷ []) ≡ true ∷ false ∷ []
 stands-once = refl
 
-pub others-may-stand : map (λ name. map (λ ps. may_stand {C = ℕ} (named_by (Some name)) ps) ((OfLdterm new_ldterm ∷ []) ∷ (OfPtem new_ptem ∷ []) ∷ (OfPckt new_pckt ∷ []) ∷ []))
+pub others-may-stand : map (λ name. map (λ ps. may_stand {C = ℕ} (named_by (Some name)) ps) ((module_named names.Ldterm ∷ []) ∷ (module_named names.Ptem ∷ []) ∷ (module_named names.Pckt ∷ []) ∷ []))
     (names.Ldterm ∷ names.Ptem ∷ names.Pckt ∷ []) ≡ (false ∷ true ∷ true ∷ []) ∷ (true ∷ false ∷ true ∷ []) ∷ (true ∷ true ∷ false ∷ []) ∷ []
 others-may-stand = refl
 
@@ -142,7 +142,7 @@ unfolding carried cells_of size_of
 popped-queues-have-no-turn = refl
 
 abbrev head_popped : heads.Head ℕ
-head_popped = (popped Slave (with_stream Slave (record (end [] (OfLdterm new_ldterm ∷ []) []) { head = record (head_with (queue [] []) false) { read_mode = MessageKeep; tostop = true } }) (pair [] (OfLdterm new_ldterm ∷ []) []))).state.ends.slave.head
+head_popped = (popped Slave (with_stream Slave (record (end [] (module_named names.Ldterm ∷ []) []) { head = record (head_with (queue [] []) false) { read_mode = MessageKeep; tostop = true } }) (pair [] (module_named names.Ldterm ∷ []) []))).state.ends.slave.head
 
 pub pop-sets-the-mode : head_popped ≡ head_with (queue [] []) false
 unfolding carried cells_of size_of
@@ -185,7 +185,7 @@ unfolding carried cells_of size_of
 other-slots-stay = refl
 
 -- what stands on the read queue, on a module below or on the other side is another matter
-pub only-below-the-top : map (λ ps. slot_of (popped Slave (let s = waiting (Waiting 7 TCSETSW) [] in (with_stream Slave (record s.ends.slave { modules = ps }) s)))) ((holding (asked 7 ∷ []) [] [] [] ∷ []) ∷ (OfPtem new_ptem ∷ holding [] [] (asked 7 ∷ []) [] ∷ []) ∷ [] ∷ []) ≡ Waiting 7 TCSETSW ∷ Waiting 7 TCSETSW ∷ Waiting 7 TCSETSW ∷ []
+pub only-below-the-top : map (λ ps. slot_of (popped Slave (let s = waiting (Waiting 7 TCSETSW) [] in (with_stream Slave (record s.ends.slave { modules = ps }) s)))) ((holding (asked 7 ∷ []) [] [] [] ∷ []) ∷ (module_named names.Ptem ∷ holding [] [] (asked 7 ∷ []) [] ∷ []) ∷ [] ∷ []) ≡ Waiting 7 TCSETSW ∷ Waiting 7 TCSETSW ∷ Waiting 7 TCSETSW ∷ []
 unfolding carried cells_of size_of
 only-below-the-top = refl
 
@@ -193,7 +193,7 @@ pub only-on-its-side : slot_of (popped Master (waiting (Waiting 7 TCSETSW) (aske
 unfolding carried cells_of size_of
 only-on-its-side = refl
 
-pub look-names-the-top : map (λ ps. name_told (top_on Slave (pair [] ps []))) ([] ∷ (OfLdterm new_ldterm ∷ []) ∷ (OfPtem new_ptem ∷ OfLdterm new_ldterm ∷ []) ∷ []) ≡ Done ∷ Name names.Ldterm ∷ Name names.Ptem ∷ []
+pub look-names-the-top : map (λ ps. name_told (top_on Slave (pair [] ps []))) ([] ∷ (module_named names.Ldterm ∷ []) ∷ (module_named names.Ptem ∷ module_named names.Ldterm ∷ []) ∷ []) ≡ Done ∷ Name names.Ldterm ∷ Name names.Ptem ∷ []
 look-names-the-top = refl
 
 -- A close takes the head's messages, then each module's from the top; the slave's driver keeps what it has.
@@ -223,7 +223,7 @@ abbrev crowded : State ℕ
 crowded = with_stream Slave (record {
   opened = Open;
   head = head_with (queue (one 1) (flow 2 1 false ∷ [])) false;
-  modules = OfLdterm (record new_ldterm { read_queue = queue (one 3) (flow 1 0 false ∷ []); write_queue = queue [] (flow 1 0 false ∷ []) }) ∷ [];
+  modules = ldterm_stands (record fresh { read_queue = queue (one 3) (flow 1 0 false ∷ []); write_queue = queue [] (flow 1 0 false ∷ []) }) ∷ [];
   driver = record { queue = queue (one 2) (flow 2 1 false ∷ []) };
 }) (pair [] [] [])
 
@@ -242,7 +242,7 @@ pub what-waits-up : map (λ p. none_waits_up (p ∷ [])) (holding (one 3) [] [] 
 unfolding is_held
 what-waits-up = refl
 
-abbrev ending : List (Module ℕ) → State ℕ
+abbrev ending : List (Standing ℕ) → State ℕ
 ending ps = with_stream Slave (record (end [] [] []) { opened = Closed }) (with_stream Master (end [] ps []) (pair [] [] []))
 
 pub data-at-a-module-holds-off-the-end : map (λ ps. at_end Master (ending ps)) ([] ∷ (holding (one 3) [] [] [] ∷ []) ∷ (holding [] [] (one 4) (5 ∷ []) ∷ []) ∷ []) ≡ true ∷ false ∷ true ∷ []

@@ -18,14 +18,13 @@ use Rattle.strm_types.specs.Deliver.{Fate, Goes, Parcel, Took}
 use Rattle.strm_laws.specs.Earlier.{before_at, before_by, before_driver, before_head, driver_place, modules_on}
 use Rattle.strm_types.specs.Flush.{is_data_kind}
 use Rattle.strm_types.specs.Flushing.{flush_message}
-use Rattle.strm_types.specs.Ldterms.{new_ldterm}
 use Rattle.strm_types.specs.Message.{Message, band_of, cells_of, is_high_priority, rank_of, size_of}
 use Rattle.strm_types.specs.Names.{driver_of}
 use Rattle.strm_laws.specs.Puts.{across_of, put_in}
 use Rattle.strm_types.specs.Queue.{Flow}
-use Rattle.strm_laws.specs.Stacked.{Module, OfLdterm}
+use Rattle.strm_laws.specs.Stacked.{Standing, ldterm_stands}
 use Rattle.strm_laws.specs.State.{State, Stream}
-use Rattle.strm_laws.proofs.Samples.{flow, head_with, header, ordinary, queue, without_parts}
+use Rattle.strm_laws.proofs.Samples.{flow, head_with, header, ordinary, queue, without_parts, fresh}
 
 abbrev pub spot : Side → ℕ → Way → Spot
 spot side at way = record { side = side; at = at; way = way }
@@ -34,16 +33,16 @@ abbrev pub parcel : Side → ℕ → Way → Message ℕ → Parcel ℕ
 parcel side at way m = record { to = spot side at way; message = m }
 
 -- a module with these messages on its read queue and on its write queue, whose bands have these marks
-abbrev pub holding : List Flow → List (Message ℕ) → List (Message ℕ) → Module ℕ
-holding flows above below = OfLdterm (record new_ldterm { read_queue = queue above flows; write_queue = queue below flows })
+abbrev pub holding : List Flow → List (Message ℕ) → List (Message ℕ) → Standing ℕ
+holding flows above below = ldterm_stands (record fresh { read_queue = queue above flows; write_queue = queue below flows })
 
-abbrev pub with_these : List (Message ℕ) → List (Message ℕ) → Module ℕ
+abbrev pub with_these : List (Message ℕ) → List (Message ℕ) → Standing ℕ
 with_these above below = holding [] above below
 
-abbrev pub bare : Module ℕ
+abbrev pub bare : Standing ℕ
 bare = with_these [] []
 
-abbrev pub end : List (Message ℕ) → List (Module ℕ) → List (Message ℕ) → Stream ℕ
+abbrev pub end : List (Message ℕ) → List (Standing ℕ) → List (Message ℕ) → Stream ℕ
 end head modules driver = record { opened = Open; head = head_with (queue head []) false; modules = modules; driver = record { queue = queue driver [] } }
 
 abbrev pub pair : Stream ℕ → Stream ℕ → List QueueName → State ℕ
@@ -56,7 +55,7 @@ pair master slave enabled = record {
 }
 
 -- the slave's stream has these modules, and the master's none
-abbrev pub with_slave : List (Module ℕ) → State ℕ
+abbrev pub with_slave : List (Standing ℕ) → State ℕ
 with_slave modules = pair (end [] [] []) (end [] modules []) []
 
 abbrev pub one : ℕ → List (Message ℕ)
@@ -110,7 +109,7 @@ queue-behind-one-without = refl
 abbrev took : State ℕ → List (Parcel ℕ) → List (Fate ℕ) → Took ℕ (State ℕ)
 took s sent gone = record { state = s; sent = sent; gone = gone }
 
-abbrev with_enabled : List QueueName → List (Module ℕ) → State ℕ
+abbrev with_enabled : List QueueName → List (Standing ℕ) → State ℕ
 with_enabled names modules = record (with_slave modules) { enabled = names }
 
 -- M_DATA waits on the queue of its way at the module of its place, which is enabled
@@ -163,7 +162,7 @@ unfolding is_data_kind cells_of size_of
 flush-at-the-first = refl
 
 -- a writer that waited there is let go: at the upper read queue the lower module's, at the lower one the other side's driver
-abbrev waited_for : Module ℕ
+abbrev waited_for : Standing ℕ
 waited_for = holding (flow 9 1 true ∷ []) (one 1) []
 
 pub room-enables-the-one-before : map (λ (p : Parcel ℕ). (put_in plain p.to p.message (with_slave (waited_for ∷ waited_for ∷ []))).state.enabled) (parcel Slave 1 Up (flush_message (1 ∷ [])) ∷ parcel Slave 2 Up (flush_message (1 ∷ [])) ∷ [])

@@ -12,21 +12,20 @@ use Rattle.strm_types.specs.Both.{twice}
 use Rattle.strm_types.specs.Cells.{plain}
 use Rattle.strm_types.specs.Deliver.{carried}
 use Rattle.strm_types.specs.Drivers.{crosses}
-use Rattle.strm_types.specs.Ldterms.{new_ldterm}
 use Rattle.strm_types.specs.Message.{Message, band_of, cells_of, data_message, is_held, is_high_priority, rank_of, size_of}
 use Rattle.strm_types.specs.Names.{driver_of}
 use Rattle.strm_types.specs.Queue.{Queue}
 use Rattle.strm_laws.specs.Rest.{work}
-use Rattle.strm_laws.specs.Stacked.{Module, OfLdterm}
+use Rattle.strm_laws.specs.Stacked.{Standing, ldterm_stands}
 use Rattle.strm_laws.specs.State.{State, Stream, queues_of}
 use Rattle.strm_laws.specs.Turns.{turned, whole_turn}
-use Rattle.strm_laws.proofs.Samples.{flow, head_with, ordinary, queue}
+use Rattle.strm_laws.proofs.Samples.{flow, head_with, ordinary, queue, fresh}
 
 abbrev roomy : List (Message ℕ) → Queue ℕ
 roomy messages = queue messages (flow 512 128 false ∷ [])
 
-abbrev edited : Module ℕ
-edited = OfLdterm (record new_ldterm { read_queue = roomy []; write_queue = roomy [] })
+abbrev edited : Standing ℕ
+edited = ldterm_stands (record fresh { read_queue = roomy []; write_queue = roomy [] })
 
 abbrev end : List (Message ℕ) → Stream ℕ
 end messages = record { opened = Open; head = head_with (roomy []) false; modules = edited ∷ []; driver = record { queue = roomy messages } }
@@ -73,7 +72,7 @@ abbrev typing : State ℕ
 typing = record echoing {
   ends = record {
     master = end [];
-    slave = record (end []) { modules = OfLdterm (record new_ldterm { read_queue = roomy (ordinary (97 ∷ []) ∷ []); write_queue = roomy [] }) ∷ [] };
+    slave = record (end []) { modules = ldterm_stands (record fresh { read_queue = roomy (ordinary (97 ∷ []) ∷ []); write_queue = roomy [] }) ∷ [] };
   };
   enabled = typed ∷ [];
 }

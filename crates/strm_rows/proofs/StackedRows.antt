@@ -11,18 +11,19 @@ use Rattle.strm_types.specs.declared.spots.Spot.{Spot}
 use Rattle.strm_types.specs.Books.{new_book}
 use Rattle.strm_types.specs.Cells.{plain}
 use Rattle.strm_laws.specs.Kept.{stream_weight}
-use Rattle.strm_types.specs.Ldterms.{new_ldterm, onward}
+use Rattle.strm_types.specs.Deliver.{onward}
 use Rattle.strm_types.specs.Message.{Message, band_of, cells_of, is_high_priority, map_message, rank_of, size_of, weight_of}
-use Rattle.strm_types.specs.Ptems.{new_ptem}
 use Rattle.strm_types.specs.Queue.{Queue}
-use Rattle.strm_laws.specs.Stacked.{Module, OfLdterm, OfPtem, module_asks, module_line, module_name, module_puts, module_queue, module_rests, module_serves, module_weight, with_module_queue, without_module_line}
+use Rattle.strm_laws.specs.Stacked.{Standing, module_asks, module_line, module_name, module_puts, module_rests, module_serves, module_weight, without_kind_line, ldterm_stands}
 use Rattle.strm_types.specs.Service.{unserved}
+use Rattle.strm_types.specs.Standings.{queue_of, queue_changed}
 use Rattle.strm_laws.specs.State.{State, Stream, map_stream, messages_in, new_stream, stream_queues}
-use Rattle.strm_laws.proofs.Samples.{head_with, ordinary, queue}
+use Rattle.strm_laws.specs.Pushes.{module_named}
+use Rattle.strm_laws.proofs.Samples.{head_with, ordinary, queue, fresh}
 
 -- a module with these messages on its read queue and on its write queue, and this unfinished line
-abbrev with_these : List (Message ℕ) → List (Message ℕ) → List ℕ → Module ℕ
-with_these above below line = OfLdterm (record new_ldterm { read_queue = queue above []; write_queue = queue below []; line = line })
+abbrev with_these : List (Message ℕ) → List (Message ℕ) → List ℕ → Standing ℕ
+with_these above below line = ldterm_stands (record fresh { read_queue = queue above []; write_queue = queue below []; line = line })
 
 -- a stream of a head, two modules and a driver
 abbrev stacked : Stream ℕ
@@ -63,29 +64,29 @@ unfolding map_message
 modules-are-mapped = refl
 
 -- a module has a queue each way
-pub queues-of-a-module : map (λ way. module_queue way (with_these [] (ordinary (2 ∷ []) ∷ []) [])) (Up ∷ Down ∷ []) ≡ Some (queue [] []) ∷ Some (queue (ordinary (2 ∷ []) ∷ []) []) ∷ []
+pub queues-of-a-module : map (λ way. queue_of way (with_these [] (ordinary (2 ∷ []) ∷ []) [])) (Up ∷ Down ∷ []) ≡ Some (queue [] []) ∷ Some (queue (ordinary (2 ∷ []) ∷ []) []) ∷ []
 queues-of-a-module = refl
 
-pub queue-of-a-way-changes : with_module_queue Up (queue (ordinary (9 ∷ []) ∷ []) []) (with_these [] [] []) ≡ with_these (ordinary (9 ∷ []) ∷ []) [] []
+pub queue-of-a-way-changes : queue_changed Up (λ q. queue (ordinary (9 ∷ []) ∷ []) []) (with_these [] [] []) ≡ with_these (ordinary (9 ∷ []) ∷ []) [] []
 queue-of-a-way-changes = refl
 
 -- a ptem has a name, and neither a queue nor a line nor a cell; it asks nothing, rests, and serves no turn
-abbrev ptem : Module ℕ
-ptem = OfPtem new_ptem
+abbrev ptem : Standing ℕ
+ptem = module_named Ptem
 
 pub names-of-modules : map module_name (with_these [] [] [] ∷ ptem ∷ []) ≡ Ldterm ∷ Ptem ∷ []
 names-of-modules = refl
 
-pub ptem-has-no-queue : map (λ way. module_queue way ptem) (Up ∷ Down ∷ []) ∷ [] ≡ (None ∷ None ∷ []) ∷ []
+pub ptem-has-no-queue : map (λ way. queue_of way ptem) (Up ∷ Down ∷ []) ∷ [] ≡ (None ∷ None ∷ []) ∷ []
 ptem-has-no-queue = refl
 
-pub ptem-takes-no-queue : with_module_queue Up (queue (ordinary (9 ∷ []) ∷ []) []) ptem ≡ ptem
+pub ptem-takes-no-queue : queue_changed Up (λ q. queue (ordinary (9 ∷ []) ∷ []) []) ptem ≡ ptem
 ptem-takes-no-queue = refl
 
 pub ptem-has-no-line : module_line ptem ≡ []
 ptem-has-no-line = refl
 
-pub ptem-loses-no-line : without_module_line ptem ≡ ptem
+pub ptem-loses-no-line : without_kind_line ptem.part ≡ ptem.part
 ptem-loses-no-line = refl
 
 pub ptem-weighs-nothing : module_weight (λ direction (c : ℕ). true) Master ptem ≡ 0

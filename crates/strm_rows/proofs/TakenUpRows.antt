@@ -13,7 +13,7 @@ use Rattle.strm_types.specs.Commands.{sets_behind}
 use Rattle.strm_types.specs.Deliver.{Acted, Fate, Goes}
 use Rattle.strm_types.specs.Flush.{is_data_kind}
 use Rattle.strm_types.specs.LdtermPuts.{ldterm_puts}
-use Rattle.strm_types.specs.Ldterms.{Ldterm}
+use Rattle.strm_types.specs.Ldterms.{Discipline}
 use Rattle.strm_types.specs.Message.{Message, band_of, cells_of, data_message, is_high_priority, rank_of, size_of}
 use Rattle.strm_types.specs.TakenUp.{read_mode_of}
 use Rattle.strm_types.specs.Termios.{first_termios}
@@ -44,14 +44,14 @@ answer command bytes = without_parts Iocack (header command 7 0 ++ bytes)
 abbrev mode : ℕ → Message ℕ
 mode n = without_parts Setopts (n ∷ 0 ∷ [])
 
-abbrev comes : ℕ → List ℕ → Ldterm ℕ → Acted ℕ (Ldterm ℕ)
+abbrev comes : ℕ → List ℕ → Discipline ℕ → Acted ℕ (Discipline ℕ)
 comes command bytes p = ldterm_puts (at Slave Up) (answer command bytes) p
 
-abbrev sent_of : Ldterm ℕ → List (Message ℕ) → Acted ℕ (Ldterm ℕ)
+abbrev sent_of : Discipline ℕ → List (Message ℕ) → Acted ℕ (Discipline ℕ)
 sent_of p ms = record { state = p; notes = []; sent = map up ms; gone = [] }
 
 -- one that is set to raw modes, in the midst of a turn too
-abbrev in_raw : Ldterm ℕ
+abbrev in_raw : Discipline ℕ
 in_raw = record busy { termios = set_so raw }
 
 pub modes-of-termios : map (λ modes. read_mode_of (set_so modes)) (lines ∷ raw ∷ []) ≡ map (λ p. read_mode_of p) (first_termios ∷ record first_termios { lflag = record { 0 = 0 } } ∷ [])
@@ -83,7 +83,7 @@ lines-begin = refl
 abbrev in_stopping : ℕ → Termios
 in_stopping modes = record (set_so modes) { lflag = record { 0 = 0x8b00 + modes } }
 
-abbrev told_in : ℕ → ℕ → Acted ℕ (Ldterm ℕ)
+abbrev told_in : ℕ → ℕ → Acted ℕ (Discipline ℕ)
 told_in modes number = sent_of (record in_raw { termios = in_stopping modes }) (without_parts Setopts (number ∷ 1 ∷ []) ∷ answer 2 (given_in 0x8b modes) ∷ [])
 
 pub tostop-is-told : map (λ modes. comes 2 (given_in 0x8b modes) in_raw) (lines ∷ raw ∷ [])
@@ -94,7 +94,7 @@ tostop-is-told = refl
 
 -- What waits to be read is flushed first, with the line, and the writers that waited have room. An M_FLUSH goes up before all. The line has gone
 -- where lines end. What waits to be written stays, with its echo.
-abbrev flushed : Acted ℕ (Ldterm ℕ) → List (Fate ℕ) → Acted ℕ (Ldterm ℕ)
+abbrev flushed : Acted ℕ (Discipline ℕ) → List (Fate ℕ) → Acted ℕ (Discipline ℕ)
 flushed t gone = record {
   state = record t.state { read_queue = queue_with [] (waiting false false) true; line = [] };
   notes = Room Up ∷ [];
@@ -117,7 +117,7 @@ unfolding cells_of band_of is_high_priority size_of is_data_kind
 input-goes-in-raw = refl
 
 -- on the master's stream, where nothing waits
-abbrev waits_not : Ldterm ℕ
+abbrev waits_not : Discipline ℕ
 waits_not = record busy { read_queue = queue_with [] (waiting false false) true; line = [] }
 
 pub nothing-to-flush : ldterm_puts (at Master Up) (answer 4 (given raw)) waits_not ≡ record {
@@ -161,7 +161,7 @@ commands-behind-output = refl
 
 -- TCSETSW and TCSETSF wait behind what stands there to be written, whatever their length, and end the turn's echo. They enable the queue where it
 -- wants to be read.
-abbrev behind : Message ℕ → Acted ℕ (Ldterm ℕ)
+abbrev behind : Message ℕ → Acted ℕ (Discipline ℕ)
 behind m = record {
   state = record busy { write_queue = queue_with (protocol 2 (21 ∷ []) (22 ∷ 23 ∷ []) ∷ ordinary (24 ∷ []) ∷ m ∷ []) (waiting false false) true; echoing = false };
   notes = Enable Down ∷ [];
@@ -169,7 +169,7 @@ behind m = record {
   gone = [];
 }
 
-abbrev wanted : Ldterm ℕ
+abbrev wanted : Discipline ℕ
 wanted = record busy { write_queue = queue_with to_write (waiting false false) true }
 
 abbrev waiting_ones : List (Message ℕ)

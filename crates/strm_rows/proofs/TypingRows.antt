@@ -9,37 +9,37 @@ use Rattle.strm_types.specs.declared.spots.Note.TheVariants.{Enable}
 use Rattle.strm_types.specs.declared.spots.Spot.{Spot}
 use Rattle.strm_types.specs.Cells.{Tagged, Written, Made, plain, tagged}
 use Rattle.strm_types.specs.Deliver.{Acted, Fate, Goes, Comes, Parcel}
-use Rattle.strm_types.specs.Ldterms.{Ldterm, Begun, Answered, new_ldterm}
+use Rattle.strm_types.specs.Ldterms.{Discipline, Begun, Answered}
 use Rattle.strm_types.specs.Message.{Message, data_message, cells_of, band_of, size_of, rank_of, is_high_priority}
 use Rattle.strm_types.specs.Typing.{begins, struck, echoed}
 use Rattle.strm_rows.proofs.EchoRows.{rubbed}
 use Rattle.strm_rows.proofs.KeyRows.{with_input, with_local}
 use Rattle.strm_rows.proofs.LdtermRows.{at, down, parcel, protocol, queue_with, up, waiting}
-use Rattle.strm_laws.proofs.Samples.{flow, ordinary, without_parts}
+use Rattle.strm_laws.proofs.Samples.{flow, ordinary, without_parts, fresh}
 
 abbrev here : Spot
 here = at Slave Up
 
 -- one with a line, and one set to other modes
-abbrev pub lined : List ℕ → Ldterm ℕ
-lined line = record (new_ldterm {C = ℕ}) { line = line }
+abbrev pub lined : List ℕ → Discipline ℕ
+lined line = record (fresh {C = ℕ}) { line = line }
 
-abbrev pub with_modes : ℕ → ℕ → Ldterm ℕ → Ldterm ℕ
+abbrev pub with_modes : ℕ → ℕ → Discipline ℕ → Discipline ℕ
 with_modes input local p = record p { termios = with_input input (with_local local p.termios) }
 
 -- "ab"
-abbrev ab : Ldterm ℕ
+abbrev ab : Discipline ℕ
 ab = lined (97 ∷ 98 ∷ [])
 
 -- a byte begins
 
-abbrev halted : ℕ → Ldterm ℕ
+abbrev halted : ℕ → Discipline ℕ
 halted input = record (with_modes input 0x8a3b ab) { stopped = true }
 
-abbrev begun : ℕ → Ldterm ℕ → Acted ℕ (Ldterm ℕ)
+abbrev begun : ℕ → Discipline ℕ → Acted ℕ (Discipline ℕ)
 begun c p = record { state = record p { stage = Begun false c }; notes = []; sent = []; gone = [] }
 
-abbrev restarted : ℕ → Ldterm ℕ → Acted ℕ (Ldterm ℕ)
+abbrev restarted : ℕ → Discipline ℕ → Acted ℕ (Discipline ℕ)
 restarted c p = record { state = record p { stopped = false; stage = Begun true c }; notes = []; sent = down (without_parts Start []) ∷ []; gone = [] }
 
 -- ^Q, ^S, "x" and ^C where output runs: nothing starts it
@@ -64,7 +64,7 @@ begins-literal = refl
 
 -- A byte does what its key does; its echo is still to come.
 
-abbrev does : Ldterm ℕ → List ℕ → List (Parcel ℕ) → List (Fate ℕ) → Acted ℕ (Ldterm ℕ)
+abbrev does : Discipline ℕ → List ℕ → List (Parcel ℕ) → List (Fate ℕ) → Acted ℕ (Discipline ℕ)
 does p echo sent gone = record { state = record p { stage = Answered echo }; notes = []; sent = sent; gone = gone }
 
 -- the keys of flow control: STOP stops output once
@@ -78,7 +78,7 @@ pub start-is-dropped : struck plain here false 17 ab ≡ does ab [] [] (Goes Mas
 start-is-dropped = refl
 
 -- where a byte has started output, the write queue is enabled, unless nothing stands there
-abbrev with_output : Ldterm ℕ
+abbrev with_output : Discipline ℕ
 with_output = record ab { write_queue = queue_with (ordinary (5 ∷ []) ∷ []) (waiting false false) false }
 
 pub wakes-output : (struck plain here true 17 with_output).notes ∷ (struck plain here false 17 with_output).notes ∷ (struck plain here true 17 ab).notes ∷ (struck plain here true 120 with_output).notes ∷ []
@@ -104,7 +104,7 @@ pub signal-without-a-line : struck plain here false 3 (lined []) ≡ does (lined
 signal-without-a-line = refl
 
 -- without ICANON: what was gathered goes up before the flush
-abbrev raw : Ldterm ℕ
+abbrev raw : Discipline ℕ
 raw = record (with_modes 0x2500 0x0a39 ab) { gathered = 5 ∷ 6 ∷ [] }
 
 pub gathered-before-the-flush : struck plain here false 26 raw
@@ -214,8 +214,8 @@ on-the-master = refl
 abbrev typed_cell : ℕ → ℕ → Tagged
 typed_cell n byte = record { byte = byte; origin = Written MasterToSlave n }
 
-abbrev tagged_line : List Tagged → Ldterm Tagged
-tagged_line line = record (new_ldterm {C = Tagged}) { line = line }
+abbrev tagged_line : List Tagged → Discipline Tagged
+tagged_line line = record (fresh {C = Tagged}) { line = line }
 
 abbrev tagged_up : List Tagged → Parcel Tagged
 tagged_up cells = record { to = record { side = Slave; at = 0; way = Up }; message = data_message cells }
@@ -237,7 +237,7 @@ tagged-word-erased = refl
 -- A byte is echoed.
 
 -- one with these messages and this high-water mark of band 0, all of whose other bands are full at one byte
-abbrev echoing : Bool → List (Message ℕ) → ℕ → Bool → Ldterm ℕ
+abbrev echoing : Bool → List (Message ℕ) → ℕ → Bool → Discipline ℕ
 echoing turn messages high want_read = record ab { echoing = turn; write_queue = queue_with messages (flow high 0 false ∷ flow 1 0 false ∷ flow 1 0 false ∷ []) want_read }
 
 abbrev written : List (Message ℕ)

@@ -20,16 +20,18 @@ use Rattle.strm_types.specs.Cells.{plain}
 use Rattle.strm_types.specs.Input.{input_begins, is_data, passes, stages, stages_done, treats}
 use Rattle.strm_types.specs.Ldterms as ldterms
 use Rattle.strm_types.specs.Message.{Message}
-use Rattle.strm_types.specs.ModuleQueues.{at_place, messages_at}
+use Rattle.strm_types.specs.ModuleQueues.{at_place}
+use Rattle.strm_types.specs.Standings.{messages_at, stood}
 use Rattle.strm_laws.specs.ModuleTurns.{Calls, again_at, asked_turn, calls, made_below, moved_by, moved_on, moved_within, place_named, turned_named, turned_there, waits_there, whole_module}
 use Rattle.strm_types.specs.OutputTurns.{output_serves}
 use Rattle.strm_laws.specs.Past.{has_room_past}
 use Rattle.strm_types.specs.Queue.{left_with, first_size}
-use Rattle.strm_laws.specs.Stacked.{Module, OfLdterm, OfPckt, OfPtem, module_asks, module_queue, module_rests, module_serves}
+use Rattle.strm_laws.specs.Stacked.{Module, OfLdterm, OfPckt, OfPtem, Standing, module_asks, module_rests, module_serves}
 use Rattle.strm_laws.specs.State.{State, Stream, stream}
 use Rattle.strm_laws.specs.TurnOutcomes.{TurnOutcome, stayed_put}
 use Rattle.strm_laws.specs.Turns.{turned, turned_at, whole_turn}
 use Rattle.strm_types.specs.Names.{without}
+use Rattle.strm_types.specs.LdtermStands.{disciplined}
 use Rattle.strm_pair.specs.Named.{at_found, messages_named}
 use Rattle.strm_pair.specs.Shows.{first_at}
 use Rattle.strm_script.specs.ScriptRun.{Supply, Enough, Within, is_enough, only, reach, told_of, turn_to}
@@ -39,16 +41,16 @@ module _ (side : Side) (at : ℕ) where
   abbrev there : Way → Spot
   there way = record { side = side; at = at; way = way }
 
-  treats-none : (way : Way) (made : ℕ) (p : ldterms.Ldterm ℕ) → (treats plain (there way) 0 made p).again ≡ false
+  treats-none : (way : Way) (made : ℕ) (p : ldterms.Discipline ℕ) → (treats plain (there way) 0 made p).again ≡ false
   treats-none way made p =
       let none : 3 * 0 - stages_done p.stage ≡ 0 = omega arith in
       ap (λ n. is_some (stages plain (there way) n made p).state.in_work) none
 
-  output-once : (made : ℕ) (ms : List (Message ℕ)) (p : ldterms.Ldterm ℕ) → (output_serves plain (there Down) (Some 0) made ms p).again ≡ false
+  output-once : (made : ℕ) (ms : List (Message ℕ)) (p : ldterms.Discipline ℕ) → (output_serves plain (there Down) (Some 0) made ms p).again ≡ false
   output-once made [] p = refl
   output-once made (m ∷ rest) p = refl
 
-  input-once : (made : ℕ) (ms : List (Message ℕ)) (p : ldterms.Ldterm ℕ) → (input_begins plain (there Up) (Some 0) made ms p).again ≡ false
+  input-once : (made : ℕ) (ms : List (Message ℕ)) (p : ldterms.Discipline ℕ) → (input_begins plain (there Up) (Some 0) made ms p).again ≡ false
   input-once made [] p = refl
   input-once made (m ∷ rest) p = by (is_data m.kind)
     where
@@ -56,13 +58,16 @@ module _ (side : Side) (at : ℕ) where
       by true = treats-none Up made (record p { read_queue = left_with rest p.read_queue; in_work = Some m })
       by false = refl
 
-  serves-once : (way : Way) (made : ℕ) (p : Module ℕ) → (module_serves plain (there way) made false (Some 0) p).again ≡ false
-  serves-once Down made (OfLdterm l) = output-once made l.write_queue.messages l
-  serves-once Up made (OfLdterm l) = input-once made l.read_queue.messages l
-  serves-once way made (OfPtem p) = refl
-  serves-once way made (OfPckt p) = refl
+  serves-once : (way : Way) (made : ℕ) (p : Standing ℕ) → (module_serves plain (there way) made false (Some 0) p).again ≡ false
+  serves-once way made p = by way p.part
+    where
+      by : (way : Way) (part : Module ℕ) → (module_serves plain (there way) made false (Some 0) (stood part p.queues)).again ≡ false
+      by Down (OfLdterm l) = let d = disciplined l p.queues in output-once made d.write_queue.messages d
+      by Up (OfLdterm l) = let d = disciplined l p.queues in input-once made d.read_queue.messages d
+      by way (OfPtem q) = refl
+      by way (OfPckt q) = refl
 
-  none-among : (say : Module ℕ → Bool) → ((p : Module ℕ) → say p ≡ false) → (i : ℕ) (ps : List (Module ℕ)) → slice_index_or (map say ps) i false ≡ false
+  none-among : (say : Standing ℕ → Bool) → ((p : Standing ℕ) → say p ≡ false) → (i : ℕ) (ps : List (Standing ℕ)) → slice_index_or (map say ps) i false ≡ false
   none-among say none i [] = refl
   none-among say none zero (p ∷ ps) = none p
   none-among say none (suc i) (p ∷ ps) = none-among say none i ps
@@ -97,7 +102,7 @@ module _ (name : QueueName) (turn another : Turn) (s : State ℕ) (none : moved_
   not-within : (at : ℕ) → Stays (moved_within plain (there name.side at name.way) name turn s) → ⊥
   not-within at stays =
       let here = there name.side at name.way in
-      let first = at_place (λ p. first_size (messages_at module_queue name.way p)) 0 at (stream name.side s).modules in
+      let first = at_place (λ p. first_size (messages_at name.way p)) 0 at (stream name.side s).modules in
       let least : min (moved_by turn) first ≡ 0 = omega (arith, none) in
       stays _ (ap (λ (n : ℕ). (moved_on plain here name n s).turn) least ∙ moves-none name.side at name.way name s)
 
@@ -123,7 +128,7 @@ module _ (name : QueueName) (turn another : Turn) (s : State ℕ) (none : moved_
 -- one that goes to the end of its message leads to the same by any number of bytes that gets so far
 module _ (side : Side) (at : ℕ) (way : Way) (name : QueueName) (s : State ℕ) where
   abbrev first_there : ℕ
-  first_there = at_place (λ p. first_size (messages_at module_queue way p)) 0 at (stream side s).modules
+  first_there = at_place (λ p. first_size (messages_at way p)) 0 at (stream side s).modules
 
   module _ (n m : ℕ) (same : min (max 1 n) first_there ≡ min (max 1 m) first_there) where
     asked-alike : (asks : Asks) → asked_turn plain (there side at way) asks name (Moved n) s ≡ asked_turn plain (there side at way) asks name (Moved m) s
@@ -142,7 +147,7 @@ abbrev named : Side → Way → QueueName
 named side way = record { side = side; place = Ldterm; way = way }
 
 -- what the first message of the one at a place has
-first-among : (way : Way) (i : ℕ) (ps : List (Module ℕ)) → first_size (slice_index_or (map (messages_at module_queue way) ps) i []) ≡ slice_index_or (map (λ p. first_size (messages_at module_queue way p)) ps) i 0
+first-among : (way : Way) (i : ℕ) (ps : List (Standing ℕ)) → first_size (slice_index_or (map (messages_at way) ps) i []) ≡ slice_index_or (map (λ p. first_size (messages_at way p)) ps) i 0
 first-among way i [] = refl
 first-among way zero (p ∷ ps) = refl
 first-among way (suc i) (p ∷ ps) = first-among way i ps
@@ -156,14 +161,14 @@ goes-whole : (side : Side) (way : Way) (n : ℕ) (s : State ℕ) (t : Stream ℕ
     → turned_named plain (named side way) (whole_module Ldterm way t) s (place_named Ldterm t.modules) ≡ turned_named plain (named side way) (Moved n) s (place_named Ldterm t.modules)
 goes-whole side way n s t is whole = by (place_named Ldterm t.modules) refl
   where
-    say : Module ℕ → ℕ
-    say p = first_size (messages_at module_queue way p)
+    say : Standing ℕ → ℕ
+    say p = first_size (messages_at way p)
 
     by : (found : Option ℕ) → place_named Ldterm t.modules ≡ found
         → turned_named plain (named side way) (whole_module Ldterm way t) s (place_named Ldterm t.modules) ≡ turned_named plain (named side way) (Moved n) s (place_named Ldterm t.modules)
     by None none = rw none refl
     by (Some at) found =
-        let fits = subst (λ o. first_size (at_found (messages_at module_queue way) [] t.modules o) ≤ n) found whole in
+        let fits = subst (λ o. first_size (at_found (messages_at way) [] t.modules o) ≤ n) found whole in
         let size = first-among way (at - 1) t.modules in
         let first : first_there side at way (named side way) s ≡ at_place say 0 at t.modules = ap (λ ps. at_place say 0 at ps) is in
         let there = first_there side at way (named side way) s in

@@ -12,11 +12,12 @@ use Rattle.strm_types.specs.declared.names.Way.TheVariants.{Up}
 use Rattle.strm_types.specs.declared.refusals.Refusal.{Refusal}
 use Rattle.strm_types.specs.declared.refusals.Refusal.TheVariants.{Enosr}
 use Rattle.strm_types.specs.Deliver.{carried}
-use Rattle.strm_types.specs.Ldterms.{Ldterm, new_ldterm}
+use Rattle.strm_types.specs.Ldterms.{Discipline, discipline, new_ldterm}
+use Rattle.strm_types.specs.Standings.{new_pair}
 use Rattle.strm_types.specs.Message.{Message, band_of, cells_of, data_message, is_held, is_high_priority, rank_of, size_of}
 use Rattle.strm_types.specs.Names.{driver_of}
 use Rattle.strm_types.specs.Queue.{Queue}
-use Rattle.strm_laws.specs.Stacked.{OfLdterm}
+use Rattle.strm_laws.specs.Stacked.{ldterm_stands}
 use Rattle.strm_types.specs.Rules.{no_fates}
 use Rattle.strm_laws.specs.State.{Stream, new_stream, opening}
 use Rattle.strm_laws.proofs.Samples.{ordinary}
@@ -30,13 +31,13 @@ reading = record { side = Slave; place = places.Ldterm; way = Up }
 abbrev waiting : List (Message ℕ) → Queue ℕ → Queue ℕ
 waiting ms q = record q { messages = ms }
 
-abbrev fresh : Ldterm ℕ
-fresh = new_ldterm
+abbrev fresh : Discipline ℕ
+fresh = discipline new_ldterm new_pair
 
 abbrev typed_on : Stream ℕ
 typed_on = record new_stream {
   opened = Open;
-  modules = OfLdterm (record fresh { read_queue = waiting (ordinary (97 ∷ 10 ∷ 98 ∷ []) ∷ []) fresh.read_queue }) ∷ [];
+  modules = ldterm_stands (record fresh { read_queue = waiting (ordinary (97 ∷ 10 ∷ 98 ∷ []) ∷ []) fresh.read_queue }) ∷ [];
 }
 
 abbrev written_on : Stream ℕ

@@ -19,27 +19,27 @@ use Rattle.strm_types.specs.declared.spots.Across.{Across}
 use Rattle.strm_types.specs.declared.spots.Spot.{Spot}
 use Rattle.strm_types.specs.declared.termios.Termios.{Termios}
 use Rattle.strm_types.specs.Cells.{Cells}
-use Rattle.strm_types.specs.Deliver.{Acted, Carried, Fate, Goes, Comes, Parcel, Took, carried, in_turn}
+use Rattle.strm_types.specs.Deliver.{Acted, Carried, Fate, Goes, Comes, Parcel, Took, carried, in_turn, onward}
 use Rattle.strm_types.specs.Drivers.{answered, crosses, driver_put, flush_down, freed, ioctl_put, own_flushed, put_across, put_down, taken_in}
 use Rattle.strm_laws.specs.Earlier.{driver_place, modules_on}
-use Rattle.strm_types.specs.Flushing.{asked_by, flush_message, read_flush}
-use Rattle.strm_types.specs.Heads.{head_flushed, head_put, is_doubled, obeyed, passed_by}
+use Rattle.strm_types.specs.Flushing.{asked_by, flush_message, read_flush, is_bare_flush}
+use Rattle.strm_types.specs.Heads.{head_flushed, head_put, is_doubled, obeyed, passed_by, Head}
 use Rattle.strm_types.specs.Ioctls.{read_ioc}
 use Rattle.strm_types.specs.LdtermPuts.{ldterm_puts}
-use Rattle.strm_types.specs.Ldterms.{Ldterm, both, flush_passes, line_flushed, onward, queue_flushed, read_flushed, sends, takes_band_0, without_line, write_flushed}
+use Rattle.strm_types.specs.Ldterms.{Discipline, both, flush_passes, line_flushed, queue_flushed, read_flushed, sends, takes_band_0, without_line, write_flushed}
 use Rattle.strm_types.specs.Message.{Message, has_parts}
 use Rattle.strm_types.specs.Modules.{put_among}
 use Rattle.strm_types.specs.Names.{direction_at, is_master, is_open}
 use Rattle.strm_laws.specs.Puts.{across_of, delivered, made_above, passed_up, put_at_driver, put_at_head, put_at_module, put_behind, put_below, put_in}
-use Rattle.strm_types.specs.Flushing.{is_bare_flush}
 use Rattle.strm_types.specs.Queue.{Queue}
 use Rattle.strm_types.specs.Rules.{number_of}
 use Rattle.strm_types.specs.Service.{line_gone}
-use Rattle.strm_laws.specs.Stacked.{Module, OfLdterm, OfPtem, OfPckt, module_puts}
-use Rattle.strm_types.specs.Heads.{Head}
+use Rattle.strm_laws.specs.Stacked.{Module, OfLdterm, OfPtem, OfPckt, Standing, module_puts}
 use Rattle.strm_laws.specs.State.{State, stream}
 use Rattle.strm_types.specs.TakenUp.{input_flushed, taken_up, termios_taken}
 use Rattle.strm_types.specs.Typing.{up_alone}
+use Rattle.strm_types.specs.Standings.{stood}
+use Rattle.strm_types.specs.LdtermStands.{disciplined}
 use Rattle.strm_types.proofs.LdtermPuts as of_ldterm
 use Rattle.strm_types.proofs.PcktPuts as of_pckt
 use Rattle.strm_types.proofs.PtemPuts as of_ptem
@@ -122,34 +122,34 @@ module _ {C : Type 0} (dir : Dir) where
   head-unread here m h = either (has_parts m) _ _ (either (is_doubled m h.queue.messages) _ _ refl refl) (obeyed-unread here m.kind m.plain h)
 
   -- at ldterm
-  both-unread : (t : Acted C (Ldterm C)) (next : Ldterm C → Acted C (Ldterm C)) → Unread t → Unread (next t.state) → Unread (both t next)
+  both-unread : (t : Acted C (Discipline C)) (next : Discipline C → Acted C (Discipline C)) → Unread t → Unread (next t.state) → Unread (both t next)
   both-unread t next first second = none-both t.gone (next t.state).gone first second
 
-  flushed-unread : (here : Spot) (band : Option Band) (l : Ldterm C) → Unread (line_flushed here band l)
+  flushed-unread : (here : Spot) (band : Option Band) (l : Discipline C) → Unread (line_flushed here band l)
   flushed-unread here band l = either (takes_band_0 band) (record (sends [] (without_line l)) { gone = line_gone here.side Flushed l.line }) (sends [] l) (line-unread here.side Flushed l.line refl) refl
 
-  read-unread : (here : Spot) (asked : FlushAsked) (l : Ldterm C) → Unread (read_flushed here asked l)
+  read-unread : (here : Spot) (asked : FlushAsked) (l : Discipline C) → Unread (read_flushed here asked l)
   read-unread here asked l = either asked.for_read (both (queue_flushed Up here asked.band l) (line_flushed here asked.band)) (sends [] l)
       (both-unread (queue_flushed Up here asked.band l) (line_flushed here asked.band) refl (flushed-unread here asked.band (queue_flushed Up here asked.band l).state))
       refl
 
-  write-unread : (here : Spot) (asked : FlushAsked) (l : Ldterm C) → Unread (write_flushed here asked l)
+  write-unread : (here : Spot) (asked : FlushAsked) (l : Discipline C) → Unread (write_flushed here asked l)
   write-unread here asked l = either asked.for_write (queue_flushed Down here asked.band (record l { echoing = l.echoing && not (takes_band_0 asked.band) })) (sends [] l) refl refl
 
-  flush-unread : (here : Spot) (m : Message C) (l : Ldterm C) → Unread (flush_passes here m l)
+  flush-unread : (here : Spot) (m : Message C) (l : Discipline C) → Unread (flush_passes here m l)
   flush-unread here m l =
       let asked = asked_by m.plain in
       let first = read_flushed here asked l in
       let behind = both first (write_flushed here asked) in
       both-unread behind (sends (onward here.way here m ∷ [])) (both-unread first (write_flushed here asked) (read-unread here asked l) (write-unread here asked first.state)) refl
 
-  taken-unread : (here : Spot) (command : ℕ) (t : Termios) (m : Message C) (l : Ldterm C) → Unread (taken_up here command t m l)
+  taken-unread : (here : Spot) (command : ℕ) (t : Termios) (m : Message C) (l : Discipline C) → Unread (taken_up here command t m l)
   taken-unread here command t m l =
       let read = read_flushed here up_alone l in
-      let told : Ldterm C → Acted C (Ldterm C) = sends (onward Up here (flush_message (read_flush None)) ∷ []) in
+      let told : Discipline C → Acted C (Discipline C) = sends (onward Up here (flush_message (read_flush None)) ∷ []) in
       both-unread (input_flushed here command l) (termios_taken here t m) (either (command == TCSETSF) (both read told) (sends [] l) (both-unread read told (read-unread here up_alone l) refl) refl) refl
 
-  ldterm-unread : (here : Spot) (m : Message C) (l : Ldterm C) → Unread (ldterm_puts here m l)
+  ldterm-unread : (here : Spot) (m : Message C) (l : Discipline C) → Unread (ldterm_puts here m l)
   ldterm-unread here m l = of_ldterm.puts-each here m l (λ t. reads dir t.gone ≡ 0) (record {
     waits = λ is. refl;
     flushes = λ is. flush-unread here m l;
@@ -159,12 +159,15 @@ module _ {C : Type 0} (dir : Dir) where
 
   -- at any module
   module _ (cells : Cells C) where
-    module-unread : (made : ℕ) (here : Spot) (m : Message C) (q : Module C) → Unread (module_puts cells made here m q)
-    module-unread made here m (OfLdterm l) = ldterm-unread here m l
-    module-unread made here m (OfPtem q) = ap (λ told. reads dir told) (of_ptem.puts-gone here m q)
-    module-unread made here m (OfPckt q) = of_pckt.puts-each cells made here m (λ t. reads dir t.gone ≡ 0) refl (λ up is. refl)
+    module-unread : (made : ℕ) (here : Spot) (m : Message C) (q : Standing C) → Unread (module_puts cells made here m q)
+    module-unread made here m q = by q.part
+      where
+        by : (part : Module C) → Unread (module_puts cells made here m (stood part q.queues))
+        by (OfLdterm l) = ldterm-unread here m (disciplined l q.queues)
+        by (OfPtem p) = ap (λ told. reads dir told) (of_ptem.puts-gone here m p)
+        by (OfPckt p) = of_pckt.puts-each cells made here m (λ t. reads dir t.gone ≡ 0) refl (λ up is. refl)
 
-    among-unread : (made i : ℕ) (here : Spot) (m : Message C) (ps : List (Module C)) → Unread (put_among (module_puts cells made) i here m ps)
+    among-unread : (made i : ℕ) (here : Spot) (m : Message C) (ps : List (Standing C)) → Unread (put_among (module_puts cells made) i here m ps)
     among-unread made i here m [] = refl
     among-unread made zero here m (q ∷ ps) = module-unread made here m q
     among-unread made (suc i) here m (q ∷ ps) = among-unread made i here m ps

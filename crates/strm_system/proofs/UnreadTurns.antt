@@ -1,5 +1,5 @@
 -- No turn lets bytes go to a reader, nor do a push, a pop, a close and a flush.
-use Rattle.std.proofs.Common.{ℕ, zero, suc, ◌≡◌, ◌+◌, ◌-◌, ◌*◌, Bool, true, false, cond, List, [], ◌∷◌, ◌++◌, length, drop, refl, arith}
+use Rattle.std.proofs.Common.{ℕ, zero, suc, ◌≡◌, ◌+◌, ◌-◌, ◌*◌, Bool, true, false, cond, List, [], ◌∷◌, ◌++◌, length, drop, refl, ap}
 use Rattle.std.specs.Prelude.{not, ◌&&◌, take, Option, None, Some, unwrap_or}
 use Rattle.strm_types.specs.declared.answers.Turn.{Turn}
 use Rattle.strm_types.specs.declared.answers.Turn.TheVariants.{Blocked}
@@ -26,12 +26,12 @@ use Rattle.strm_types.specs.declared.spots.Spot.{Spot}
 use Rattle.strm_types.specs.declared.termios.Termios.{Termios}
 use Rattle.strm_types.specs.Cells.{Cells, cells_made}
 use Rattle.strm_laws.specs.Closes.{and_then, closed_at, driver_emptied, head_emptied, stream_emptied}
-use Rattle.strm_types.specs.Deliver.{Acted, Fate, Goes, carried, in_turn}
+use Rattle.strm_types.specs.Deliver.{Acted, Fate, carried, in_turn}
 use Rattle.strm_types.specs.Emptied.{cells_gone, of_all}
 use Rattle.strm_types.specs.Input.{begins_next, cells_left, input_begins, is_data, made_of, next_stage, passes, stage_at, stages, stages_done, then_on, to_treat, treats, with_left}
 use Rattle.strm_types.specs.Keys.{restarts}
 use Rattle.strm_types.specs.LdtermServes.{ldterm_serves}
-use Rattle.strm_types.specs.Ldterms.{Ldterm, Stage, Between, Begun, Answered}
+use Rattle.strm_types.specs.Ldterms.{Discipline, Stage, Between, Begun, Answered}
 use Rattle.strm_types.specs.Lines.{ErasesByte, ErasesWord, edited, has_room}
 use Rattle.strm_types.specs.Message.{Message, cells_of}
 use Rattle.strm_types.specs.ModuleQueues.{at_place}
@@ -45,15 +45,17 @@ use Rattle.strm_laws.specs.Past.{has_room_past}
 use Rattle.strm_laws.specs.Pushes.{all_taken, head_above, mode_behind, mode_on_push, mode_put, modules_emptied, popped, pushed_named, top_on, top_taken, with_modules}
 use Rattle.strm_laws.specs.Puts.{put_in}
 use Rattle.strm_types.specs.Queue.{is_full, is_none_left, left_with}
-use Rattle.strm_types.specs.Service.{cleared, line_gone}
-use Rattle.strm_laws.specs.Stacked.{Module, OfLdterm, OfPtem, OfPckt, module_asks, module_line, module_name, module_queue, module_rests, module_serves, with_module_queue, without_module_line}
+use Rattle.strm_types.specs.Service.{cleared, line_gone, queues_cleared}
+use Rattle.strm_laws.specs.Stacked.{Module, OfLdterm, OfPtem, OfPckt, Standing, module_asks, module_line, module_name, module_rests, module_serves, without_kind_line, kind_line}
 use Rattle.strm_laws.specs.State.{State, stream}
 use Rattle.strm_types.specs.Termios.{icanon, imaxbel, noflsh, opost}
 use Rattle.strm_laws.specs.TurnOutcomes.{TurnOutcome, stayed_put}
 use Rattle.strm_laws.specs.Turns.{driver_serves, is_stopped_across, turned, turned_at, up_across, with_driver}
 use Rattle.strm_types.specs.Typing.{added, both_ways, begins, echo_dir, echo_grows, echo_lost, echo_stands, echoed, is_blank_cell, lost, sigint, signals, sigquit, sigtstp, is_lnext, strikes, stroke_at, up_alone}
+use Rattle.strm_types.specs.Standings.{way_queue, stood, QueuePair}
+use Rattle.strm_types.specs.LdtermStands.{disciplined}
 use Rattle.strm_laws.proofs.TurnHolds.{any-holds}
-use Rattle.strm_system.proofs.Unread.{Unread, is_read, reads, at-head, delivered-unread, either, line-unread, none-both, sent-unread}
+use Rattle.strm_system.proofs.Unread.{Unread, is_read, reads, at-head, delivered-unread, either, line-unread, none-both, sent-unread, only_in}
 
 -- what ldterm does with a byte
 module _ {C : Type 0} (dir : Dir) (cells : Cells C) (here : Spot) where
@@ -63,16 +65,16 @@ module _ {C : Type 0} (dir : Dir) (cells : Cells C) (here : Spot) where
   lost-unread : (rule : Rule) (xs : List C) → is_read rule ≡ false → None_read (lost cells here rule xs)
   lost-unread rule xs apart = line-unread dir here.side rule xs apart
 
-  edits-unread : (left : List C) (rule : Rule) (c : C) (l : Ldterm C) → is_read rule ≡ false → None_read (lost cells here rule (drop (length left) l.line) ++ lost cells here EraseKey (c ∷ []))
+  edits-unread : (left : List C) (rule : Rule) (c : C) (l : Discipline C) → is_read rule ≡ false → None_read (lost cells here rule (drop (length left) l.line) ++ lost cells here EraseKey (c ∷ []))
   edits-unread left rule c l apart = none-both dir (lost cells here rule (drop (length left) l.line)) (lost cells here EraseKey (c ∷ [])) (lost-unread rule (drop (length left) l.line) apart) (lost-unread EraseKey (c ∷ []) refl)
 
-  signals-unread : (asked : FlushAsked) (signal : ℕ) (c : C) (l : Ldterm C) → Unread dir (signals cells here asked signal c l)
+  signals-unread : (asked : FlushAsked) (signal : ℕ) (c : C) (l : Discipline C) → Unread dir (signals cells here asked signal c l)
   signals-unread asked signal c l = either dir (noflsh l.termios) _ _ refl (none-both dir (lost cells here Flushed l.line) (lost cells here SignalKey (c ∷ [])) (lost-unread Flushed l.line refl) refl)
 
-  added-unread : (c : C) (l : Ldterm C) → Unread dir (added cells here c l)
+  added-unread : (c : C) (l : Discipline C) → Unread dir (added cells here c l)
   added-unread c l = either dir (not (icanon l.termios)) _ _ refl (either dir (has_room l.line) _ _ refl (either dir (imaxbel l.termios) _ _ refl (lost-unread LineOver (l.line ++ c ∷ []) refl)))
 
-  strikes-unread : (key : Key) (c : C) (l : Ldterm C) → Unread dir (strikes cells here key c l)
+  strikes-unread : (key : Key) (c : C) (l : Discipline C) → Unread dir (strikes cells here key c l)
   strikes-unread Stop c l = refl
   strikes-unread Start c l = refl
   strikes-unread Intr c l = signals-unread both_ways sigint c l
@@ -88,14 +90,14 @@ module _ {C : Type 0} (dir : Dir) (cells : Cells C) (here : Spot) where
   strikes-unread Delimiter c l = refl
   strikes-unread Ordinary c l = added-unread c l
 
-  begins-unread : (c : C) (l : Ldterm C) → Unread dir (begins cells here c l)
+  begins-unread : (c : C) (l : Discipline C) → Unread dir (begins cells here c l)
   begins-unread c l = either dir (l.stopped && restarts l.termios (stroke_at cells here c l)) _ _ refl refl
 
-  next-begins : (xs : List C) (l : Ldterm C) → Unread dir (begins_next cells here xs l)
+  next-begins : (xs : List C) (l : Discipline C) → Unread dir (begins_next cells here xs l)
   next-begins [] l = refl
   next-begins (c ∷ rest) l = begins-unread c (with_left rest l)
 
-  echoed-unread : (made : ℕ) (echo : List ℕ) (l : Ldterm C) → Unread dir (echoed cells here made echo l)
+  echoed-unread : (made : ℕ) (echo : List ℕ) (l : Discipline C) → Unread dir (echoed cells here made echo l)
   echoed-unread made [] l = refl
   echoed-unread made (b ∷ bytes) l = at (is_full 0 l.write_queue) l.echoing
     where
@@ -107,7 +109,7 @@ module _ {C : Type 0} (dir : Dir) (cells : Cells C) (here : Spot) where
       at false true = refl
       at false false = refl
 
-  next-unread : (made : ℕ) (l : Ldterm C) → Unread dir (next_stage cells here made l)
+  next-unread : (made : ℕ) (l : Discipline C) → Unread dir (next_stage cells here made l)
   next-unread made l = at l.stage
     where
       at : (stage : Stage C) → Unread dir (stage_at cells here stage made l)
@@ -115,26 +117,26 @@ module _ {C : Type 0} (dir : Dir) (cells : Cells C) (here : Spot) where
       at (Begun started c) = strikes-unread (stroke_at cells here c l).key (cells.mapped (stroke_at cells here c l).byte c) (record l { after_lnext = is_lnext (stroke_at cells here c l).key })
       at (Answered echo) = echoed-unread made echo _
 
-  then-unread : (made : ℕ) (t : Acted C (Ldterm C)) (next : ℕ → Ldterm C → Acted C (Ldterm C)) → Unread dir t → Unread dir (next (made + made_of t.gone) t.state) → Unread dir (then_on made t next)
+  then-unread : (made : ℕ) (t : Acted C (Discipline C)) (next : ℕ → Discipline C → Acted C (Discipline C)) → Unread dir t → Unread dir (next (made + made_of t.gone) t.state) → Unread dir (then_on made t next)
   then-unread made t next first second = at (is_none_left t.sent)
     where
       at : (none : Bool) → (let u = next (made + made_of t.gone) t.state in Unread dir (cond none (record { state = u.state; notes = t.notes ++ u.notes; sent = u.sent; gone = t.gone ++ u.gone }) t))
       at true = none-both dir t.gone (next (made + made_of t.gone) t.state).gone first second
       at false = first
 
-  stages-unread : (n made : ℕ) (l : Ldterm C) → Unread dir (stages cells here n made l)
+  stages-unread : (n made : ℕ) (l : Discipline C) → Unread dir (stages cells here n made l)
   stages-unread zero made l = refl
   stages-unread (suc more) made l =
       let t = next_stage cells here made l in
       then-unread made t (stages cells here more) (next-unread made l) (stages-unread more (made + made_of t.gone) t.state)
 
-  input-unread : (stop : Option ℕ) (made : ℕ) (ms : List (Message C)) (l : Ldterm C) → Unread dir (input_begins cells here stop made ms l).acted
+  input-unread : (stop : Option ℕ) (made : ℕ) (ms : List (Message C)) (l : Discipline C) → Unread dir (input_begins cells here stop made ms l).acted
   input-unread stop made [] l = refl
   input-unread stop made (m ∷ rest) l = at (is_data m.kind)
     where
       at : (treated : Bool) → Unread dir (cond treated (treats cells here (unwrap_or stop (length (cells_of m))) made (record l { read_queue = left_with rest l.read_queue; in_work = Some m })) (passes cells here Up m rest l)).acted
       at true =
-          let begun : Ldterm C = record l { read_queue = left_with rest l.read_queue; in_work = Some m } in
+          let begun : Discipline C = record l { read_queue = left_with rest l.read_queue; in_work = Some m } in
           stages-unread (3 * unwrap_or stop (length (cells_of m)) - stages_done begun.stage) made begun
       at false = refl
 
@@ -151,11 +153,11 @@ module _ {C : Type 0} (dir : Dir) (cells : Cells C) (here : Spot) where
       let first = post t column (cells.byte c) in
       none-both dir (told_for cells (output_dir cells here) first.given made c) _ (told-unread first.given made c) (posts-unread (made + made_for first.given) t first.column rest)
 
-  posted-unread : (stop : Option ℕ) (made : ℕ) (xs : List C) (m : Message C) (l : Ldterm C) → None_read (posted cells here stop made xs m l).told
+  posted-unread : (stop : Option ℕ) (made : ℕ) (xs : List C) (m : Message C) (l : Discipline C) → None_read (posted cells here stop made xs m l).told
   posted-unread stop made [] m l = refl
   posted-unread stop made (c ∷ rest) m l = posts-unread made l.termios l.column (take (unwrap_or stop (length (c ∷ rest))) (c ∷ rest))
 
-  output-unread : (stop : Option ℕ) (made : ℕ) (ms : List (Message C)) (l : Ldterm C) → Unread dir (output_serves cells here stop made ms l).acted
+  output-unread : (stop : Option ℕ) (made : ℕ) (ms : List (Message C)) (l : Discipline C) → Unread dir (output_serves cells here stop made ms l).acted
   output-unread stop made [] l = refl
   output-unread stop made (m ∷ rest) l = at (is_data m.kind && opost l.termios)
     where
@@ -165,17 +167,20 @@ module _ {C : Type 0} (dir : Dir) (cells : Cells C) (here : Spot) where
 
 -- a turn
 module _ {C : Type 0} (dir : Dir) (cells : Cells C) where
-  serves-at : (way : Way) (here : Spot) (again : Bool) (made : ℕ) (stop : Option ℕ) (l : Ldterm C) → Unread dir (ldterm_serves cells (record here { way = way }) made again stop l).acted
+  serves-at : (way : Way) (here : Spot) (again : Bool) (made : ℕ) (stop : Option ℕ) (l : Discipline C) → Unread dir (ldterm_serves cells (record here { way = way }) made again stop l).acted
   serves-at Down here again made stop l = output-unread dir cells (record here { way = Down }) stop made l.write_queue.messages l
   serves-at Up here false made stop l = input-unread dir cells (record here { way = Up }) stop made l.read_queue.messages l
   serves-at Up here true made stop l = stages-unread dir cells (record here { way = Up }) (3 * unwrap_or stop (to_treat l) - stages_done l.stage) made l
 
-  serves-unread : (here : Spot) (again : Bool) (made : ℕ) (stop : Option ℕ) (q : Module C) → Unread dir (module_serves cells here made again stop q).acted
-  serves-unread here again made stop (OfLdterm l) = serves-at here.way here again made stop l
-  serves-unread here again made stop (OfPtem q) = refl
-  serves-unread here again made stop (OfPckt q) = refl
+  serves-unread : (here : Spot) (again : Bool) (made : ℕ) (stop : Option ℕ) (q : Standing C) → Unread dir (module_serves cells here made again stop q).acted
+  serves-unread here again made stop q = by q.part
+    where
+      by : (part : Module C) → Unread dir (module_serves cells here made again stop (stood part q.queues)).acted
+      by (OfLdterm l) = serves-at here.way here again made stop (disciplined l q.queues)
+      by (OfPtem p) = refl
+      by (OfPckt p) = refl
 
-  acts-unread : (here : Spot) (made : ℕ) (again : Bool) (left : ℕ) (i : ℕ) (ps : List (Module C)) → Unread dir (act_among (λ q. (module_serves cells here made again (Some left) q).acted) i ps)
+  acts-unread : (here : Spot) (made : ℕ) (again : Bool) (left : ℕ) (i : ℕ) (ps : List (Standing C)) → Unread dir (act_among (λ q. (module_serves cells here made again (Some left) q).acted) i ps)
   acts-unread here made again left i [] = refl
   acts-unread here made again left zero (q ∷ ps) = serves-unread here again made (Some left) q
   acts-unread here made again left (suc i) (q ∷ ps) = acts-unread here made again left i ps
@@ -249,29 +254,32 @@ module _ {C : Type 0} (dir : Dir) (cells : Cells C) where
   mode-unread side None s = refl
   mode-unread side (Some mode) s = at-head dir cells side (head_above side) (mode_message mode false) s
 
-  pub push-unread : (side : Side) (q : Option (Module C)) (s : State C) → reads dir (pushed_named side q s).gone ≡ 0
+  pub push-unread : (side : Side) (q : Option (Standing C)) (s : State C) → reads dir (pushed_named side q s).gone ≡ 0
   push-unread side None s = refl
   push-unread side (Some q) s = mode-unread side (mode_on_push (module_name q)) (with_modules side (q ∷ (stream side s).modules) s)
 
-  clears-popped : (side : Side) (q : Module C) → reads dir (cleared module_queue with_module_queue module_line without_module_line side ModulePopped q).gone ≡ 0
-  clears-popped side (OfPtem q) = refl
-  clears-popped side (OfPckt q) = refl
-  clears-popped side (OfLdterm l) = let rest = none-both dir (line_gone side ModulePopped l.line) (Goes (direction_at Down side) ModulePopped (cells_gone of_all l.write_queue.messages) ∷ []) (line-unread dir side ModulePopped l.line refl) refl in let e : 0 + reads dir (line_gone side ModulePopped l.line ++ Goes (direction_at Down side) ModulePopped (cells_gone of_all l.write_queue.messages) ∷ []) ≡ 0 = omega (arith, rest) in e
+  queues-unread : (side : Side) (rule : Rule) (way : Way) (queues : Option (QueuePair C)) → is_read rule ≡ false → reads dir (queues_cleared side rule way queues).gone ≡ 0
+  queues-unread side rule way None other = refl
+  queues-unread side rule way (Some pair) other =
+      ap (λ b. cond b (only_in dir (direction_at way side) (length (cells_gone of_all (way_queue way pair).messages))) 0 + 0) other
 
-  clears-closed : (side : Side) (q : Module C) → reads dir (cleared module_queue with_module_queue module_line without_module_line side EndClosed q).gone ≡ 0
-  clears-closed side (OfPtem q) = refl
-  clears-closed side (OfPckt q) = refl
-  clears-closed side (OfLdterm l) = let rest = none-both dir (line_gone side EndClosed l.line) (Goes (direction_at Down side) EndClosed (cells_gone of_all l.write_queue.messages) ∷ []) (line-unread dir side EndClosed l.line refl) refl in let e : 0 + reads dir (line_gone side EndClosed l.line ++ Goes (direction_at Down side) EndClosed (cells_gone of_all l.write_queue.messages) ∷ []) ≡ 0 = omega (arith, rest) in e
+  clears-unread : (side : Side) (rule : Rule) (q : Standing C) → is_read rule ≡ false → reads dir (cleared kind_line without_kind_line side rule q).gone ≡ 0
+  clears-unread side rule q other =
+      let above = queues_cleared side rule Up q.queues in
+      let line = line_gone side rule (module_line q) in
+      let below = queues_cleared side rule Down above.state in
+      none-both dir above.gone (line ++ below.gone) (queues-unread side rule Up q.queues other)
+      (none-both dir line below.gone (line-unread dir side rule (module_line q) other) (queues-unread side rule Down above.state other))
 
-  top-popped : (side : Side) (ps : List (Module C)) (s : State C) → reads dir (top_taken ModulePopped side ps s).gone ≡ 0
+  top-popped : (side : Side) (ps : List (Standing C)) (s : State C) → reads dir (top_taken ModulePopped side ps s).gone ≡ 0
   top-popped side [] s = refl
-  top-popped side (q ∷ ps) s = clears-popped side q
+  top-popped side (q ∷ ps) s = clears-unread side ModulePopped q refl
 
-  top-closed : (side : Side) (ps : List (Module C)) (s : State C) → reads dir (top_taken EndClosed side ps s).gone ≡ 0
+  top-closed : (side : Side) (ps : List (Standing C)) (s : State C) → reads dir (top_taken EndClosed side ps s).gone ≡ 0
   top-closed side [] s = refl
-  top-closed side (q ∷ ps) s = clears-closed side q
+  top-closed side (q ∷ ps) s = clears-unread side EndClosed q refl
 
-  all-closed : (side : Side) (ps : List (Module C)) (s : State C) → reads dir (all_taken EndClosed side ps s).gone ≡ 0
+  all-closed : (side : Side) (ps : List (Standing C)) (s : State C) → reads dir (all_taken EndClosed side ps s).gone ≡ 0
   all-closed side [] s = refl
   all-closed side (q ∷ ps) s =
       let t = top_taken EndClosed side (q ∷ ps) s in

@@ -1,7 +1,7 @@
 -- A queue on an empty list, and a block that was made.
 use Rattle.std.proofs.Common.{ℕ, ◌≡◌, [], sym, ap, subst, ◌∙◌}
 use Rattle.strm_blocks.specs.Blocks.{StoreValue, list_at}
-use Rattle.strm_ldterm.proofs.Fresh.{empty-ready}
+use Rattle.strm_frame.proofs.Pairs.{empty-ready}
 use Rattle.strm_queue.specs.declared.queue.Queue.{Queue}
 use Rattle.strm_queue.specs.Kept.{AreCounted}
 use Rattle.strm_queue.specs.Stored.{HoldsReadable, IsHeadQueue}

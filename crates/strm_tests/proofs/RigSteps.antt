@@ -1,6 +1,6 @@
 -- A turn of a stream of two modules, step by step.
-use Rattle.std.proofs.Common.{ℕ, zero, suc, ◌≡◌, ◌≢◌, ◌≤◌, ◌+◌, true, cond, Bool, Option, Some, List, [], ◌∷◌, length, get_or, map, refl, sym, ap, subst, ◌∙◌, arith}
-use Rattle.std.specs.Prelude.{◌&&◌, min, nat_le, sum_by}
+use Rattle.std.proofs.Common.{ℕ, zero, suc, ◌≡◌, ◌≢◌, ◌≤◌, ◌+◌, true, false, cond, Bool, Option, None, Some, List, [], ◌∷◌, length, get_or, map, refl, sym, ap, subst, ◌∙◌, arith}
+use Rattle.std.specs.Prelude.{◌==◌, ◌&&◌, min, nat_le, sum_by}
 use Rattle.std.proofs.lemmas.Bool.{and_parts}
 use Rattle.std.proofs.lemmas.Bool.Decides.{nat_tests}
 use Rattle.std.proofs.lemmas.List.Sums.{sum_by-cons}
@@ -13,17 +13,19 @@ use Rattle.strm_types.specs.Budgets.{beyond, budget, emits_at}
 use Rattle.strm_types.specs.Shapes.{At, Shape}
 use Rattle.strm_types.specs.Deliver.{Acted}
 use Rattle.strm_types.specs.Modules.{act_among}
-use Rattle.strm_blocks.specs.Blocks.{StoreValue, empty_store, free_d, free_m, in_hand, list_at, times_in, token}
-use Rattle.strm_msg.specs.Messages.{IsChain, AreMessages}
-use Rattle.strm_queue.specs.declared.queue.Queue.{Queue}
-use Rattle.strm_queue.specs.Kept.{AreCounted}
+use Rattle.strm_blocks.specs.Blocks.{StoreValue, empty_store, free_d, free_m, in_hand, times_in, token}
+use Rattle.strm_msg.specs.Messages.{IsChain}
 use Rattle.strm_queue.specs.Stored.{IsReady}
 use Rattle.strm_frame.specs.declared.parcels.Sent.{Sent}
 use Rattle.strm_frame.specs.Hands.{once, CanPut, Handles, Hands, HasRoom, MayDeliver}
 use Rattle.strm_frame.specs.Outboxes.{times_sent, parcels_in, AreChains}
 use Rattle.strm_frame.specs.Stacks.{all_of}
 use Rattle.strm_tests.specs.Toys.{Stock, stock_does, stock_serves, serves_of}
-use Rattle.strm_tests.specs.ToyLaws.{IsStocked, owned}
+use Rattle.strm_types.specs.declared.names.ModuleName.{ModuleName}
+use Rattle.strm_types.specs.Standings.{QueuePair, stood}
+use Rattle.strm_frame.specs.declared.queue_pair.QueuePair as pairs
+use Rattle.strm_frame.specs.declared.standing.Standing.{Standing}
+use Rattle.strm_frame.specs.Standings.{IsPairReady, owns, queues_own, standing}
 use Rattle.strm_tests.specs.Rigs.{is_end, rig_costs, took_at, left_at, rig_puts, AtRest}
 use Rattle.strm_frame.proofs.Handing.{once-self, no-hand}
 use Rattle.strm_msg.proofs.Hands.{other-name}
@@ -72,9 +74,16 @@ room-seen s is =
     record { mblks = grind (arith, nat_tests); dblks = grind (arith, nat_tests) }
 
 -- one message at most is sent by a service procedure
-few-of : (here : Spot) (p : Stock) (all : List (Message ℕ)) → length (serves_of here p all).acted.sent ≤ 1
-few-of here p [] = omega arith
-few-of here p (m ∷ rest) = omega arith
+few-of : (here : Spot) (name : ModuleName) (pair : QueuePair ℕ) (all : List (Message ℕ)) → length (serves_of here name pair all).acted.sent ≤ 1
+few-of here name pair [] = omega arith
+few-of here name pair (m ∷ rest) = omega arith
+
+few-sent : (here : Spot) (again : Bool) (stop : Option ℕ) (p : Stock) → length (stock_serves here again stop p).acted.sent ≤ 1
+few-sent here again stop p = by p.queues
+  where
+    by : (queues : Option (QueuePair ℕ)) → length (stock_serves here again stop (stood p.part queues)).acted.sent ≤ 1
+    by None = omega arith
+    by (Some pair) = few-of here p.part pair pair.write.messages
 
 act-few : (acts : Stock → Acted ℕ Stock) → ((p : Stock) → length (acts p).sent ≤ 1) → (i : ℕ) (ps : List Stock) → length (act_among acts i ps).sent ≤ 1
 act-few acts few i [] = omega arith
@@ -111,7 +120,7 @@ module _ (s t : StoreValue) (kept keeps : ℕ → ℕ) (all : List Sent) (empty 
         → ((j : ℕ) → keeps' j ≡ 0) → Hands t u (token x.message) keeps keeps' (λ _. 0) → u.hand ≡ []
     unfolding times_sent
     sent-rest here again stop i ps u keeps' sent keeps_none' carried =
-        let few = act-few (λ p. (stock_serves here again stop p).acted) (λ p. few-of here p p.queue.messages) i ps in
+        let few = act-few (λ p. (stock_serves here again stop p).acted) (few-sent here again stop) i ps in
         let one = only-one more (subst (λ xs. length (parcels_in t xs) ≤ 1) split (subst (λ ps. length ps ≤ 1) (sym sent) few)) in
         no-hand u.hand (λ j.
         let c = carried.counts j in let a = times-now j in let e = ap (times_sent j) split in let n = ap (times_sent j) one in
@@ -121,37 +130,46 @@ module _ (s t : StoreValue) (kept keeps : ℕ → ℕ) (all : List Sent) (empty 
 pub rig-ends : (to : Spot) (m : Message ℕ) (ps : List Stock) (answer : Bool) → answer ≡ is_end to.at → answer ≡ true → rig_puts to m ps ≡ left_at ps
 rig-ends to m ps answer asked is = ap (λ v. cond v (left_at ps) (took_at to m ps)) (sym asked ∙ is)
 
--- nothing stands on a list of a new store
-ready-none : (s : StoreValue) (q : Queue) → list_at s q.list ≡ [] → AreCounted q.flows [] → IsReady s q
-ready-none s q none counted = record {
-  messages = subst AreMessages (sym none) (record { chains = tt; ordered = tt });
-  counted = subst (AreCounted q.flows) (sym none) counted;
-}
+once-most : (i j : ℕ) → once i j ≤ 1
+unfolding once
+once-most i j = at (i == j)
+  where
+    at : (same : Bool) → cond {A = ℕ} same 1 0 ≤ 1
+    at true = omega arith
+    at false = omega arith
 
 miss : (i j : ℕ) → i ≢ j → once i j ≡ 0
 unfolding once
 miss i j ne = ap (λ v. cond {A = ℕ} v 1 0) (other-name i j ne)
 
-two-lists : (k : ℕ) → once 0 k + once 1 k ≤ 1
-two-lists zero = let a = once-self 0 in let b = miss 1 0 (λ e. absurd (omega arith)) in omega arith
-two-lists (suc zero) = let a = miss 0 1 (λ e. absurd (omega arith)) in let b = once-self 1 in omega arith
-two-lists (suc (suc k)) = let a = miss 0 (suc (suc k)) (λ e. absurd (omega arith)) in let b = miss 1 (suc (suc k)) (λ e. absurd (omega arith)) in omega arith
+four-lists : (k : ℕ) → (once 0 k + once 1 k) + (once 2 k + once 3 k) ≤ 1
+four-lists zero = let b = miss 1 0 (λ e. absurd (omega arith)) in let c = miss 2 0 (λ e. absurd (omega arith)) in let d = miss 3 0 (λ e. absurd (omega arith)) in omega (arith, once-self 0, b, c, d)
+four-lists (suc zero) = let a = miss 0 1 (λ e. absurd (omega arith)) in let c = miss 2 1 (λ e. absurd (omega arith)) in let d = miss 3 1 (λ e. absurd (omega arith)) in omega (arith, once-self 1, a, c, d)
+four-lists (suc (suc zero)) = let a = miss 0 2 (λ e. absurd (omega arith)) in let b = miss 1 2 (λ e. absurd (omega arith)) in let d = miss 3 2 (λ e. absurd (omega arith)) in omega (arith, once-self 2, a, b, d)
+four-lists (suc (suc (suc k))) =
+    let a = miss 0 (suc (suc (suc k))) (λ e. absurd (omega arith)) in
+    let b = miss 1 (suc (suc (suc k))) (λ e. absurd (omega arith)) in
+    let c = miss 2 (suc (suc (suc k))) (λ e. absurd (omega arith)) in
+    omega (arith, a, b, c, once-most 3 (suc (suc (suc k))))
 
-pub two-new : {X : Type 0} (queue : X → Option Queue) (mblks dblks : ℕ) (x y : X) (a b : Queue) (all : List X) → all ≡ x ∷ y ∷ [] → queue x ≡ Some a → queue y ≡ Some b
-    → a.list ≡ 0 → b.list ≡ 1 → AreCounted a.flows [] → AreCounted b.flows [] → AtRest queue (empty_store mblks dblks) all
-two-new queue mblks dblks x y a b all is above below first second upper lower =
-    let s = empty_store mblks dblks in
+-- two queues on the second two lists
+pub two-ready : (s : StoreValue) (pair : pairs.QueuePair) → IsReady s pair.read → IsReady s pair.write → pair.read.list ≡ 2 → pair.write.list ≡ 3 → IsPairReady s pair
+two-ready s pair read write first second = record { read = read; write = write; apart = omega (arith, first, second) }
+
+pub two-own : (pair : pairs.QueuePair) → pair.read.list ≡ 2 → pair.write.list ≡ 3 → (k : ℕ) → queues_own (Some pair) k ≡ once 2 k + once 3 k
+two-own pair first second k = ap (λ l. once l k + once pair.write.list k) first ∙ ap (λ l. once 2 k + once l k) second
+
+-- two modules whose queues stand on the first four lists of a new store
+pub two-new : {M : Type 0} (mblks dblks : ℕ) (m n : M) (a b : pairs.QueuePair) (all : List (Standing M)) → all ≡ standing m (Some a) ∷ standing n (Some b) ∷ [] → IsPairReady (empty_store mblks dblks) a
+    → IsPairReady (empty_store mblks dblks) b → ((k : ℕ) → queues_own (Some a) k ≡ once 0 k + once 1 k) → ((k : ℕ) → queues_own (Some b) k ≡ once 2 k + once 3 k) → AtRest (empty_store mblks dblks) all
+two-new mblks dblks m n a b all is above below first second =
+    let x = standing m (Some a) in
+    let y = standing n (Some b) in
     rw is (record {
       are = record {
         held = record {
-          each = (subst (IsStocked s) (sym above) (ready-none s a (ap (list_at s) first) upper), (subst (IsStocked s) (sym below) (ready-none s b (ap (list_at s) second) lower), tt));
-          apart = λ k.
-              let m = sum_by-cons (λ z. owned (queue z) k) x (y ∷ []) in
-              let n = sum_by-cons (λ z. owned (queue z) k) y [] in
-              let c = two-lists k in
-              let d = ap (λ o. owned o k) above ∙ ap (λ l. once l k) first in
-              let e = ap (λ o. owned o k) below ∙ ap (λ l. once l k) second in
-              omega arith;
+          each = (record { queues = above; itself = refl }, (record { queues = below; itself = refl }, tt));
+          apart = λ k. omega (arith, sum_by-cons (λ z. owns z k) x (y ∷ []), sum_by-cons (λ z. owns z k) y [], four-lists k, first k, second k);
         };
         two = refl;
       };

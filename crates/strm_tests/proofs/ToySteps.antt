@@ -1,5 +1,6 @@
 -- What toys do, step by step.
-use Rattle.std.specs.Prelude.{min, sum_by}
+use Rattle.std.specs.Prelude.{IfSome, is_some, min, sum_by}
+use Rattle.std.proofs.lemmas.Bool.{false≢true}
 use Rattle.std.proofs.Common.{ℕ, zero, suc, ◌+◌, ◌≡◌, ◌<◌, ◌≤◌, ◌==◌, eqb, true, false, Bool, List, [], ◌∷◌, Option, Some, None, ◌∙◌, cond, ap, refl, subst, sym, arith}
 use Rattle.strm_types.specs.declared.kinds.MsgKind.{MsgKind}
 use Rattle.strm_types.specs.declared.names.ModuleName.{ModuleName}
@@ -7,7 +8,8 @@ use Rattle.strm_types.specs.declared.names.Way.{Way}
 use Rattle.strm_types.specs.declared.names.Way.TheVariants.{Up, Down}
 use Rattle.strm_types.specs.declared.spots.Spot.{Spot}
 use Rattle.strm_types.specs.Deliver.{toward}
-use Rattle.strm_types.specs.ModuleQueues.{messages_at}
+use Rattle.strm_types.specs.Standings as plain
+use Rattle.strm_types.specs.Standings.{messages_on, stood}
 use Rattle.strm_types.specs.Queue.{first_size}
 use Rattle.std.proofs.lemmas.Bool.Decides.{nat_tests}
 use Rattle.strm_types.specs.Message.{Message}
@@ -15,7 +17,7 @@ use Rattle.strm_types.specs.declared.kinds.MsgKind.TheVariants as kinds
 use Rattle.strm_blocks.specs.Blocks.{Held, StoreValue, IsStore, in_hand, block_at, dropped, times_in, token}
 use Rattle.strm_blocks.proofs.Laws.{in_hand-dropped}
 use Rattle.strm_queue.specs.declared.queue.Queue.{Queue}
-use Rattle.strm_queue.specs.Stored.{Changes, FreesBlocks, Dequeued}
+use Rattle.strm_queue.specs.Stored.{Changes, FreesBlocks, Dequeued, queue_in}
 use Rattle.strm_msg.specs.Made.{MadeOf, copies_of, pieces}
 use Rattle.strm_msg.proofs.Chains.{kind-is}
 use Rattle.strm_msg.proofs.Hands.{stays-chain}
@@ -30,8 +32,10 @@ use Rattle.strm_frame.specs.Hands.{once, OnlyOwn, CanPut, Handles, Hands, SameFo
 use Rattle.strm_frame.proofs.Handing.{alone-can, once-apart}
 use Rattle.strm_frame.proofs.FirstSizes.{first-few}
 use Rattle.strm_frame.proofs.Shifting.{shifts-joined}
-use Rattle.strm_tests.specs.Toys.{Stock, count_costs, counts, stays, stocked, stocks, stock_queue, turns, idle, stock_sends, serves_of, stock_serves}
-use Rattle.strm_tests.specs.ToyLaws.{stock_in, IsStocked, owned}
+use Rattle.strm_tests.specs.Toys.{Stock, count_costs, counts, stays, stocked, stocks, turns, idle, stock_sends, serves_of, stock_serves}
+use Rattle.strm_frame.specs.declared.queue_pair.QueuePair.{QueuePair}
+use Rattle.strm_frame.specs.Standings.{IsPairReady, pair_in, queues_in, queues_own}
+use Rattle.strm_frame.proofs.Pairs.{write-own, write-pair, write-ready}
 
 -- at the top nothing is sent on, and before it the message goes up
 pub counts-top : (to : Spot) (m : Message ℕ) (n : ℕ) → to.at ≡ 0 → (counts to m n).sent ≡ []
@@ -60,22 +64,47 @@ freed-same s i keeps st can =
       kept = λ j some. let a = can.apart j in let few = st.apart j in in_hand-dropped s i j (once-apart i j (omega arith));
     }
 
--- nothing but the queue's own list changes
-pub own-list : (s t : StoreValue) (q q' : Queue) → Changes s t q q' → OnlyOwn s t (once q.list) (once q'.list)
-own-list s t q q' is = record {
-  lists = λ k none. is.others k (λ e. once-apart q.list k none (sym e));
-  owns_same = λ k. ap (λ l. once l k) is.list;
-}
+-- nothing but the write queue's list changes, whatever is in hand
+module _ (s t : StoreValue) (hand : List Held) (pair : QueuePair) (ready : IsPairReady s pair) (q : Queue) (c : Changes (record s { hand = hand }) t pair.write q) where
+  abbrev from : StoreValue
+  from = record s { hand = hand }
+
+  ready-from : IsPairReady from pair
+  ready-from = record {
+    read = record { messages = ready.read.messages; counted = ready.read.counted };
+    write = record { messages = ready.write.messages; counted = ready.write.counted };
+    apart = ready.apart;
+  }
+
+  pub changed-pair : pair_in t (record pair { write = q }) ≡ record (pair_in s pair) { write = queue_in t q }
+  changed-pair = write-pair from t pair ready-from q c
+
+  pub changed-ready : IsPairReady t (record pair { write = q })
+  changed-ready = write-ready from t pair ready-from q c
+
+  pub changed-own : OnlyOwn s t (queues_own (Some pair)) (queues_own (Some (record pair { write = q })))
+  changed-own = let own = write-own from t pair ready-from q c in record { lists = own.lists; owns_same = own.owns_same }
+
+-- it has queues, and they are ready
+pub never-bare : (queues : Option QueuePair) → queues ≡ None → is_some queues ≡ true → ⊥
+never-bare queues none some = false≢true (sym (ap is_some none) ∙ some)
+
+pub pair-ready : (s : StoreValue) (queues : Option QueuePair) (pair : QueuePair) → queues ≡ Some pair → IfSome queues (IsPairReady s) → IsPairReady s pair
+pair-ready s queues pair is ready = subst (λ o. IfSome o (IsPairReady s)) is ready
 
 -- a message that stays, and one that doesn't
 pub kind-stays : (s : StoreValue) (i : ℕ) (way : Way) (kind : MsgKind) (answer is : Bool) → kind ≡ (block_at 0 (in_hand s i)).kind → answer ≡ stays kind way → answer ≡ is → stays (message_in s i).kind way ≡ is
 kind-stays s i way kind answer is seen asked so = ap (λ k. stays k way) (kind-is (in_hand s i) ∙ sym seen) ∙ sym asked ∙ so
 
-pub stocks-stay : (here : Spot) (m : Message ℕ) (p : Stock) → stays m.kind here.way ≡ true → stocks here m p ≡ stocked m p
-stocks-stay here m p is = ap (λ v. cond v (stocked m p) (turns here m p)) is
+pub stocks-stay : (here : Spot) (m : Message ℕ) (name : ModuleName) (pair : plain.QueuePair ℕ) → stays m.kind here.way ≡ true → stocks here m (stood name (Some pair)) ≡ stocked m name pair
+stocks-stay here m name pair is = ap (λ v. cond v (stocked m name pair) (turns here m (stood name (Some pair)))) is
 
-pub stocks-on : (here : Spot) (m : Message ℕ) (p : Stock) → stays m.kind here.way ≡ false → stocks here m p ≡ turns here m p
-stocks-on here m p is = ap (λ v. cond v (stocked m p) (turns here m p)) is
+pub stocks-on : (here : Spot) (m : Message ℕ) (x : Stock) → stays m.kind here.way ≡ false → stocks here m x ≡ turns here m x
+stocks-on here m x is = by x.queues
+  where
+    by : (queues : Option (plain.QueuePair ℕ)) → stocks here m (stood x.part queues) ≡ turns here m (stood x.part queues)
+    by None = refl
+    by (Some pair) = ap (λ v. cond v (stocked m x.part pair) (turns here m (stood x.part (Some pair)))) is
 
 pub joined-hands : (s t : StoreValue) (i : ℕ) (q q' : Queue) → IsStore s → CanPut s i (λ _. 0) → Changes (dropped s i) t q q' → FreesBlocks s t → Hands s t i (λ _. 0) (λ _. 0) (λ _. 0)
 joined-hands s t i q q' st can is frees =
@@ -85,29 +114,28 @@ joined-hands s t i q q' st can is frees =
 pub frees-spends : (s t : StoreValue) (most : ℕ) → FreesBlocks s t → Spends s t most 0
 frees-spends s t most frees = record { mblks = (let m = frees.mblks in omega arith); dblks = (let d = frees.dblks in omega arith) }
 
--- the list of a module's queue is its own
-pub owned-by : (s t : StoreValue) (o : Option Queue) (q : Queue) (owns : ℕ → ℕ) → o ≡ Some q → OnlyOwn s t (once q.list) owns → OnlyOwn s t (owned o) owns
-owned-by s t o q owns is own = subst (λ v. OnlyOwn s t (owned v) owns) (sym is) own
+-- the lists of a module's queues are its own
+pub owned-by : (s t : StoreValue) (queues : Option QueuePair) (pair : QueuePair) (own : ℕ → ℕ) → queues ≡ Some pair → OnlyOwn s t (queues_own (Some pair)) own → OnlyOwn s t (queues_own queues) own
+owned-by s t queues pair own is only = subst (λ o. OnlyOwn s t (queues_own o) own) (sym is) only
 
 -- the first message on a module's queue isn't long
-pub stock-few : (s : StoreValue) (way : Way) (name : ModuleName) (o : Option Queue) → IsStore s → IsStocked s o → first_size (messages_at stock_queue way (stock_in s name o)) ≤ 16777216
-stock-few s Up name o st held = omega arith
-stock-few s Down name (Some q) st held = first-few s q st held
-stock-few s Down name None st held = absurd held
+pub stock-few : (s : StoreValue) (way : Way) (queues : Option QueuePair) → IsStore s → IfSome queues (IsPairReady s) → first_size (messages_on way (queues_in s queues)) ≤ 16777216
+stock-few s way None st ready = omega arith
+stock-few s Up (Some pair) st ready = first-few s pair.read st ready.read
+stock-few s Down (Some pair) st ready = first-few s pair.write st ready.write
 
 -- a service procedure with nothing before it, and one with a message
-pub serves-none : (here : Spot) (again : Bool) (stop : Option ℕ) (p : Stock) → p.queue.messages ≡ [] → stock_serves here again stop p ≡ idle p
-serves-none here again stop p none = ap (serves_of here p) none
+pub serves-none : (here : Spot) (again : Bool) (stop : Option ℕ) (name : ModuleName) (pair : plain.QueuePair ℕ) → pair.write.messages ≡ []
+    → stock_serves here again stop (stood name (Some pair)) ≡ idle (stood name (Some pair))
+serves-none here again stop name pair none = ap (serves_of here name pair) none
 
-pub serves-first : (here : Spot) (again : Bool) (stop : Option ℕ) (p : Stock) (m : Message ℕ) (rest : List (Message ℕ)) → p.queue.messages ≡ m ∷ rest → stock_serves here again stop p ≡ stock_sends here p m rest
-serves-first here again stop p m rest first = ap (serves_of here p) first
+pub serves-first : (here : Spot) (again : Bool) (stop : Option ℕ) (name : ModuleName) (pair : plain.QueuePair ℕ) (m : Message ℕ) (rest : List (Message ℕ)) → pair.write.messages ≡ m ∷ rest
+    → stock_serves here again stop (stood name (Some pair)) ≡ stock_sends here name pair m rest
+serves-first here again stop name pair m rest first = ap (serves_of here name pair) first
 
 -- the first message came in hand, and nothing else changed there
-pub took-own : (s t : StoreValue) (q q' : Queue) (i : ℕ) → Dequeued s t q q' i → OnlyOwn s t (once q.list) (once q'.list)
-took-own s t q q' i d = record {
-  lists = λ k none. d.others k (λ e. once-apart q.list k none (sym e));
-  owns_same = λ k. ap (λ l. once l k) d.list;
-}
+pub took-changes : (s t : StoreValue) (q q' : Queue) (i : ℕ) → Dequeued s t q q' i → Changes (record s { hand = record { name = i; chain = in_hand t i } ∷ s.hand }) t q q'
+took-changes s t q q' i d = record { ready = d.ready; list = d.list; others = d.others; hand = d.hand; mblks = d.mblks; dblks = d.dblks }
 
 pub took-hands : (s t : StoreValue) (q q' : Queue) (x : Sent) (all : List Sent) → all ≡ x ∷ [] → Dequeued s t q q' (token x.message)
     → Handles s t (λ _. 0) (λ _. 0) (λ _. 0) (λ i. times_sent i all)

@@ -1,5 +1,5 @@
 -- Two modules with queues on a stream, as stations at which messages are put.
-use Rattle.std.specs.Prelude.{ℕ, zero, suc, ◌≡◌, ◌≤◌, ◌==◌, ◌||◌, nat_lt, ◌-◌, Bool, if◌then◌else◌, List, [], ◌∷◌, length, map, sum_by, Option}
+use Rattle.std.specs.Prelude.{ℕ, zero, suc, ◌≡◌, ◌≤◌, ◌==◌, ◌||◌, nat_lt, ◌-◌, Bool, if◌then◌else◌, List, [], ◌∷◌, length, map, sum_by, Option, is_some}
 use Rattle.strm_types.specs.declared.names.ModuleName.{ModuleName}
 use Rattle.strm_types.specs.declared.spots.Spot.{Spot}
 use Rattle.strm_types.specs.Message.{Message}
@@ -9,12 +9,15 @@ use Rattle.strm_types.specs.Shapes.{At, shape_of}
 use Rattle.strm_types.specs.Modules.{put_among}
 use Rattle.std.proofs.Common.{true, false, cond, refl, ap, arith}
 use Rattle.strm_blocks.specs.Blocks.{StoreValue, list_at}
-use Rattle.strm_queue.specs.declared.queue.Queue.{Queue}
+use Rattle.strm_frame.specs.declared.queue_pair.QueuePair.{QueuePair}
+use Rattle.strm_frame.specs.declared.standing.Standing as frame
 use Rattle.strm_frame.specs.Hands.{SameFor, SameOwn}
+use Rattle.strm_frame.specs.StandingLaws.{standing-frame}
+use Rattle.strm_frame.specs.Standings.{Fits, keeps_of, owns, standing_in}
 use Rattle.strm_frame.specs.Stacks.{all_of, AreHeld}
 use Rattle.strm_frame.specs.StackLaws.{stack-stays}
 use Rattle.strm_tests.specs.Toys.{Stock, stock_does, stocks}
-use Rattle.strm_tests.specs.ToyLaws.{stock_in, IsStocked, owned, stock-frame, stocks-within}
+use Rattle.strm_tests.specs.ToyLaws.{some-same, stocks-within}
 
 -- no module stands at such a place
 abbrev pub is_end : ℕ → Bool
@@ -54,26 +57,30 @@ rig-costed = record { within = λ to m ps. sends to m ps; stays = λ to m ps. re
         at true = omega arith
         at false = among-within (to.at - 1) to m ps cost
 
--- Two modules fit the store, each with its own queue.
-pub record AreTwo {X : Type 0} (queue : X → Option Queue) (s : StoreValue) (xs : List X) : Type 0 where
-  pub held : AreHeld (λ s x. IsStocked s (queue x)) (λ x. owned (queue x)) s xs
+-- each has queues, and nothing in hand
+abbrev pub HasQueues : {M : Type 0} → StoreValue → M → Option QueuePair → Type 0
+HasQueues s x queues = is_some queues ≡ true
+
+-- Two modules fit the store, each with its own queues.
+pub record AreTwo {M : Type 0} (s : StoreValue) (xs : List (frame.Standing M)) : Type 0 where
+  pub held : AreHeld (Fits HasQueues) owns s xs
   pub two : length xs ≡ 2
 
 -- The same while nothing is in hand.
-pub record AtRest {X : Type 0} (queue : X → Option Queue) (s : StoreValue) (xs : List X) : Type 0 where
-  pub are : AreTwo queue s xs
+pub record AtRest {M : Type 0} (s : StoreValue) (xs : List (frame.Standing M)) : Type 0 where
+  pub are : AreTwo s xs
   pub hand : s.hand ≡ []
 
 -- they stand for the same where the lists do
-pub rig-frame : {X : Type 0} (name : X → ModuleName) (queue : X → Option Queue) (s t : StoreValue) (xs : List X) → SameFor s t (all_of (λ x i. 0) xs) → AreTwo queue s xs
-    → (map (λ x. stock_in t (name x) (queue x)) xs ≡ map (λ x. stock_in s (name x) (queue x)) xs) × AreTwo queue t xs
-rig-frame name queue s t xs same are =
-    let own : SameOwn s t (all_of (λ x. owned (queue x)) xs) (all_of (λ x i. 0) xs) = record {
+pub rig-frame : {M : Type 0} (name : M → ModuleName) (s t : StoreValue) (xs : List (frame.Standing M)) → SameFor s t (all_of (λ x i. 0) xs) → AreTwo s xs
+    → (map (standing_in (λ _. name) t) xs ≡ map (standing_in (λ _. name) s) xs) × AreTwo t xs
+rig-frame {M} name s t xs same are =
+    let own : SameOwn s t (all_of owns xs) (all_of (keeps_of (λ (x : M) (i : ℕ). 0)) xs) = record {
       lists = λ k some. ap (λ ls. list_at (record s { lists = ls }) k) same.lists;
       mblks = same.mblks;
       dblks = same.dblks;
       kept = same.kept;
     } in
-    let r = stack-stays (λ s x. stock_in s (name x) (queue x)) (λ s x. IsStocked s (queue x)) (λ x. owned (queue x)) (λ x i. 0)
-    (λ s t x same held. stock-frame s t (name x) (queue x) (λ _. 0) same held) s t xs own are.held in
+    let frame = standing-frame (λ _. name) HasQueues (λ x i. 0) (λ s t x queues others lists same held. (refl, some-same queues others lists held)) in
+    let r = stack-stays (standing_in (λ _. name)) (Fits HasQueues) owns (keeps_of (λ x i. 0)) frame s t xs own are.held in
     (r.0, record { held = r.1; two = are.two })

@@ -1,7 +1,6 @@
--- What holds of the toys: a module with a queue stands for the same where the queue's list is the same, and a turn of it is one call.
-use Rattle.std.specs.Prelude.{ℕ, ◌≡◌, ◌≤◌, ◌+◌, ◌%◌, ◌^◌, ◌==◌, Bool, false, List, [], ◌∷◌, map, sum_by, Option, None, Some}
-use Rattle.std.proofs.Common.{true, eqb, cond, refl, sym, ap, subst, arith}
-use Rattle.std.proofs.lemmas.Bool.Decides.{nat_tests}
+-- What holds of the toys: what each sends on is within its table, and a turn of a queue is one call.
+use Rattle.std.specs.Prelude.{ℕ, ◌≡◌, ◌≤◌, ◌+◌, ◌%◌, ◌^◌, ◌==◌, Bool, false, List, [], ◌∷◌, sum_by, Option, None, Some, is_some}
+use Rattle.std.proofs.Common.{true, cond, refl, arith}
 use Rattle.strm_types.specs.declared.names.ModuleName.{ModuleName}
 use Rattle.strm_types.specs.declared.names.Way.{Way}
 use Rattle.strm_types.specs.declared.names.Way.TheVariants.{Up, Down}
@@ -10,53 +9,21 @@ use Rattle.strm_types.specs.Budgets.{Costed, Within, cost_of, emits_at}
 use Rattle.strm_types.specs.Deliver.{Took, toward}
 use Rattle.strm_types.specs.Shapes.{shape_of}
 use Rattle.strm_types.specs.Message.{Message}
-use Rattle.strm_types.specs.Queue as plain
-use Rattle.strm_blocks.specs.Blocks.{StoreValue, list_at}
-use Rattle.strm_msg.specs.Messages.{message_of, AreMessages}
-use Rattle.strm_queue.specs.declared.queue.Queue.{Queue}
-use Rattle.strm_queue.specs.Flows.{plain_flows}
-use Rattle.strm_queue.specs.Kept.{AreCounted}
-use Rattle.strm_queue.specs.Stored.{queue_in, IsReady}
-use Rattle.strm_frame.specs.Hands.{once, SameOwn}
-use Rattle.strm_tests.specs.Toys.{Stock, count_costs, counts, is_flush, onward, serves_of, stays, stock_does, stocked, stocks, turns}
+use Rattle.strm_types.specs.Standings.{QueuePair}
+use Rattle.strm_frame.specs.declared.queue_pair.QueuePair as frame
+use Rattle.strm_frame.specs.Standings.{lists_of}
+use Rattle.strm_tests.specs.Toys.{Stock, count_costs, counts, is_flush, onward, serves_of, stays, stock_does, stock_serves, stocked, stocks, turns}
 
--- what a queue stands for; without one nothing stands there, and no writer can wait
-abbrev pub stocked_in : StoreValue → Option Queue → plain.Queue ℕ
-stocked_in s (Some q) = queue_in s q
-stocked_in s None = record { messages = []; flows = []; want_read = false; no_enable = false }
-
-abbrev pub stock_in : StoreValue → ModuleName → Option Queue → Stock
-stock_in s name q = record { name = name; queue = stocked_in s q }
-
--- a module without a queue fits no store
-abbrev pub IsStocked : StoreValue → Option Queue → Type 0
-IsStocked s (Some q) = IsReady s q
-IsStocked s None = ⊥
-
--- the list of the store that is the queue's
-abbrev pub owned : Option Queue → ℕ → ℕ
-owned (Some q) = once q.list
-owned None = λ _. 0
-
-same-list : (s t : StoreValue) (q : Queue) (keeps : ℕ → ℕ) → SameOwn s t (once q.list) keeps → list_at t q.list ≡ list_at s q.list
-unfolding once
-same-list s t q keeps same =
-    let hit : eqb q.list q.list ≡ true = grind (arith, nat_tests) in
-    let one = ap (λ v. cond {A = ℕ} v 1 0) hit in
-    same.lists q.list (omega arith)
-
-pub stock-frame : (s t : StoreValue) (name : ModuleName) (o : Option Queue) (keeps : ℕ → ℕ) → SameOwn s t (owned o) keeps → IsStocked s o → (stock_in t name o ≡ stock_in s name o) × IsStocked t o
-stock-frame s t name (Some q) keeps same ready =
-    let e = same-list s t q keeps same in (
-      ap (λ l. record { name = name; queue = record { messages = map message_of l; flows = plain_flows q.flows; want_read = q.want_read; no_enable = q.no_enable } }) e,
-      record { messages = subst AreMessages (sym e) ready.messages; counted = subst (AreCounted q.flows) (sym e) ready.counted },
-    )
-stock-frame s t name None keeps same ready = absurd ready
+-- one that has queues has them wherever their lists are the same
+pub some-same : (queues others : Option frame.QueuePair) → lists_of others ≡ lists_of queues → is_some queues ≡ true → is_some others ≡ true
+some-same queues (Some pair) lists is = refl
+some-same (Some pair) None lists is = absurd (cc lists)
+some-same None None lists is = is
 
 -- what it sends is within its table
-pub stocks-within : (here : Spot) (m : Message ℕ) (p : Stock) → Within (stocks here m p).sent (emits_at here (stock_does here.way (shape_of m)))
+pub stocks-within : (here : Spot) (m : Message ℕ) (x : Stock) → Within (stocks here m x).sent (emits_at here (stock_does here.way (shape_of m)))
 unfolding cost_of
-stocks-within here m p cost = at (stays m.kind here.way)
+stocks-within here m x cost = by x.queues
   where
     up : (turned : Bool) → cost (record { to = toward (cond turned Down Up) here; shape = shape_of m }) + 0 ≤ sum_by cost (emits_at here (stock_does Up (shape_of m)))
     up true = omega arith
@@ -66,9 +33,13 @@ stocks-within here m p cost = at (stays m.kind here.way)
     on Up = up (is_flush m.kind)
     on Down = omega arith
 
-    at : (waits : Bool) → cost_of cost (cond waits (stocked m p) (turns here m p)).sent ≤ sum_by cost (emits_at here (stock_does here.way (shape_of m)))
-    at true = omega arith
-    at false = on here.way
+    at : (waits : Bool) (y : Stock) (pair : QueuePair ℕ) → cost_of cost (cond waits (stocked m y.part pair) (turns here m y)).sent ≤ sum_by cost (emits_at here (stock_does here.way (shape_of m)))
+    at true y pair = omega arith
+    at false y pair = on here.way
+
+    by : (queues : Option (QueuePair ℕ)) → cost_of cost (stocks here m (record x { queues = queues })).sent ≤ sum_by cost (emits_at here (stock_does here.way (shape_of m)))
+    by None = on here.way
+    by (Some pair) = at (stays m.kind here.way) (record x { queues = Some pair }) pair
 
 -- so is what a counter sends
 pub counts-costed : Costed {C = ℕ} (λ (n : ℕ). count_costs) counts
@@ -87,6 +58,13 @@ counts-costed = record { within = λ to m n. sends to m n; stays = λ to m n. re
         at false = omega arith
 
 -- a turn of its queue is one call
-pub one-call : (here : Spot) (p : Stock) (messages : List (Message ℕ)) → (serves_of here p messages).again ≡ false
-one-call here p [] = refl
-one-call here p (m ∷ rest) = refl
+messages-call : (here : Spot) (name : ModuleName) (pair : QueuePair ℕ) (messages : List (Message ℕ)) → (serves_of here name pair messages).again ≡ false
+messages-call here name pair [] = refl
+messages-call here name pair (m ∷ rest) = refl
+
+pub one-call : (here : Spot) (again : Bool) (stop : Option ℕ) (x : Stock) → (stock_serves here again stop x).again ≡ false
+one-call here again stop x = by x.queues
+  where
+    by : (queues : Option (QueuePair ℕ)) → (stock_serves here again stop (record x { queues = queues })).again ≡ false
+    by None = refl
+    by (Some pair) = messages-call here x.part pair pair.write.messages

@@ -7,12 +7,13 @@ use Rattle.strm_types.specs.declared.names.Way.{Way}
 use Rattle.strm_types.specs.declared.names.Way.TheVariants.{Up, Down}
 use Rattle.strm_types.specs.declared.spots.Spot.{Spot}
 use Rattle.strm_types.specs.declared.spots.Note.TheVariants.{Enable}
-use Rattle.strm_types.specs.Queue.{Queue, put_on, put_enables, left_with, is_none_left}
+use Rattle.strm_types.specs.Queue.{put_on, put_enables, left_with, is_none_left}
 use Rattle.strm_types.specs.Message.{Message, size_of}
 use Rattle.strm_types.specs.Budgets.{Costs, Table}
 use Rattle.strm_types.specs.Deliver.{Took, Acted, toward}
 use Rattle.strm_types.specs.Shapes.{At, Shape}
 use Rattle.strm_types.specs.Service.{Serving}
+use Rattle.strm_types.specs.Standings.{QueuePair, Standing, messages_at, with_way_queue}
 use Rattle.strm_types.specs.declared.spots.Asks.{Asks}
 use Rattle.strm_types.specs.declared.spots.Asks.TheVariants as asked
 
@@ -57,18 +58,9 @@ count_costs a = record { own = 0; emits = if a.to.at == 0 then [] else record { 
 abbrev pub idle : {C P : Type 0} → P → Serving C P
 idle p = record { acted = record { state = p; notes = []; sent = []; gone = [] }; bytes = 0; again = false }
 
--- a module with a write queue
-pub record Stock : Type 0 where
-  pub name : ModuleName
-  pub queue : Queue ℕ
-
-abbrev pub stock_queue : Way → Stock → Option (Queue ℕ)
-stock_queue Up p = None
-stock_queue Down p = Some p.queue
-
-abbrev pub with_stock : Way → Queue ℕ → Stock → Stock
-with_stock Up q p = p
-with_stock Down q p = record p { queue = q }
+-- a module that stocks what goes down on its write queue, by its name
+abbrev pub Stock : Type 0
+Stock = Standing ModuleName ℕ
 
 -- an M_DATA message that goes down stays on the queue
 abbrev pub stays : MsgKind → Way → Bool
@@ -76,28 +68,32 @@ stays Data Down = true
 stays _ _ = false
 
 -- the queue with a message that stays, which enables it as putq(9F) says
-abbrev pub stocked : Message ℕ → Stock → Acted ℕ Stock
-stocked m p = record {
-  state = record p { queue = put_on m p.queue };
-  notes = if put_enables m p.queue then Enable Down ∷ [] else [];
+abbrev pub stocked : Message ℕ → ModuleName → QueuePair ℕ → Acted ℕ Stock
+stocked m name pair = record {
+  state = record { part = name; queues = Some (with_way_queue Down (put_on m pair.write) pair) };
+  notes = if put_enables m pair.write then Enable Down ∷ [] else [];
   sent = [];
   gone = [];
 }
 
 -- what a message does: it stays on the queue, or goes on as at a module that turns flushes
 abbrev pub stocks : Spot → Message ℕ → Stock → Acted ℕ Stock
-stocks here m p = if stays m.kind here.way then stocked m p else turns here m p
+stocks here m x = by x.queues
+  where
+    by : Option (QueuePair ℕ) → Acted ℕ Stock
+    by None = turns here m x
+    by (Some pair) = if stays m.kind here.way then stocked m x.part pair else turns here m x
 
 -- room in band 0 is asked for, whatever stands first
 abbrev pub stock_asks : Way → Stock → Asks
-stock_asks Up p = asked.Empty
-stock_asks Down p = if is_none_left p.queue.messages then asked.Empty else asked.Room (record { 0 = 0 })
+stock_asks Up x = asked.Empty
+stock_asks Down x = if is_none_left (messages_at Down x) then asked.Empty else asked.Room (record { 0 = 0 })
 
 -- the service procedure sends the first message on, whole
-abbrev pub stock_sends : Spot → Stock → Message ℕ → List (Message ℕ) → Serving ℕ Stock
-stock_sends here p m rest = record {
+abbrev pub stock_sends : Spot → ModuleName → QueuePair ℕ → Message ℕ → List (Message ℕ) → Serving ℕ Stock
+stock_sends here name pair m rest = record {
   acted = record {
-    state = record p { queue = left_with rest p.queue };
+    state = record { part = name; queues = Some (with_way_queue Down (left_with rest pair.write) pair) };
     notes = [];
     sent = record { to = toward Down here; message = m } ∷ [];
     gone = [];
@@ -107,10 +103,14 @@ stock_sends here p m rest = record {
 }
 
 -- and does nothing where none stands
-abbrev pub serves_of : Spot → Stock → List (Message ℕ) → Serving ℕ Stock
-serves_of here p [] = idle p
-serves_of here p (m ∷ rest) = stock_sends here p m rest
+abbrev pub serves_of : Spot → ModuleName → QueuePair ℕ → List (Message ℕ) → Serving ℕ Stock
+serves_of here name pair [] = idle (record { part = name; queues = Some pair })
+serves_of here name pair (m ∷ rest) = stock_sends here name pair m rest
 
 -- it stops nowhere
 abbrev pub stock_serves : Spot → Bool → Option ℕ → Stock → Serving ℕ Stock
-stock_serves here again stop p = serves_of here p p.queue.messages
+stock_serves here again stop x = by x.queues
+  where
+    by : Option (QueuePair ℕ) → Serving ℕ Stock
+    by None = idle x
+    by (Some pair) = serves_of here x.part pair pair.write.messages

@@ -9,9 +9,8 @@ use counter::Counter;
 use std::test::Fail;
 use stock::Stock;
 use strm_blocks::{Blocks, TableStore};
-use strm_frame::{Enabled, Stack, deliver};
+use strm_frame::{Enabled, QueuePair, Stack, Standing, Tables, deliver};
 use strm_msg::from_bytes;
-use strm_queue::{Queue, Table};
 use strm_types::{Band, Fates, ModuleName, MsgKind, Place, QueueName, Side, Spot, Way};
 
 #[test]
@@ -42,14 +41,20 @@ fn a_stack_holds_three_modules_each_name_once(rt: HostRuntime) -> Result<(), Fai
         assert!(rt; look(&stack) == Some(name));
     }
     for name in [ModuleName::Pckt, ModuleName::Ldterm, ModuleName::Ptem] {
-        assert!(rt; stack.pop().map(|stock| stock.name) == Some(name));
+        assert!(rt; stack.pop().map(|standing| standing.module.name) == Some(name));
     }
     assert!(rt; push(&mut stack, ModuleName::Ptem));
     Ok(())
 }
 
 fn push(stack: &mut Stack<Stock>, name: ModuleName) -> bool {
-    stack.push(Stock { name, queue: None }).is_ok()
+    let module = Stock { name };
+    stack
+        .push(Standing {
+            module,
+            queues: None,
+        })
+        .is_ok()
 }
 
 fn look(stack: &Stack<Stock>) -> Option<ModuleName> {
@@ -60,13 +65,15 @@ fn look(stack: &Stack<Stock>) -> Option<ModuleName> {
 fn the_nearest_queue_past_a_place_is_found(rt: HostRuntime) -> Result<(), Fail> {
     let mut stack = Stack::new();
     for name in [ModuleName::Ptem, ModuleName::Ldterm, ModuleName::Pckt] {
-        let queue = Some(Queue::new(0, 512, 128, Table::new(rt.alloc())?));
-        assert!(rt; stack.push(Stock { name, queue }).is_ok());
+        let module = Stock { name };
+        let queues = Some(QueuePair::new(0, 1, Tables::new(rt.alloc())?));
+        assert!(rt; stack.push(Standing { module, queues }).is_ok());
     }
     assert!(rt; stack.place_past(Way::Down, 0) == Some(1));
     assert!(rt; stack.place_past(Way::Down, 2) == Some(3));
     assert!(rt; stack.place_past(Way::Down, 3).is_none());
-    assert!(rt; stack.place_past(Way::Up, 4).is_none());
+    assert!(rt; stack.place_past(Way::Up, 4) == Some(3));
+    assert!(rt; stack.place_past(Way::Up, 1).is_none());
     assert!(rt; stack.place_before(Way::Down, 4) == Some(3));
     assert!(rt; stack.place_before(Way::Down, 1).is_none());
     Ok(())
@@ -76,14 +83,21 @@ fn the_nearest_queue_past_a_place_is_found(rt: HostRuntime) -> Result<(), Fail> 
 fn a_writer_waits_at_the_nearest_queue(rt: HostRuntime) -> Result<(), Fail> {
     let mut stack = Stack::new();
     for name in [ModuleName::Ptem, ModuleName::Ldterm] {
-        let queue = Some(Queue::new(0, 512, 128, Table::new(rt.alloc())?));
-        assert!(rt; stack.push(Stock { name, queue }).is_ok());
+        let module = Stock { name };
+        let queues = Some(QueuePair::new(0, 1, Tables::new(rt.alloc())?));
+        assert!(rt; stack.push(Standing { module, queues }).is_ok());
     }
     stack.let_wait_past(Way::Down, Band(2), 1);
     stack.let_wait_past(Way::Up, Band(3), 3);
     for waits in [true, false] {
-        let queue = stack.modules.pop().and_then(|stock| stock.queue);
-        assert!(rt; queue.map(|queue| queue.flows.at(Band(2)).want_write) == Some(waits));
+        let queues = stack.modules.pop().and_then(|standing| standing.queues);
+        let waiting = queues.map(|pair| {
+            (
+                pair.write.flows.at(Band(2)).want_write,
+                pair.read.flows.at(Band(3)).want_write,
+            )
+        });
+        assert!(rt; waiting == Some((waits, waits)));
     }
     Ok(())
 }

@@ -14,18 +14,18 @@ use Rattle.strm_types.specs.declared.rules.Rule.{Rule}
 use Rattle.strm_types.specs.declared.rules.Rule.TheVariants.{EraseKey, Erased, Killed, Flushed, SignalKey, LineFull, LineOver}
 use Rattle.strm_types.specs.declared.spots.Spot.{Spot}
 use Rattle.strm_types.specs.Cells.{bytes_of, cells_made, plain}
-use Rattle.strm_types.specs.Deliver.{Acted, Fate}
+use Rattle.strm_types.specs.Deliver.{Acted, Fate, onward}
 use Rattle.strm_types.specs.Flushing.{flush_bytes, flush_message}
 use Rattle.strm_types.specs.Input.{begins_next, cells_left, input_begins, is_data, made_of, next_stage, passes, stage_at, stages, stages_done, to_treat, treats, with_left}
 use Rattle.strm_types.specs.Keys.{restarts}
 use Rattle.strm_types.specs.LdtermServes.{ldterm_serves}
-use Rattle.strm_types.specs.Ldterms.{Ldterm, Stage, Between, Begun, Answered, onward, sends}
+use Rattle.strm_types.specs.Ldterms.{Discipline, Stage, Between, Begun, Answered, sends}
 use Rattle.strm_types.specs.Lines.{Edit, ErasesByte, ErasesWord, ErasesAll, Types, edited, has_room, without_end, without_last, without_word}
 use Rattle.strm_types.specs.Message.{Message, cells_of}
 use Rattle.strm_types.specs.Queue.{is_full, is_none_left, left_with}
-use Rattle.strm_types.specs.Service.{Serving}
+use Rattle.strm_types.specs.Service.{Serving, echo_most, most_made}
 use Rattle.strm_types.specs.Termios.{icanon, imaxbel, noflsh}
-use Rattle.strm_types.specs.LdtermCalls.{IsShort, echo_most, most_made}
+use Rattle.strm_types.specs.LdtermCalls.{IsShort}
 use Rattle.strm_types.specs.Typing.{added, bare, begins, both_ways, dropped, echo_dir, echo_grows, echo_lost, echo_stands, echoed, edits, gathered_up, is_blank_cell, is_lnext, lost, sigint, signals, sigquit, sigtstp, strikes, stroke_at, struck, up_alone}
 use Rattle.strm_types.proofs.EchoSizes.{echo-few}
 use Rattle.strm_types.proofs.StagesWork.{stages-work}
@@ -71,26 +71,26 @@ module _ (here : Spot) where
   lost-makes-none rule (c ∷ cells) = refl
 
   -- what a key does leaves the line short, and makes nothing
-  record Strikes (t : Acted ℕ (Ldterm ℕ)) : Type 0 where
+  record Strikes (t : Acted ℕ (Discipline ℕ)) : Type 0 where
     pub line : length t.state.line ≤ LINE_MAX
     pub none : made_of t.gone ≡ 0
 
-  edits-strike : (edit : Edit ℕ) (rule : Rule) (c : ℕ) (l : Ldterm ℕ) → length (edited (is_blank_cell plain here) edit l.line) ≤ LINE_MAX → Strikes (edits plain here edit rule c l)
+  edits-strike : (edit : Edit ℕ) (rule : Rule) (c : ℕ) (l : Discipline ℕ) → length (edited (is_blank_cell plain here) edit l.line) ≤ LINE_MAX → Strikes (edits plain here edit rule c l)
   edits-strike edit rule c l few =
       let left = edited (is_blank_cell plain here) edit l.line in
       let taken = lost_at rule (drop (length left) l.line) in
       record { line = few; none = omega (arith, made-both taken (lost_at EraseKey (c ∷ [])), lost-makes-none rule (drop (length left) l.line)) }
 
-  signals-strike : (asked : FlushAsked) (signal : ℕ) (c : ℕ) (l : Ldterm ℕ) → length l.line ≤ LINE_MAX → Strikes (signals plain here asked signal c l)
+  signals-strike : (asked : FlushAsked) (signal : ℕ) (c : ℕ) (l : Discipline ℕ) → length l.line ≤ LINE_MAX → Strikes (signals plain here asked signal c l)
   signals-strike asked signal c l few = at (noflsh l.termios)
     where
-      at : (kept : Bool) → Strikes (cond {A = Acted ℕ (Ldterm ℕ)} kept
+      at : (kept : Bool) → Strikes (cond {A = Acted ℕ (Discipline ℕ)} kept
           (record { state = record l { gathered = [] }; notes = []; sent = gathered_up plain here l.gathered ++ onward Up here (bare kinds.Pcsig (signal ∷ [])) ∷ []; gone = lost_at SignalKey (c ∷ []) })
           (record { state = record l { gathered = []; line = [] }; notes = []; sent = gathered_up plain here l.gathered ++ onward Up here (flush_message (flush_bytes asked)) ∷ onward Up here (bare kinds.Pcsig (signal ∷ [])) ∷ []; gone = lost_at Flushed l.line ++ lost_at SignalKey (c ∷ []) }))
       at true = record { line = few; none = refl }
       at false = record { line = omega arith; none = omega (arith, made-both (lost_at Flushed l.line) (lost_at SignalKey (c ∷ [])), lost-makes-none Flushed l.line) }
 
-  added-strikes : (c : ℕ) (l : Ldterm ℕ) → length l.line ≤ LINE_MAX → Strikes (added plain here c l)
+  added-strikes : (c : ℕ) (l : Discipline ℕ) → length l.line ≤ LINE_MAX → Strikes (added plain here c l)
   added-strikes c l few = at (icanon l.termios) (has_room l.line) (imaxbel l.termios)
     where
       at : (canonical room bell : Bool) → Strikes (cond (not canonical) (sends [] (record l { gathered = l.gathered ++ c ∷ [] }))
@@ -101,7 +101,7 @@ module _ (here : Spot) where
       at true false true = record { line = few; none = refl }
       at true false false = record { line = omega arith; none = lost-makes-none LineOver (l.line ++ c ∷ []) }
 
-  strikes-strike : (key : Key) (c : ℕ) (l : Ldterm ℕ) → length l.line ≤ LINE_MAX → Strikes (strikes plain here key c l)
+  strikes-strike : (key : Key) (c : ℕ) (l : Discipline ℕ) → length l.line ≤ LINE_MAX → Strikes (strikes plain here key c l)
   strikes-strike Stop c l few = record { line = few; none = refl }
   strikes-strike Start c l few = record { line = few; none = refl }
   strikes-strike Intr c l few = signals-strike both_ways sigint c l few
@@ -118,22 +118,22 @@ module _ (here : Spot) where
   strikes-strike Ordinary c l few = added-strikes c l few
 
   -- a stage leaves the line and the echo short, and makes no more than an echo
-  record Makes (t : Acted ℕ (Ldterm ℕ)) : Type 0 where
+  record Makes (t : Acted ℕ (Discipline ℕ)) : Type 0 where
     pub short : IsShort t.state
     pub few : made_of t.gone ≤ echo_most
 
-  begins-makes : (c : ℕ) (l : Ldterm ℕ) → length l.line ≤ LINE_MAX → Makes (begins plain here c l)
+  begins-makes : (c : ℕ) (l : Discipline ℕ) → length l.line ≤ LINE_MAX → Makes (begins plain here c l)
   begins-makes c l few = at (l.stopped && restarts l.termios (stroke_at plain here c l))
     where
       at : (starts : Bool) → Makes (cond starts (sends (onward Down here (bare kinds.Start []) ∷ []) (record l { stopped = false; stage = Begun true c })) (sends [] (record l { stage = Begun false c })))
       at true = record { short = record { line = few; echo = omega arith }; few = omega arith }
       at false = record { short = record { line = few; echo = omega arith }; few = omega arith }
 
-  between-makes : (left : List ℕ) (l : Ldterm ℕ) → IsShort l → Makes (begins_next plain here left l)
+  between-makes : (left : List ℕ) (l : Discipline ℕ) → IsShort l → Makes (begins_next plain here left l)
   between-makes [] l short = record { short = short; few = omega arith }
   between-makes (c ∷ rest) l short = begins-makes c (with_left rest l) short.line
 
-  struck-makes : (started : Bool) (c : ℕ) (l : Ldterm ℕ) → length l.line ≤ LINE_MAX → Makes (struck plain here started c l)
+  struck-makes : (started : Bool) (c : ℕ) (l : Discipline ℕ) → length l.line ≤ LINE_MAX → Makes (struck plain here started c l)
   struck-makes started c l few =
       let stroke = stroke_at plain here c l in
       let t = strikes plain here stroke.key (plain.mapped stroke.byte c) (record l { after_lnext = is_lnext stroke.key }) in
@@ -144,7 +144,7 @@ module _ (here : Spot) where
         few = let none = does.none in omega arith;
       }
 
-  echoed-makes : (made : ℕ) (echo : List ℕ) (l : Ldterm ℕ) → length l.line ≤ LINE_MAX → length echo ≤ echo_most → Makes (echoed plain here made echo (record l { stage = Between }))
+  echoed-makes : (made : ℕ) (echo : List ℕ) (l : Discipline ℕ) → length l.line ≤ LINE_MAX → length echo ≤ echo_most → Makes (echoed plain here made echo (record l { stage = Between }))
   echoed-makes made [] l line few = record { short = record { line = line; echo = omega arith }; few = omega arith }
   echoed-makes made (b ∷ bytes) l line few = at (is_full 0 l.write_queue) l.echoing
     where
@@ -159,7 +159,7 @@ module _ (here : Spot) where
       at false true = record { short = record { line = line; echo = omega arith }; few = omega (arith, size) }
       at false false = record { short = record { line = line; echo = omega arith }; few = omega (arith, size) }
 
-  next-makes : (made : ℕ) (l : Ldterm ℕ) → IsShort l → Makes (next_stage plain here made l)
+  next-makes : (made : ℕ) (l : Discipline ℕ) → IsShort l → Makes (next_stage plain here made l)
   next-makes made l short = at l.stage short
     where
       at : (stage : Stage ℕ) → IsShort (record l { stage = stage }) → Makes (stage_at plain here stage made (record l { stage = stage }))
@@ -168,18 +168,18 @@ module _ (here : Spot) where
       at (Answered echo) short = echoed-makes made echo l short.line short.echo
 
   -- so many stages make no more than as many echoes
-  stages-make : (n made : ℕ) (l : Ldterm ℕ) → IsShort l → made_of (stages plain here n made l).gone ≤ echo_most * n
+  stages-make : (n made : ℕ) (l : Discipline ℕ) → IsShort l → made_of (stages plain here n made l).gone ≤ echo_most * n
   stages-make zero made l short = omega arith
   stages-make (suc n) made l short = at (is_none_left t.sent) (stages-make n (made + made_of t.gone) t.state first.short)
     where
-      t : Acted ℕ (Ldterm ℕ)
+      t : Acted ℕ (Discipline ℕ)
       t = next_stage plain here made l
 
       first : Makes t
       first = next-makes made l short
 
       at : (none : Bool) → let u = stages plain here n (made + made_of t.gone) t.state in made_of u.gone ≤ echo_most * n
-          → made_of (cond {A = Acted ℕ (Ldterm ℕ)} none (record { state = u.state; notes = t.notes ++ u.notes; sent = u.sent; gone = t.gone ++ u.gone }) t).gone ≤ echo_most * suc n
+          → made_of (cond {A = Acted ℕ (Discipline ℕ)} none (record { state = u.state; notes = t.notes ++ u.notes; sent = u.sent; gone = t.gone ++ u.gone }) t).gone ≤ echo_most * suc n
       at true rest =
           let u = stages plain here n (made + made_of t.gone) t.state in
           let one = first.few in
@@ -192,25 +192,25 @@ module _ (here : Spot) where
   done-few (Answered echo) = omega arith
 
   -- a call that asks for another one did no more stages than what it treated has, and two of the next byte
-  treats-make : (most made : ℕ) (l : Ldterm ℕ) → IsShort l → let t = treats plain here most made l in made_of t.acted.gone ≤ most_made t.bytes
+  treats-make : (most made : ℕ) (l : Discipline ℕ) → IsShort l → let t = treats plain here most made l in made_of t.acted.gone ≤ most_made t.bytes
   treats-make most made l short = at (is_some t.state.in_work) refl
     where
       n : ℕ
       n = 3 * most - stages_done l.stage
 
-      t : Acted ℕ (Ldterm ℕ)
+      t : Acted ℕ (Discipline ℕ)
       t = stages plain here n made l
 
       at : (again : Bool) → is_some t.state.in_work ≡ again → made_of t.gone ≤ most_made (cond {A = ℕ} again (to_treat l - to_treat t.state) most)
       at true works =
           let w = stages-work here n made l works in
-          let few = subst (λ (u : Acted ℕ (Ldterm ℕ)). made_of u.gone ≤ echo_most * w.steps) (w.same w.steps made (omega arith)) (stages-make w.steps made l short) in
+          let few = subst (λ (u : Acted ℕ (Discipline ℕ)). made_of u.gone ≤ echo_most * w.steps) (w.same w.steps made (omega arith)) (stages-make w.steps made l short) in
           let done = w.done in
           let two = done-few t.state.stage in
           omega arith
       at false over = let few = stages-make n made l short in omega arith
 
-  makes-at : (way : Way) (again : Bool) (stop : Option ℕ) (l : Ldterm ℕ) → IsShort l → let t = ldterm_serves plain (record here { way = way }) 0 again stop l in made_of t.acted.gone ≤ most_made t.bytes
+  makes-at : (way : Way) (again : Bool) (stop : Option ℕ) (l : Discipline ℕ) → IsShort l → let t = ldterm_serves plain (record here { way = way }) 0 again stop l in made_of t.acted.gone ≤ most_made t.bytes
   makes-at Down again stop l short = output-makes (record here { way = Down }) stop l.write_queue.messages l
   makes-at Up true stop l short = treats-make (unwrap_or stop (to_treat l)) 0 l short
   makes-at Up false stop l short = of l.read_queue.messages
@@ -222,13 +222,13 @@ module _ (here : Spot) where
       of [] = omega arith
       of (m ∷ rest) = at (is_data m.kind)
         where
-          begun : Ldterm ℕ
+          begun : Discipline ℕ
           begun = record l { read_queue = left_with rest l.read_queue; in_work = Some m }
 
-          at : (treated : Bool) → let t = cond {A = Serving ℕ (Ldterm ℕ)} treated (treats plain up (unwrap_or stop (length (cells_of m))) 0 begun) (passes plain up Up m rest l) in made_of t.acted.gone ≤ most_made t.bytes
+          at : (treated : Bool) → let t = cond {A = Serving ℕ (Discipline ℕ)} treated (treats plain up (unwrap_or stop (length (cells_of m))) 0 begun) (passes plain up Up m rest l) in made_of t.acted.gone ≤ most_made t.bytes
           at true = treats-make (unwrap_or stop (length (cells_of m))) 0 begun (record { line = short.line; echo = short.echo })
           at false = omega arith
 
 -- What a call makes, by how many bytes it treats.
-pub serves-makes : (here : Spot) (again : Bool) (stop : Option ℕ) (l : Ldterm ℕ) → IsShort l → let t = ldterm_serves plain here 0 again stop l in made_of t.acted.gone ≤ most_made t.bytes
+pub serves-makes : (here : Spot) (again : Bool) (stop : Option ℕ) (l : Discipline ℕ) → IsShort l → let t = ldterm_serves plain here 0 again stop l in made_of t.acted.gone ≤ most_made t.bytes
 serves-makes here again stop l short = makes-at here here.way again stop l short

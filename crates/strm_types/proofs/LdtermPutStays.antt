@@ -10,10 +10,10 @@ use Rattle.strm_types.specs.declared.names.Way.TheVariants.{Up, Down}
 use Rattle.strm_types.specs.declared.rules.Rule.TheVariants.{Flushed}
 use Rattle.strm_types.specs.declared.spots.Spot.{Spot}
 use Rattle.strm_types.specs.declared.termios.Termios.{Termios}
-use Rattle.strm_types.specs.Deliver.{Acted}
+use Rattle.strm_types.specs.Deliver.{Acted, onward}
 use Rattle.strm_types.specs.Flushing.{asked_by, flush_message, read_flush}
 use Rattle.strm_types.specs.LdtermPuts.{ldterm_puts}
-use Rattle.strm_types.specs.Ldterms.{IsIdle, Ldterm, both, line_flushed, onward, queue_flushed, queued_at, read_flushed, sends, takes_band_0, with_queue_at, without_line, write_flushed}
+use Rattle.strm_types.specs.Ldterms.{IsIdle, Discipline, both, line_flushed, queue_flushed, queued_at, read_flushed, sends, takes_band_0, with_queue_at, without_line, write_flushed}
 use Rattle.strm_types.specs.Message.{Message}
 use Rattle.strm_types.specs.Queue.{Queue}
 use Rattle.strm_types.specs.Service.{line_gone}
@@ -23,19 +23,19 @@ use Rattle.strm_types.proofs.LdtermPuts.{puts-each}
 
 module _ {C : Type 0} where
   -- Nothing of a turn changed, but that its echo may have come to an end.
-  pub record Stays (p q : Ldterm C) : Type 0 where
+  pub record Stays (p q : Discipline C) : Type 0 where
     pub work : q.in_work ≡ p.in_work
     pub gathered : q.gathered ≡ p.gathered
     pub echoing : p.echoing ≡ false → q.echoing ≡ false
     pub stage : q.stage ≡ p.stage
 
-  pub idle-stays : (p q : Ldterm C) → Stays p q → IsIdle p → IsIdle q
+  pub idle-stays : (p q : Discipline C) → Stays p q → IsIdle p → IsIdle q
   idle-stays p q same idle = (same.work ∙ idle.0, same.gathered ∙ idle.1, same.echoing idle.2, same.stage ∙ idle.3)
 
-  stays-so : (p : Ldterm C) → Stays p p
+  stays-so : (p : Discipline C) → Stays p p
   stays-so p = record { work = refl; gathered = refl; echoing = λ e. e; stage = refl }
 
-  stays-both : (p q r : Ldterm C) → Stays p q → Stays q r → Stays p r
+  stays-both : (p q r : Discipline C) → Stays p q → Stays q r → Stays p r
   stays-both p q r first second = record {
     work = second.work ∙ first.work;
     gathered = second.gathered ∙ first.gathered;
@@ -43,50 +43,50 @@ module _ {C : Type 0} where
     stage = second.stage ∙ first.stage;
   }
 
-  either-stays : (b : Bool) (one another : Acted C (Ldterm C)) (p : Ldterm C) → Stays p one.state → Stays p another.state → Stays p (cond b one another).state
+  either-stays : (b : Bool) (one another : Acted C (Discipline C)) (p : Discipline C) → Stays p one.state → Stays p another.state → Stays p (cond b one another).state
   either-stays true one another p first second = first
   either-stays false one another p first second = second
 
   -- another queue
-  pub queue-stays : (way : Way) (q : Queue C) (p : Ldterm C) → Stays p (with_queue_at way q p)
+  pub queue-stays : (way : Way) (q : Queue C) (p : Discipline C) → Stays p (with_queue_at way q p)
   queue-stays Up q p = record { work = refl; gathered = refl; echoing = λ e. e; stage = refl }
   queue-stays Down q p = record { work = refl; gathered = refl; echoing = λ e. e; stage = refl }
 
   -- a line that is gone
-  pub line-stays : (p : Ldterm C) → Stays p (without_line p)
+  pub line-stays : (p : Discipline C) → Stays p (without_line p)
   line-stays p = record { work = refl; gathered = refl; echoing = λ e. e; stage = refl }
 
-  queued-stays : (way : Way) (m : Message C) (p : Ldterm C) → Stays p (queued_at way m p).state
+  queued-stays : (way : Way) (m : Message C) (p : Discipline C) → Stays p (queued_at way m p).state
   queued-stays Up m p = record { work = refl; gathered = refl; echoing = λ e. e; stage = refl }
   queued-stays Down m p = record { work = refl; gathered = refl; echoing = λ e. and_left p.echoing (nat_lt 0 m.band) e; stage = refl }
 
-  flushed-stays : (here : Spot) (band : Option Band) (p : Ldterm C) → Stays p (line_flushed here band p).state
+  flushed-stays : (here : Spot) (band : Option Band) (p : Discipline C) → Stays p (line_flushed here band p).state
   flushed-stays here band p =
       either-stays (takes_band_0 band) (record (sends [] (without_line p)) { gone = line_gone here.side Flushed p.line }) (sends [] p) p (line-stays p) (stays-so p)
 
-  read-stays : (here : Spot) (asked : FlushAsked) (p : Ldterm C) → Stays p (read_flushed here asked p).state
+  read-stays : (here : Spot) (asked : FlushAsked) (p : Discipline C) → Stays p (read_flushed here asked p).state
   read-stays here asked p =
       let q = (queue_flushed Up here asked.band p).state in
       either-stays asked.for_read (both (queue_flushed Up here asked.band p) (line_flushed here asked.band)) (sends [] p) p
       (stays-both p q (line_flushed here asked.band q).state (queue-stays Up q.read_queue p) (flushed-stays here asked.band q)) (stays-so p)
 
-  write-stays : (here : Spot) (asked : FlushAsked) (p : Ldterm C) → Stays p (write_flushed here asked p).state
+  write-stays : (here : Spot) (asked : FlushAsked) (p : Discipline C) → Stays p (write_flushed here asked p).state
   write-stays here asked p =
-      let ended : Ldterm C = record p { echoing = p.echoing && not (takes_band_0 asked.band) } in
+      let ended : Discipline C = record p { echoing = p.echoing && not (takes_band_0 asked.band) } in
       let q = (queue_flushed Down here asked.band ended).state in
       either-stays asked.for_write (queue_flushed Down here asked.band ended) (sends [] p) p
       (stays-both p ended q (record { work = refl; gathered = refl; echoing = λ e. and_left p.echoing (not (takes_band_0 asked.band)) e; stage = refl }) (queue-stays Down q.write_queue ended)) (stays-so p)
 
   -- an answer that is taken up
-  taken-stays : (here : Spot) (command : ℕ) (t : Termios) (m : Message C) (p : Ldterm C) → Stays p (taken_up here command t m p).state
+  taken-stays : (here : Spot) (command : ℕ) (t : Termios) (m : Message C) (p : Discipline C) → Stays p (taken_up here command t m p).state
   taken-stays here command t m p =
       let q = (input_flushed here command p).state in
-      let told : Ldterm C → Acted C (Ldterm C) = sends (onward Up here (flush_message (read_flush None)) ∷ []) in
+      let told : Discipline C → Acted C (Discipline C) = sends (onward Up here (flush_message (read_flush None)) ∷ []) in
       stays-both p q (termios_taken here t m q).state
       (either-stays (command == TCSETSF) (both (read_flushed here up_alone p) told) (sends [] p) p (read-stays here up_alone p) (stays-so p))
       (record { work = refl; gathered = refl; echoing = λ e. e; stage = refl })
 
-  pub puts-stay : (here : Spot) (m : Message C) (p : Ldterm C) → Stays p (ldterm_puts here m p).state
+  pub puts-stay : (here : Spot) (m : Message C) (p : Discipline C) → Stays p (ldterm_puts here m p).state
   puts-stay here m p =
       let asked = asked_by m.plain in
       let q = (read_flushed here asked p).state in

@@ -15,7 +15,7 @@ use Rattle.strm_types.specs.Deliver.{Acted}
 use Rattle.strm_types.specs.Flushing.{is_flush}
 use Rattle.strm_types.specs.Ioctls.{read_ioc}
 use Rattle.strm_types.specs.LdtermPuts.{goes_on, ldterm_puts, passes_on_way, told_by_header, told_termios, waits_on}
-use Rattle.strm_types.specs.Ldterms.{Ldterm, flush_passes, queued_at}
+use Rattle.strm_types.specs.Ldterms.{Discipline, flush_passes, queued_at}
 use Rattle.strm_types.specs.Message.{Message, has_parts}
 use Rattle.strm_types.specs.TakenUp.{taken_up}
 use Rattle.strm_types.specs.Termios.{read_termios}
@@ -25,7 +25,7 @@ pub either : {A : Type 0} (P : A → Type 0) (b : Bool) (one another : A) → P 
 either P true one another first second = first
 either P false one another first second = second
 
-module _ {C : Type 0} (here : Spot) (m : Message C) (p : Ldterm C) (P : Acted C (Ldterm C) → Type 0) where
+module _ {C : Type 0} (here : Spot) (m : Message C) (p : Discipline C) (P : Acted C (Discipline C) → Type 0) where
   pub record Each : Type 0 where
     pub waits : waits_on here.way m ≡ true → P (queued_at here.way m p)
     pub flushes : is_flush m.kind ≡ true → P (flush_passes here m p)

@@ -10,10 +10,10 @@ use Rattle.strm_types.specs.declared.spots.Spot.{Spot}
 use Rattle.strm_types.specs.declared.termios.Termios.{Termios}
 use Rattle.strm_types.specs.Budgets.{Does, Within, cost_of, emits_at}
 use Rattle.strm_types.specs.Commands.{is_acked}
-use Rattle.strm_types.specs.Deliver.{Parcel, toward}
+use Rattle.strm_types.specs.Deliver.{Parcel, toward, onward}
 use Rattle.strm_types.specs.Flushing.{asked_by, flush_message, read_flush}
 use Rattle.strm_types.specs.LdtermPuts.{ldterm_puts}
-use Rattle.strm_types.specs.Ldterms.{Ldterm, both, flush_passes, line_flushed, onward, queue_flushed, read_flushed, sends, takes_band_0, without_line, write_flushed}
+use Rattle.strm_types.specs.Ldterms.{Discipline, both, flush_passes, line_flushed, queue_flushed, read_flushed, sends, takes_band_0, without_line, write_flushed}
 use Rattle.strm_types.specs.Message.{Message, data_message}
 use Rattle.strm_types.specs.Options.{mode_message}
 use Rattle.strm_types.specs.Service.{line_gone}
@@ -28,14 +28,14 @@ use Rattle.strm_types.proofs.ShapesOf.{acked-shape, data-shape, reads-shape}
 
 -- flushes of its queues send nothing
 module _ {C : Type 0} (here : Spot) where
-  pub read-none : (asked : FlushAsked) (l : Ldterm C) → (read_flushed here asked l).sent ≡ []
+  pub read-none : (asked : FlushAsked) (l : Discipline C) → (read_flushed here asked l).sent ≡ []
   read-none asked l = either (λ t. t.sent ≡ []) asked.for_read (both (queue_flushed Up here asked.band l) (line_flushed here asked.band)) (sends [] l) (line (takes_band_0 asked.band) (queue_flushed Up here asked.band l).state) refl
     where
-      line : (b : Bool) (l : Ldterm C) → (cond b (record (sends [] (without_line l)) { gone = line_gone here.side Flushed l.line }) (sends [] l)).sent ≡ []
+      line : (b : Bool) (l : Discipline C) → (cond b (record (sends [] (without_line l)) { gone = line_gone here.side Flushed l.line }) (sends [] l)).sent ≡ []
       line true l = refl
       line false l = refl
 
-  pub write-none : (asked : FlushAsked) (l : Ldterm C) → (write_flushed here asked l).sent ≡ []
+  pub write-none : (asked : FlushAsked) (l : Discipline C) → (write_flushed here asked l).sent ≡ []
   write-none asked l = at asked.for_write
     where
       at : (b : Bool) → (cond b (queue_flushed Down here asked.band (record l { echoing = l.echoing && not (takes_band_0 asked.band) })) (sends [] l)).sent ≡ []
@@ -58,7 +58,7 @@ module _ (here : Spot) (cost : At → ℕ) where
     goes : Fits (onward here.way here m ∷ [])
     goes = one-few cost (costs (ldterm_does here.way (shape_of m))) (toward here.way here) m (passes here.way (shape_of m))
 
-    flushes : (l : Ldterm C) → Fits (flush_passes here m l).sent
+    flushes : (l : Discipline C) → Fits (flush_passes here m l).sent
     flushes l =
         let asked = asked_by m.plain in
         let first = read_flushed here asked l in
@@ -79,7 +79,7 @@ module _ (here : Spot) (cost : At → ℕ) where
       line [] = none-few C cost (up Held)
       line (c ∷ more) = one-few cost (up Held) (toward Up here) (data_message (c ∷ more)) (let same = ap up (data-shape (c ∷ more)) in omega (arith, same))
 
-      termios : (t : Termios) (l : Ldterm C) → cost_of cost (termios_taken here t m l).sent ≤ up Held + (up Passing + up Acking)
+      termios : (t : Termios) (l : Discipline C) → cost_of cost (termios_taken here t m l).sent ≤ up Held + (up Passing + up Acking)
       termios t l = at (ends_lines l.termios t)
         where
           rest : List (Parcel C)
@@ -89,7 +89,7 @@ module _ (here : Spot) (cost : At → ℕ) where
           at true = omega (arith, both-cost cost (line_up here l.line) rest, line l.line, last t)
           at false = omega (arith, last t)
 
-      input : (command : ℕ) (l : Ldterm C) → cost_of cost (input_flushed here command l).sent ≤ up FlushR
+      input : (command : ℕ) (l : Discipline C) → cost_of cost (input_flushed here command l).sent ≤ up FlushR
       input command l = at (command == TCSETSF)
         where
           told : List (Parcel C)
@@ -99,12 +99,12 @@ module _ (here : Spot) (cost : At → ℕ) where
           at true = subst (λ (ps : List (Parcel C)). cost_of cost (ps ++ told) ≤ up FlushR) (sym (read-none here up_alone l)) (one-few cost (up FlushR) (toward Up here) (flush_message (read_flush None)) (let same = ap up (reads-shape C None) in omega (arith, same)))
           at false = none-few C cost (up FlushR)
 
-      taken : (command : ℕ) (t : Termios) (l : Ldterm C) → cost_of cost (taken_up here command t m l).sent ≤ costs (ldterm_does Up Acking)
+      taken : (command : ℕ) (t : Termios) (l : Discipline C) → cost_of cost (taken_up here command t m l).sent ≤ costs (ldterm_does Up Acking)
       taken command t l =
           let first = input_flushed here command l in
           omega (arith, both-cost cost first.sent (termios_taken here t m first.state).sent, input command l, termios t first.state)
 
-    pub ldterm-fits : (l : Ldterm C) → Fits (ldterm_puts here m l).sent
+    pub ldterm-fits : (l : Discipline C) → Fits (ldterm_puts here m l).sent
     ldterm-fits l = puts-each here m l (λ t. Fits t.sent) (record {
       waits = λ is. none-few C cost (costs (ldterm_does here.way (shape_of m)));
       flushes = λ is. flushes l;
@@ -114,7 +114,7 @@ module _ (here : Spot) (cost : At → ℕ) where
           (subst (λ s. cost_of cost (taken_up here ioc.command t m l).sent ≤ costs (ldterm_does Up s)) (sym (acked-shape m is)) (taken is ioc.command t l));
     })
 
-pub ldterm-within : {C : Type 0} (here : Spot) (m : Message C) (l : Ldterm C) → Within (ldterm_puts here m l).sent (emits_at here (ldterm_does here.way (shape_of m)))
+pub ldterm-within : {C : Type 0} (here : Spot) (m : Message C) (l : Discipline C) → Within (ldterm_puts here m l).sent (emits_at here (ldterm_does here.way (shape_of m)))
 ldterm-within here m l cost = ldterm-fits here cost m l
 
 -- an answer that may be obeyed takes two blocks

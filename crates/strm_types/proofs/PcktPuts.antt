@@ -7,11 +7,10 @@ use Rattle.strm_types.specs.declared.names.Way.{Way}
 use Rattle.strm_types.specs.declared.names.Way.TheVariants.{Up, Down}
 use Rattle.strm_types.specs.declared.spots.Spot.{Spot}
 use Rattle.strm_types.specs.Cells.{Cells, plain}
-use Rattle.strm_types.specs.Deliver.{Acted, Comes, Parcel}
+use Rattle.strm_types.specs.Deliver.{Acted, Comes, Parcel, onward}
 use Rattle.strm_types.specs.Flushing.{asked_by}
 use Rattle.strm_types.specs.Input.{made_of}
 use Rattle.strm_types.specs.Kinds.{kind_number}
-use Rattle.strm_types.specs.Ldterms.{onward}
 use Rattle.strm_types.specs.Message.{Message, band_of, cells_of}
 use Rattle.strm_types.specs.Pckts.{Pckt, flush_passed, is_bare_packet, is_packed, pckt_dir, pckt_on_way, pckt_packs, pckt_passes, pckt_puts, plain_packed, writers_flush}
 use Rattle.strm_types.specs.Names.{direction_at}

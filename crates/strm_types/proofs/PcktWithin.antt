@@ -11,9 +11,8 @@ use Rattle.strm_types.specs.declared.spots.Spot.{Spot}
 use Rattle.strm_types.specs.Budgets.{Does, Within, cost_of, emits_at}
 use Rattle.strm_types.specs.Cells.{Cells}
 use Rattle.strm_types.specs.Costs.{packs_on_way, pckt_takes, pckt_takes_on}
-use Rattle.strm_types.specs.Deliver.{Parcel, toward}
+use Rattle.strm_types.specs.Deliver.{Parcel, toward, onward}
 use Rattle.strm_types.specs.Flushing.{asked_by, flush_bytes, flush_message}
-use Rattle.strm_types.specs.Ldterms.{onward}
 use Rattle.strm_types.specs.Message.{Message, has_parts}
 use Rattle.strm_types.specs.Pckts.{Pckt, is_flush_passed, is_packed, packet, pckt_on_way, pckt_packs, pckt_passes, pckt_puts, writers_flush}
 use Rattle.strm_types.specs.Shapes.{At, Shape, Held, Asking, Acking, FlushW, shape_of}

@@ -8,9 +8,8 @@ use Rattle.strm_types.specs.declared.spots.Spot.{Spot}
 use Rattle.strm_types.specs.Acks.{ack_message, telling_message}
 use Rattle.strm_types.specs.Budgets.{Does, Within, cost_of, emits_at}
 use Rattle.strm_types.specs.Commands.{is_asked}
-use Rattle.strm_types.specs.Deliver.{Parcel, toward}
+use Rattle.strm_types.specs.Deliver.{Parcel, toward, onward}
 use Rattle.strm_types.specs.Ioctls.{nak_message}
-use Rattle.strm_types.specs.Ldterms.{onward}
 use Rattle.strm_types.specs.Message.{Message}
 use Rattle.strm_types.specs.Ptems.{Ptem, ptem_puts, signals_up, sigwinch}
 use Rattle.strm_types.specs.Shapes.{At, Shape, Asking, shape_of}

@@ -9,25 +9,25 @@ use Rattle.strm_types.specs.declared.names.Way.TheVariants.{Up}
 use Rattle.strm_types.specs.declared.rules.Rule.TheVariants.{Flushed, SignalKey, LineFull, LineOver}
 use Rattle.strm_types.specs.declared.spots.Spot.{Spot}
 use Rattle.strm_types.specs.Cells.{Cells}
-use Rattle.strm_types.specs.Deliver.{Acted}
+use Rattle.strm_types.specs.Deliver.{Acted, onward}
 use Rattle.strm_types.specs.Flushing.{flush_bytes, flush_message}
-use Rattle.strm_types.specs.Ldterms.{Ldterm, onward, sends}
+use Rattle.strm_types.specs.Ldterms.{Discipline, sends}
 use Rattle.strm_types.specs.Lines.{ErasesByte, ErasesWord, Types, edited, has_room}
 use Rattle.strm_types.specs.Termios.{icanon, imaxbel, noflsh}
 use Rattle.strm_types.specs.Typing.{added, bare, both_ways, dropped, gathered_up, is_blank_cell, lost, sigint, signals, sigquit, sigtstp, up_alone, strikes}
 
 -- what holds of ldterm whether output is stopped or not, and with any line and any bytes gathered, holds behind a key
-module _ {C : Type 0} (cells : Cells C) (here : Spot) (P : Ldterm C → Type 0) (stays : (l : Ldterm C) (stopped : Bool) (line gathered : List C) → P l → P (record l { stopped = stopped; line = line; gathered = gathered })) where
-  signals-stay : (asked : FlushAsked) (signal : ℕ) (c : C) (l : Ldterm C) → P l → P (signals cells here asked signal c l).state
+module _ {C : Type 0} (cells : Cells C) (here : Spot) (P : Discipline C → Type 0) (stays : (l : Discipline C) (stopped : Bool) (line gathered : List C) → P l → P (record l { stopped = stopped; line = line; gathered = gathered })) where
+  signals-stay : (asked : FlushAsked) (signal : ℕ) (c : C) (l : Discipline C) → P l → P (signals cells here asked signal c l).state
   signals-stay asked signal c l holds = at (noflsh l.termios)
     where
-      at : (kept : Bool) → P (cond {A = Acted C (Ldterm C)} kept
+      at : (kept : Bool) → P (cond {A = Acted C (Discipline C)} kept
           (record { state = record l { gathered = [] }; notes = []; sent = gathered_up cells here l.gathered ++ onward Up here (bare kinds.Pcsig (signal ∷ [])) ∷ []; gone = lost cells here SignalKey (c ∷ []) })
           (record { state = record l { gathered = []; line = [] }; notes = []; sent = gathered_up cells here l.gathered ++ onward Up here (flush_message (flush_bytes asked)) ∷ onward Up here (bare kinds.Pcsig (signal ∷ [])) ∷ []; gone = lost cells here Flushed l.line ++ lost cells here SignalKey (c ∷ []) })).state
       at true = stays l l.stopped l.line [] holds
       at false = stays l l.stopped [] [] holds
 
-  added-stay : (c : C) (l : Ldterm C) → P l → P (added cells here c l).state
+  added-stay : (c : C) (l : Discipline C) → P l → P (added cells here c l).state
   added-stay c l holds = at (icanon l.termios) (has_room l.line) (imaxbel l.termios)
     where
       at : (canonical room bell : Bool) →
@@ -39,7 +39,7 @@ module _ {C : Type 0} (cells : Cells C) (here : Spot) (P : Ldterm C → Type 0) 
       at true false true = holds
       at true false false = stays l l.stopped [] l.gathered holds
 
-  pub strikes-stay : (key : Key) (c : C) (l : Ldterm C) → P l → P (strikes cells here key c l).state
+  pub strikes-stay : (key : Key) (c : C) (l : Discipline C) → P l → P (strikes cells here key c l).state
   strikes-stay Stop c l holds = stays l true l.line l.gathered holds
   strikes-stay Start c l holds = holds
   strikes-stay Intr c l holds = signals-stay both_ways sigint c l holds

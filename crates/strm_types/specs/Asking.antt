@@ -6,7 +6,7 @@ use Rattle.strm_types.specs.declared.names.Way.{Way}
 use Rattle.strm_types.specs.declared.names.Way.TheVariants.{Up, Down}
 use Rattle.strm_types.specs.declared.spots.Asks.{Asks}
 use Rattle.strm_types.specs.declared.spots.Asks.TheVariants as asked
-use Rattle.strm_types.specs.Ldterms.{Ldterm, queue_at}
+use Rattle.strm_types.specs.Ldterms.{Discipline, queue_at}
 use Rattle.strm_types.specs.Message.{Message}
 
 -- On the read queue of ldterm M_DATA asks for room in band 0 ahead, whatever its band, since what goes up of it has band 0; M_PROTO
@@ -34,5 +34,5 @@ module _ {C : Type 0} where
   asked_first way stopped [] = asked.Empty
   asked_first way stopped (m ∷ rest) = asked_by way stopped m.kind m.band
 
-  abbrev pub ldterm_asks : Way → Ldterm C → Asks
+  abbrev pub ldterm_asks : Way → Discipline C → Asks
   ldterm_asks way p = asked_first way p.stopped (queue_at way p).messages

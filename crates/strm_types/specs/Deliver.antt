@@ -21,6 +21,10 @@ pub record Parcel (C : Type 0) : Type 0 where
   pub to : Spot
   pub message : Message C
 
+-- on its way to the next one
+abbrev pub onward : {C : Type 0} → Way → Spot → Message C → Parcel C
+onward way here m = record { to = toward way here; message = m }
+
 -- what is told of cells of a direction: they have gone by a rule, or they were made on the way, as an echo is
 pub data Fate (C : Type 0) : Type 0 where
   Goes : Dir → Rule → List C → Fate C

@@ -6,8 +6,8 @@ use Rattle.strm_types.specs.declared.names.Way.{Way}
 use Rattle.strm_types.specs.declared.names.Way.TheVariants.{Up, Down}
 use Rattle.strm_types.specs.declared.spots.Spot.{Spot}
 use Rattle.strm_types.specs.Cells.{Cells}
-use Rattle.strm_types.specs.Deliver.{Acted, Fate, Goes, Comes}
-use Rattle.strm_types.specs.Ldterms.{Ldterm, Stage, Between, Begun, Answered, queue_at, with_queue_at, sends, onward}
+use Rattle.strm_types.specs.Deliver.{Acted, Fate, Goes, Comes, onward}
+use Rattle.strm_types.specs.Ldterms.{Discipline, Stage, Between, Begun, Answered, queue_at, with_queue_at, sends}
 use Rattle.strm_types.specs.Message.{Message, cells_of, size_of}
 use Rattle.strm_types.specs.Queue.{Queue, is_none_left, left_with, put_back}
 use Rattle.strm_types.specs.Service.{Serving}
@@ -25,10 +25,10 @@ made_of (Goes dir rule cells ∷ told) = made_of told
 
 module _ {C : Type 0} where
   -- One thing after another, as long as nothing is sent: what is sent is delivered first. Each is told how many cells were made before.
-  abbrev pub then_on : ℕ → Acted C (Ldterm C) → (ℕ → Ldterm C → Acted C (Ldterm C)) → Acted C (Ldterm C)
+  abbrev pub then_on : ℕ → Acted C (Discipline C) → (ℕ → Discipline C → Acted C (Discipline C)) → Acted C (Discipline C)
   then_on made t next = if is_none_left t.sent then joined (next (made + made_of t.gone) t.state) else t
     where
-      joined : Acted C (Ldterm C) → Acted C (Ldterm C)
+      joined : Acted C (Discipline C) → Acted C (Discipline C)
       joined u = record { state = u.state; notes = t.notes ++ u.notes; sent = u.sent; gone = t.gone ++ u.gone }
 
   -- what is left of a message that is taken byte by byte
@@ -36,7 +36,7 @@ module _ {C : Type 0} where
   left_of rest m = record m { control = None; body = Some rest }
 
   -- the message in work with less left of it
-  abbrev pub with_left : List C → Ldterm C → Ldterm C
+  abbrev pub with_left : List C → Discipline C → Discipline C
   with_left rest p = record p { in_work = option_map (left_of rest) p.in_work }
 
   -- what is left of the message in work, once a turn ends, goes back to the front of its queue
@@ -45,7 +45,7 @@ module _ {C : Type 0} where
   back_on (Some m) q = if is_none_left (cells_of m) then q else record q { messages = put_back m q.messages }
 
   -- the cells of the message in work
-  abbrev pub cells_left : Ldterm C → List C
+  abbrev pub cells_left : Discipline C → List C
   cells_left p = cells_in p.in_work
     where
       cells_in : Option (Message C) → List C
@@ -53,7 +53,7 @@ module _ {C : Type 0} where
       cells_in (Some m) = cells_of m
 
   -- how many bytes of it are still to be treated, the one that has begun among them
-  abbrev pub to_treat : Ldterm C → ℕ
+  abbrev pub to_treat : Discipline C → ℕ
   to_treat p = length (cells_left p) + begun p.stage
     where
       begun : Stage C → ℕ
@@ -68,7 +68,7 @@ module _ {C : Type 0} where
 
 module _ {C : Type 0} (cells : Cells C) (here : Spot) where
   -- the end of a turn: what was gathered goes up, and what is left of the message goes back
-  abbrev pub finished : Ldterm C → Acted C (Ldterm C)
+  abbrev pub finished : Discipline C → Acted C (Discipline C)
   finished p =
       sends (gathered_up cells here p.gathered) (record p {
         gathered = [];
@@ -80,33 +80,33 @@ module _ {C : Type 0} (cells : Cells C) (here : Spot) where
 
   -- The next stage of a turn: the next byte of the message begins, or the byte that has begun does what its key does, or it is echoed.
   -- So many cells were made before in the direction of the echo.
-  abbrev pub begins_next : List C → Ldterm C → Acted C (Ldterm C)
+  abbrev pub begins_next : List C → Discipline C → Acted C (Discipline C)
   begins_next [] p = sends [] p
   begins_next (c ∷ rest) p = begins cells here c (with_left rest p)
 
-  abbrev pub stage_at : Stage C → ℕ → Ldterm C → Acted C (Ldterm C)
+  abbrev pub stage_at : Stage C → ℕ → Discipline C → Acted C (Discipline C)
   stage_at Between made p = begins_next (cells_left p) p
   stage_at (Begun started c) made p = struck cells here started c p
   stage_at (Answered echo) made p = echoed cells here made echo (record p { stage = Between })
 
-  abbrev pub next_stage : ℕ → Ldterm C → Acted C (Ldterm C)
+  abbrev pub next_stage : ℕ → Discipline C → Acted C (Discipline C)
   next_stage made p = stage_at p.stage made p
 
   -- So many stages, and then the end of the turn; up to the first one that sends something.
-  abbrev pub stages : ℕ → ℕ → Ldterm C → Acted C (Ldterm C)
+  abbrev pub stages : ℕ → ℕ → Discipline C → Acted C (Discipline C)
   stages zero made p = finished p
   stages (suc more) made p = then_on made (next_stage made p) (stages more)
 
   -- A call of the service procedure, which treats so many bytes more at most, the one that has begun among them. It ends as soon as
   -- something is sent, to be called again once that is delivered.
-  abbrev pub treats : ℕ → ℕ → Ldterm C → Serving C (Ldterm C)
+  abbrev pub treats : ℕ → ℕ → Discipline C → Serving C (Discipline C)
   treats bytes made p =
       let t = stages (3 * bytes - stages_done p.stage) made p in
       let again = is_some t.state.in_work in
       record { acted = t; bytes = if again then to_treat p - to_treat t.state else bytes; again = again }
 
   -- a message that passes whole
-  abbrev pub passes : Way → Message C → List (Message C) → Ldterm C → Serving C (Ldterm C)
+  abbrev pub passes : Way → Message C → List (Message C) → Discipline C → Serving C (Discipline C)
   passes way m rest p = record {
     acted = sends (onward way here m ∷ []) (with_queue_at way (left_with rest (queue_at way p)) p);
     bytes = size_of m;
@@ -114,11 +114,11 @@ module _ {C : Type 0} (cells : Cells C) (here : Spot) where
   }
 
   -- nothing stands there
-  abbrev pub nothing_served : Ldterm C → Serving C (Ldterm C)
+  abbrev pub nothing_served : Discipline C → Serving C (Discipline C)
   nothing_served p = record { acted = sends [] p; bytes = 0; again = false }
 
   -- A turn of the read queue begins: M_DATA is treated byte by byte, as far as the turn goes, and all else goes up whole.
-  abbrev pub input_begins : Option ℕ → ℕ → List (Message C) → Ldterm C → Serving C (Ldterm C)
+  abbrev pub input_begins : Option ℕ → ℕ → List (Message C) → Discipline C → Serving C (Discipline C)
   input_begins stop made [] p = nothing_served p
   input_begins stop made (m ∷ rest) p =
       if is_data m.kind
@@ -126,6 +126,6 @@ module _ {C : Type 0} (cells : Cells C) (here : Spot) where
       else passes Up m rest p
 
   -- What stands first on the write queue goes down whole.
-  abbrev pub output_passes : List (Message C) → Ldterm C → Serving C (Ldterm C)
+  abbrev pub output_passes : List (Message C) → Discipline C → Serving C (Discipline C)
   output_passes [] p = nothing_served p
   output_passes (m ∷ rest) p = passes Down m rest p

@@ -11,13 +11,14 @@ use Rattle.strm_types.specs.declared.rules.Rule.TheVariants.{Flushed}
 use Rattle.strm_types.specs.declared.spots.Note.TheVariants.{Enable, Room}
 use Rattle.strm_types.specs.declared.spots.Spot.{Spot}
 use Rattle.strm_types.specs.declared.termios.Termios.{Termios}
-use Rattle.strm_types.specs.Deliver.{Acted, Parcel, toward, Goes}
+use Rattle.strm_types.specs.Deliver.{Acted, Parcel, Goes, onward}
 use Rattle.strm_types.specs.Emptied.{of_data, cells_gone, queue_behind, writer_goes}
 use Rattle.strm_types.specs.Flushing.{asked_by}
 use Rattle.strm_types.specs.Message.{Message}
 use Rattle.strm_types.specs.Names.{direction_at}
-use Rattle.strm_types.specs.Queue.{Queue, new_queue, put_on, put_enables}
+use Rattle.strm_types.specs.Queue.{Queue, put_on, put_enables}
 use Rattle.strm_types.specs.Service.{line_gone}
+use Rattle.strm_types.specs.Standings.{QueuePair, way_queue, with_way_queue}
 use Rattle.strm_types.specs.Termios.{first_termios}
 
 -- How far a turn has come with a byte: it is between two bytes; or a byte has begun, and it has started output (true) or hasn't; or
@@ -32,10 +33,22 @@ abbrev pub is_between : {C : Type 0} → Stage C → Bool
 is_between Between = true
 is_between _ = false
 
--- What it is set to; whether its output is stopped, and whether the next byte stands behind LNEXT; the column of its output; the unfinished line; its
--- queues. In a turn of its read queue also what is left of the message in work, the bytes that wait to go up together, whether the
--- turn's echo stands last on the write queue, and how far the turn has come.
+-- What it is set to; whether its output is stopped, and whether the next byte stands behind LNEXT; the column of its output; the unfinished line. In a turn
+-- of its read queue also what is left of the message in work, the bytes that wait to go up together, whether the turn's echo stands last on the write queue,
+-- and how far the turn has come.
 pub record Ldterm (C : Type 0) : Type 0 where
+  pub termios : Termios
+  pub stopped : Bool
+  pub after_lnext : Bool
+  pub column : ℕ
+  pub line : List C
+  pub in_work : Option (Message C)
+  pub gathered : List C
+  pub echoing : Bool
+  pub stage : Stage C
+
+-- The line discipline: the module with the queues that its stream gives it, as its procedures act on both.
+pub record Discipline (C : Type 0) : Type 0 where
   pub termios : Termios
   pub stopped : Bool
   pub after_lnext : Bool
@@ -68,45 +81,76 @@ module _ {C : Type 0} where
     after_lnext = false;
     column = 0;
     line = [];
-    read_queue = new_queue 512 128;
-    write_queue = new_queue 512 128;
     in_work = None;
     gathered = [];
     echoing = false;
     stage = Between;
   }
 
+  -- the module with its queues, and each of both again
+  abbrev pub discipline : Ldterm C → QueuePair C → Discipline C
+  discipline l pair = record {
+    termios = l.termios;
+    stopped = l.stopped;
+    after_lnext = l.after_lnext;
+    column = l.column;
+    line = l.line;
+    read_queue = pair.read;
+    write_queue = pair.write;
+    in_work = l.in_work;
+    gathered = l.gathered;
+    echoing = l.echoing;
+    stage = l.stage;
+  }
+
+  abbrev pub by_itself : Discipline C → Ldterm C
+  by_itself p = record {
+    termios = p.termios;
+    stopped = p.stopped;
+    after_lnext = p.after_lnext;
+    column = p.column;
+    line = p.line;
+    in_work = p.in_work;
+    gathered = p.gathered;
+    echoing = p.echoing;
+    stage = p.stage;
+  }
+
+  abbrev pub pair_of : Discipline C → QueuePair C
+  pair_of p = record { read = p.read_queue; write = p.write_queue }
+
   -- Nothing of a turn is under way: no message is in work, nothing waits to go up, no echo grows, and no byte has begun.
-  abbrev pub IsIdle : Ldterm C → Type 0
-  IsIdle p = (p.in_work ≡ None) × (p.gathered ≡ []) × (p.echoing ≡ false) × (p.stage ≡ Between)
+  abbrev pub Rests : Ldterm C → Type 0
+  Rests l = (l.in_work ≡ None) × (l.gathered ≡ []) × (l.echoing ≡ false) × (l.stage ≡ Between)
+
+  abbrev pub IsIdle : Discipline C → Type 0
+  IsIdle p = Rests (by_itself p)
 
   -- its queues
-  abbrev pub queue_at : Way → Ldterm C → Queue C
-  queue_at Up p = p.read_queue
-  queue_at Down p = p.write_queue
+  abbrev pub queue_at : Way → Discipline C → Queue C
+  queue_at way p = way_queue way (pair_of p)
 
-  abbrev pub with_queue_at : Way → Queue C → Ldterm C → Ldterm C
-  with_queue_at Up q p = record p { read_queue = q }
-  with_queue_at Down q p = record p { write_queue = q }
+  abbrev pub with_queue_at : Way → Queue C → Discipline C → Discipline C
+  with_queue_at way q p = discipline (by_itself p) (with_way_queue way q (pair_of p))
 
-  abbrev pub without_line : Ldterm C → Ldterm C
-  without_line p = record p { line = [] }
+  -- without its unfinished line
+  abbrev pub lineless : Ldterm C → Ldterm C
+  lineless l = record l { line = [] }
+
+  abbrev pub without_line : Discipline C → Discipline C
+  without_line p = discipline (lineless (by_itself p)) (pair_of p)
 
   -- nothing happens but that messages are sent on
-  abbrev pub sends : List (Parcel C) → Ldterm C → Acted C (Ldterm C)
+  abbrev pub sends : List (Parcel C) → Discipline C → Acted C (Discipline C)
   sends sent p = record { state = p; notes = []; sent = sent; gone = [] }
 
-  -- a message on its way to the next place
-  abbrev pub onward : Way → Spot → Message C → Parcel C
-  onward way here m = record { to = toward way here; message = m }
-
   -- A message of band 0 that waits to go down stands behind the turn's echo, so that a new one begins.
-  abbrev pub echo_behind : Way → Message C → Ldterm C → Ldterm C
+  abbrev pub echo_behind : Way → Message C → Discipline C → Discipline C
   echo_behind Up m p = p
   echo_behind Down m p = record p { echoing = p.echoing && nat_lt 0 m.band }
 
   -- a message that waits on a queue, which it enables as putq(9F) says
-  abbrev pub queued_at : Way → Message C → Ldterm C → Acted C (Ldterm C)
+  abbrev pub queued_at : Way → Message C → Discipline C → Acted C (Discipline C)
   queued_at way m p =
       let q = queue_at way p in
       record {
@@ -117,13 +161,13 @@ module _ {C : Type 0} where
       }
 
   -- one after the other; what the first one sends goes first
-  abbrev pub both : Acted C (Ldterm C) → (Ldterm C → Acted C (Ldterm C)) → Acted C (Ldterm C)
+  abbrev pub both : Acted C (Discipline C) → (Discipline C → Acted C (Discipline C)) → Acted C (Discipline C)
   both t next =
       let u = next t.state in
       record { state = u.state; notes = t.notes ++ u.notes; sent = t.sent ++ u.sent; gone = t.gone ++ u.gone }
 
   -- A queue is flushed. The echo of a turn under way goes with band 0 of the write queue, so that a new one begins.
-  abbrev pub queue_flushed : Way → Spot → Option Band → Ldterm C → Acted C (Ldterm C)
+  abbrev pub queue_flushed : Way → Spot → Option Band → Discipline C → Acted C (Discipline C)
   queue_flushed way here band p =
       let q = queue_at way p in
       let chosen = of_data band in
@@ -135,23 +179,23 @@ module _ {C : Type 0} where
       }
 
   -- the unfinished line goes, where a flush takes band 0
-  abbrev pub line_flushed : Spot → Option Band → Ldterm C → Acted C (Ldterm C)
+  abbrev pub line_flushed : Spot → Option Band → Discipline C → Acted C (Discipline C)
   line_flushed here band p =
       if takes_band_0 band then record (sends [] (without_line p)) { gone = line_gone here.side Flushed p.line } else sends [] p
 
   -- FLUSHR: what waits to go up, with the line. FLUSHW: what waits to go down, with the echo.
-  abbrev pub read_flushed : Spot → FlushAsked → Ldterm C → Acted C (Ldterm C)
+  abbrev pub read_flushed : Spot → FlushAsked → Discipline C → Acted C (Discipline C)
   read_flushed here asked p =
       if asked.for_read then both (queue_flushed Up here asked.band p) (line_flushed here asked.band) else sends [] p
 
-  abbrev pub write_flushed : Spot → FlushAsked → Ldterm C → Acted C (Ldterm C)
+  abbrev pub write_flushed : Spot → FlushAsked → Discipline C → Acted C (Discipline C)
   write_flushed here asked p =
       if asked.for_write
       then queue_flushed Down here asked.band (record p { echoing = p.echoing && not (takes_band_0 asked.band) })
       else sends [] p
 
   -- An M_FLUSH is obeyed, and goes on.
-  abbrev pub flush_passes : Spot → Message C → Ldterm C → Acted C (Ldterm C)
+  abbrev pub flush_passes : Spot → Message C → Discipline C → Acted C (Discipline C)
   flush_passes here m p =
       let asked = asked_by m.plain in
       both (both (read_flushed here asked p) (write_flushed here asked)) (sends (onward here.way here m ∷ []))

@@ -16,6 +16,7 @@ pub mod Gets
 pub mod GetQueues
 pub mod PutMsg
 pub mod Modules
+pub mod Standings
 pub mod ModuleQueues
 pub mod Origins
 pub mod Emptied
@@ -57,3 +58,4 @@ pub mod Pckts
 pub mod Output
 pub mod OutputTurns
 pub mod LdtermServes
+pub mod LdtermStands

@@ -5,9 +5,9 @@ use Rattle.strm_types.specs.declared.names.Dir.{Dir}
 use Rattle.strm_types.specs.declared.names.Way.TheVariants.{Down}
 use Rattle.strm_types.specs.declared.spots.Spot.{Spot}
 use Rattle.strm_types.specs.Cells.{Cells}
-use Rattle.strm_types.specs.Deliver.{Fate}
+use Rattle.strm_types.specs.Deliver.{Fate, onward}
 use Rattle.strm_types.specs.Input.{back_on, is_data, left_of, nothing_served}
-use Rattle.strm_types.specs.Ldterms.{Ldterm, onward}
+use Rattle.strm_types.specs.Ldterms.{Discipline}
 use Rattle.strm_types.specs.Message.{Message, cells_of, size_of}
 use Rattle.strm_types.specs.Names.{direction_at}
 use Rattle.strm_types.specs.Output.{posts}
@@ -26,7 +26,7 @@ pub record Outgoing (C : Type 0) : Type 0 where
 
 module _ {C : Type 0} where
   -- a message that goes down as it is
-  abbrev pub unchanged : Message C → Ldterm C → Outgoing C
+  abbrev pub unchanged : Message C → Discipline C → Outgoing C
   unchanged m p = record { messages = m ∷ []; left = None; bytes = size_of m; column = p.column; told = [] }
 
   -- the same message with what its bytes give; where they give nothing there is none
@@ -40,7 +40,7 @@ module _ {C : Type 0} (cells : Cells C) (here : Spot) where
   output_dir = direction_at Down here.side
 
   -- Bytes of M_DATA are output under OPOST: all of them, or so many at most where blocks are few. One without bytes goes down as it is.
-  abbrev pub posted : Option ℕ → ℕ → List C → Message C → Ldterm C → Outgoing C
+  abbrev pub posted : Option ℕ → ℕ → List C → Message C → Discipline C → Outgoing C
   posted stop made [] m p = unchanged m p
   posted stop made (c ∷ rest) m p =
       let most = unwrap_or stop (length (c ∷ rest)) in
@@ -55,12 +55,12 @@ module _ {C : Type 0} (cells : Cells C) (here : Spot) where
       }
 
   -- A message, by its kind. So many cells were made before in the direction of output.
-  abbrev pub outgoing : Option ℕ → ℕ → Message C → Ldterm C → Outgoing C
+  abbrev pub outgoing : Option ℕ → ℕ → Message C → Discipline C → Outgoing C
   outgoing stop made m p = if is_data m.kind && opost p.termios then posted stop made (cells_of m) m p else unchanged m p
 
   -- A turn of the write queue, of these messages. It goes as far as it may, or stops for want of blocks when so many bytes are treated: what is
   -- left of the message goes back to the front of the queue then.
-  abbrev pub output_serves : Option ℕ → ℕ → List (Message C) → Ldterm C → Serving C (Ldterm C)
+  abbrev pub output_serves : Option ℕ → ℕ → List (Message C) → Discipline C → Serving C (Discipline C)
   output_serves stop made [] p = nothing_served cells here p
   output_serves stop made (m ∷ rest) p =
       let t = outgoing stop made m p in

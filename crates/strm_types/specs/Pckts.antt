@@ -9,10 +9,9 @@ use Rattle.strm_types.specs.declared.names.Way.{Way}
 use Rattle.strm_types.specs.declared.names.Way.TheVariants.{Up, Down}
 use Rattle.strm_types.specs.declared.spots.Spot.{Spot}
 use Rattle.strm_types.specs.Cells.{Cells, cells_made}
-use Rattle.strm_types.specs.Deliver.{Acted, Comes, Parcel}
+use Rattle.strm_types.specs.Deliver.{Acted, Comes, Parcel, onward}
 use Rattle.strm_types.specs.Flushing.{asked_by, flush_bytes, flush_message}
 use Rattle.strm_types.specs.Kinds.{kind_number}
-use Rattle.strm_types.specs.Ldterms.{onward}
 use Rattle.strm_types.specs.Message.{Message, band_of, cells_of, has_parts}
 use Rattle.strm_types.specs.Names.{direction_at}
 

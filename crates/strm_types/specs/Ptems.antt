@@ -11,9 +11,8 @@ use Rattle.strm_types.specs.declared.termios.Termios.{Termios}
 use Rattle.strm_types.specs.declared.winsize.Winsize.{Winsize}
 use Rattle.strm_types.specs.Acks.{ack_message, payload, telling_message}
 use Rattle.strm_types.specs.Commands.{is_asked, sets_termios}
-use Rattle.strm_types.specs.Deliver.{Acted, Parcel}
+use Rattle.strm_types.specs.Deliver.{Acted, Parcel, onward}
 use Rattle.strm_types.specs.Ioctls.{nak_message, read_ioc}
-use Rattle.strm_types.specs.Ldterms.{onward}
 use Rattle.strm_types.specs.Message.{Message}
 use Rattle.strm_types.specs.Signals.{signal_in}
 use Rattle.strm_types.specs.Termios.{first_termios, read_termios, termios_bytes}

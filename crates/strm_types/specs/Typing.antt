@@ -15,11 +15,11 @@ use Rattle.strm_types.specs.declared.spots.Note.{Note}
 use Rattle.strm_types.specs.declared.spots.Note.TheVariants.{Enable}
 use Rattle.strm_types.specs.declared.spots.Spot.{Spot}
 use Rattle.strm_types.specs.Cells.{Cells, bytes_of, cells_made}
-use Rattle.strm_types.specs.Deliver.{Acted, Fate, Goes, Comes, Parcel}
+use Rattle.strm_types.specs.Deliver.{Acted, Fate, Goes, Comes, Parcel, onward}
 use Rattle.strm_types.specs.Echo.{echo_of}
 use Rattle.strm_types.specs.Flushing.{flush_bytes, flush_message}
 use Rattle.strm_types.specs.Keys.{stroke_of, restarts}
-use Rattle.strm_types.specs.Ldterms.{Ldterm, Begun, Answered, sends, onward}
+use Rattle.strm_types.specs.Ldterms.{Discipline, Begun, Answered, sends}
 use Rattle.strm_types.specs.Lines.{Edit, Types, ErasesByte, ErasesWord, ErasesAll, edited, has_room, is_blank}
 use Rattle.strm_types.specs.Message.{Message, cells_of, data_message}
 use Rattle.strm_types.specs.Names.{direction_at}
@@ -74,18 +74,18 @@ module _ {C : Type 0} (cells : Cells C) (here : Spot) where
   is_blank_cell c = is_blank (cells.byte c)
 
   -- A key that is dropped, by its rule.
-  abbrev pub dropped : Rule → C → Ldterm C → Acted C (Ldterm C)
+  abbrev pub dropped : Rule → C → Discipline C → Acted C (Discipline C)
   dropped rule c p = record (sends [] p) { gone = lost rule (c ∷ []) }
 
   -- STOP stops output, and START has started it before.
-  abbrev pub stops : C → Ldterm C → Acted C (Ldterm C)
+  abbrev pub stops : C → Discipline C → Acted C (Discipline C)
   stops c p =
       record (dropped FlowKey c (record p { stopped = true })) {
         sent = if p.stopped then [] else onward Down here (bare kinds.Stop []) ∷ [];
       }
 
   -- A key that takes bytes of the line: what the edit takes goes by a rule, the key by another one.
-  abbrev pub edits : Edit C → Rule → C → Ldterm C → Acted C (Ldterm C)
+  abbrev pub edits : Edit C → Rule → C → Discipline C → Acted C (Discipline C)
   edits edit rule c p =
       let left = edited is_blank_cell edit p.line in
       record {
@@ -96,11 +96,11 @@ module _ {C : Type 0} (cells : Cells C) (here : Spot) where
       }
 
   -- The line goes up, with its delimiter or, at EOF, without one.
-  abbrev pub line_sent : List C → Ldterm C → Acted C (Ldterm C)
+  abbrev pub line_sent : List C → Discipline C → Acted C (Discipline C)
   line_sent line p = sends (goes_up line ∷ []) (record p { line = [] })
 
   -- A signal key: what was gathered goes up first. Without NOFLSH the line is flushed, and an M_FLUSH goes up; the signal follows.
-  abbrev pub signals : FlushAsked → ℕ → C → Ldterm C → Acted C (Ldterm C)
+  abbrev pub signals : FlushAsked → ℕ → C → Discipline C → Acted C (Discipline C)
   signals asked signal c p =
       let key = bare kinds.Pcsig (signal ∷ []) in
       if noflsh p.termios then record {
@@ -118,7 +118,7 @@ module _ {C : Type 0} (cells : Cells C) (here : Spot) where
 
   -- An ordinary byte is added to the line, or gathered where no lines are made. In a full line it is lost under IMAXBEL, and else the line
   -- is lost with it.
-  abbrev pub added : C → Ldterm C → Acted C (Ldterm C)
+  abbrev pub added : C → Discipline C → Acted C (Discipline C)
   added c p =
       if not (icanon p.termios) then sends [] (record p { gathered = p.gathered ++ c ∷ [] })
       else (if has_room p.line then sends [] (record p { line = edited is_blank_cell (Types c) p.line })
@@ -126,7 +126,7 @@ module _ {C : Type 0} (cells : Cells C) (here : Spot) where
       else record (sends [] (record p { line = [] })) { gone = lost LineOver (p.line ++ c ∷ []) }))
 
   -- what a key does to the line and above
-  abbrev pub strikes : Key → C → Ldterm C → Acted C (Ldterm C)
+  abbrev pub strikes : Key → C → Discipline C → Acted C (Discipline C)
   strikes Stop c p = stops c p
   strikes Start c p = dropped FlowKey c p
   strikes Intr c p = signals both_ways sigint c p
@@ -142,22 +142,22 @@ module _ {C : Type 0} (cells : Cells C) (here : Spot) where
   strikes Delimiter c p = line_sent (p.line ++ c ∷ []) p
   strikes Ordinary c p = added c p
 
-  abbrev pub stroke_at : C → Ldterm C → Stroke
+  abbrev pub stroke_at : C → Discipline C → Stroke
   stroke_at c p = stroke_of p.termios p.after_lnext (cells.byte c)
 
   -- First of all a byte may start output that is stopped: an M_START goes down.
-  abbrev pub begins : C → Ldterm C → Acted C (Ldterm C)
+  abbrev pub begins : C → Discipline C → Acted C (Discipline C)
   begins c p =
       if p.stopped && restarts p.termios (stroke_at c p)
       then sends (onward Down here (bare kinds.Start []) ∷ []) (record p { stopped = false; stage = Begun true c })
       else sends [] (record p { stage = Begun false c })
 
   -- where a byte has started output, the queue of output is enabled, unless nothing stands there
-  abbrev pub wakes : Bool → Ldterm C → List Note
+  abbrev pub wakes : Bool → Discipline C → List Note
   wakes started p = if started && not (is_none_left p.write_queue.messages) then Enable Down ∷ [] else []
 
   -- Then it does what its key does, and its echo is still to come. A byte that is mapped stays the same written byte.
-  abbrev pub struck : Bool → C → Ldterm C → Acted C (Ldterm C)
+  abbrev pub struck : Bool → C → Discipline C → Acted C (Discipline C)
   struck started c p =
       let stroke = stroke_at c p in
       let t = strikes stroke.key (cells.mapped stroke.byte c) (record p { after_lnext = is_lnext stroke.key }) in
@@ -170,14 +170,14 @@ module _ {C : Type 0} (cells : Cells C) (here : Spot) where
   grown more (m ∷ []) = data_message (cells_of m ++ more) ∷ []
   grown more (m ∷ n ∷ ms) = m ∷ grown more (n ∷ ms)
 
-  abbrev pub echo_grows : List C → Ldterm C → Acted C (Ldterm C)
+  abbrev pub echo_grows : List C → Discipline C → Acted C (Discipline C)
   echo_grows new p =
       record (sends [] (record p { write_queue = record p.write_queue { messages = grown new p.write_queue.messages } })) {
         gone = Comes echo_dir new ∷ [];
       }
 
   -- it begins with the first byte that is echoed, which enables the queue as putq(9F) says
-  abbrev pub echo_stands : List C → Ldterm C → Acted C (Ldterm C)
+  abbrev pub echo_stands : List C → Discipline C → Acted C (Discipline C)
   echo_stands new p =
       let m = data_message new in
       record {
@@ -188,11 +188,11 @@ module _ {C : Type 0} (cells : Cells C) (here : Spot) where
       }
 
   -- where band 0 is full before the echo of a key, none of it stands
-  abbrev pub echo_lost : List C → Ldterm C → Acted C (Ldterm C)
+  abbrev pub echo_lost : List C → Discipline C → Acted C (Discipline C)
   echo_lost new p = record (sends [] p) { gone = Comes echo_dir new ∷ Goes echo_dir EchoFull new ∷ [] }
 
   -- Last, the byte is echoed. So many were made before in the direction of the echo.
-  abbrev pub echoed : ℕ → List ℕ → Ldterm C → Acted C (Ldterm C)
+  abbrev pub echoed : ℕ → List ℕ → Discipline C → Acted C (Discipline C)
   echoed made [] p = sends [] p
   echoed made (b ∷ bytes) p =
       let new = cells_made cells echo_dir made (b ∷ bytes) in

@@ -4,11 +4,11 @@ ghost use Rattle.std.specs.Prelude.{◌≤◌};
 ghost use Rattle.strm_frame.specs.Hands.{HasRoom};
 ghost use Rattle.strm_pair.specs.Placing.{IsFreeFor, IsModuleText, IsPlaced, module_blocks};
 
-use crate::images::made_kinds::ldterm_of;
+use crate::images::made_kinds::{ldterm_of, pair_of};
 use crate::modules::AnyModule;
 use strm_blocks::Blocks;
+use strm_frame::{Standing, Tables};
 use strm_image::ModuleText;
-use strm_ldterm::Tables;
 use strm_pty::{Pckt, Ptem};
 
 /// Makes a module of a text. One that has queues has two lists of its own from a number on, where nothing stands, and their tables are
@@ -18,7 +18,7 @@ pub(crate) fn module_of<B: Blocks>(
     first: usize,
     shelf: &mut Option<Tables>,
     text: &ModuleText<'_>,
-) -> AnyModule
+) -> Standing<AnyModule>
     requires first { first ≤ 6 }
     requires free { IsFreeFor (B.value store.old) first shelf.old text.now }
     requires good { IsModuleText text.now }
@@ -30,12 +30,21 @@ pub(crate) fn module_of<B: Blocks>(
             let Some(tables) = shelf.take() else {
                 unreachable!()
             };
-            AnyModule::Ldterm(ldterm_of(store, first, tables, found))
+            Standing {
+                module: AnyModule::Ldterm(ldterm_of(found)),
+                queues: Some(pair_of(store, first, tables, found)),
+            }
         }
-        ModuleText::Ptem(found) => AnyModule::Ptem(Ptem {
-            termios: found.termios,
-            window: found.window,
-        }),
-        ModuleText::Pckt => AnyModule::Pckt(Pckt),
+        ModuleText::Ptem(found) => Standing {
+            module: AnyModule::Ptem(Ptem {
+                termios: found.termios,
+                window: found.window,
+            }),
+            queues: None,
+        },
+        ModuleText::Pckt => Standing {
+            module: AnyModule::Pckt(Pckt),
+            queues: None,
+        },
     }
 }

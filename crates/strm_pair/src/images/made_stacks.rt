@@ -8,8 +8,8 @@ ghost use Rattle.strm_pair.specs.Placing.{AreModuleTexts, AreStacked, module_blo
 use crate::images::made_modules::module_of;
 use crate::stacks::Stack;
 use strm_blocks::Blocks;
+use strm_frame::Tables;
 use strm_image::ModuleText;
-use strm_ldterm::Tables;
 
 /// Makes the modules of a text, the one on top first, of which one at most has queues: they stand on two lists of their own from a
 /// number on, and their tables are taken off the shelf.

@@ -2,13 +2,16 @@
 
 ghost use Rattle.std.specs.Prelude.{◌≡◌, map};
 ghost use Rattle.std.specs.List.{AllByRecursion, flat_map};
+ghost use Rattle.strm_laws.specs.Stacked.{OfPtem, OfPckt};
 ghost use Rattle.strm_blocks.specs.Blocks.{StoreValue};
-ghost use Rattle.strm_image.specs.Modules.{module_format, modules};
+ghost use Rattle.strm_image.specs.Modules.{alone, module_format, modules};
 ghost use Rattle.strm_image.specs.Sinks.{put};
 ghost use Rattle.strm_image.specs.declared.versions.Version.TheVariants.{Second};
-ghost use Rattle.strm_laws.specs.Stacked.{OfLdterm};
-ghost use Rattle.strm_ldterm.specs.Stands as stands;
-ghost use Rattle.strm_ldterm.specs.Stands.{ldterm_in};
+ghost use Rattle.strm_frame.specs.Standings.{standing};
+ghost use Rattle.strm_ldterm.specs.Stands.{own_in};
+ghost use Rattle.strm_pty.specs.Beside.{ptem_in};
+ghost use Rattle.strm_pty.specs.Packs.{pckt_in};
+ghost use Rattle.strm_pair.specs.declared.modules.AnyModule.TheVariants as kinds;
 ghost use Rattle.strm_pair.specs.AnyModules.{IsHeld, module_in};
 ghost use Rattle.strm_pair.specs.Imaging.{settings_text};
 ghost use Rattle.strm_pair.specs.Stacks.{IsStackHeld, modules_in};
@@ -17,17 +20,19 @@ use crate::images::queues::put_queue;
 use crate::modules::AnyModule;
 use crate::stacks::Stack;
 use strm_blocks::Blocks;
+use strm_frame::{QueuePair, Standing};
 use strm_image::writing::{
     put_flag, put_line, put_module_name, put_ptem, put_termios, put_u8, put_u32,
 };
 use strm_image::{QueueKind, Sink};
 use strm_ldterm::Ldterm;
+use strm_pty::Ptem;
 use strm_types::ModuleName;
 
 // What an ldterm has in front of its queues, behind its name.
 #[tactic(auto, using(strm_image::proofs::SinkRows::put_both))]
 fn put_settings(out: &mut Sink, ldterm: &Ldterm)
-    ensures { (s : StoreValue) → out.new ≡ put (settings_text (ldterm_in s ldterm.now)) out.old }
+    ensures { (s : StoreValue) → out.new ≡ put (settings_text (own_in s ldterm.now)) out.old }
 {
     put_module_name(out, ModuleName::Ldterm);
     put_termios(out, &ldterm.termios);
@@ -37,38 +42,60 @@ fn put_settings(out: &mut Sink, ldterm: &Ldterm)
     put_line(out, ldterm.line.bytes());
 }
 
-// An ldterm between two calls.
-fn put_ldterm<'a, B: Blocks>(store: &B, ldterm: &Ldterm, out: Sink<'a>) -> Sink<'a>
-    requires held { stands.IsHeld (B.value store.now) ldterm.now }
-    ensures { result ≡ put ((module_format Second).text (OfLdterm (ldterm_in (B.value store.now) ldterm.now))) out.entry }
+// An ldterm between two calls, and its queues.
+fn put_ldterm<'a, B: Blocks>(
+    store: &B,
+    ldterm: &Ldterm,
+    queues: &Option<QueuePair>,
+    out: Sink<'a>,
+) -> Sink<'a>
+    requires held { IsHeld (B.value store.now) (standing (kinds.Ldterm ldterm.now) queues.now) }
+    ensures { result ≡ put ((module_format Second).text (module_in (B.value store.now) (standing (kinds.Ldterm ldterm.now) queues.now)))
+        out.entry }
 {
+    let Some(pair) = queues else { unreachable!() };
     let mut out = out;
     put_settings(&mut out, ldterm);
-    let out = put_queue(store, &ldterm.read_queue, QueueKind::LdtermRead, out);
-    put_queue(store, &ldterm.write_queue, QueueKind::LdtermWrite, out)
+    let out = put_queue(store, &pair.read, QueueKind::LdtermRead, out);
+    put_queue(store, &pair.write, QueueKind::LdtermWrite, out)
+}
+
+// A ptem, which has no queues.
+#[tactic(auto, using(strm_image::proofs::SinkRows::put_both, strm_image::proofs::WrittenRows::ptem_told))]
+fn put_ptem_module<'a>(ptem: &Ptem, out: Sink<'a>) -> Sink<'a>
+    ensures { result ≡ put ((module_format Second).text (alone (OfPtem (ptem_in ptem.now)))) out.entry }
+{
+    let mut out = out;
+    put_module_name(&mut out, ModuleName::Ptem);
+    put_ptem(&mut out, &ptem.termios, ptem.window);
+    out
+}
+
+// A pckt, which has nothing but its name.
+#[tactic(auto, using(strm_image::proofs::WrittenRows::pckt_told))]
+fn put_pckt<'a>(out: Sink<'a>) -> Sink<'a>
+    ensures { result ≡ put ((module_format Second).text (alone (OfPckt pckt_in))) out.entry }
+{
+    let mut out = out;
+    put_module_name(&mut out, ModuleName::Pckt);
+    out
 }
 
 // A module, behind its name.
-#[tactic(auto, using(strm_image::proofs::SinkRows::put_both, strm_image::proofs::WrittenRows::ptem_told, strm_image::proofs::WrittenRows::pckt_told))]
-fn put_module<'a, B: Blocks>(store: &B, any: &AnyModule, out: Sink<'a>) -> Sink<'a>
+fn put_module<'a, B: Blocks>(store: &B, any: &Standing<AnyModule>, out: Sink<'a>) -> Sink<'a>
     requires held { IsHeld (B.value store.now) any.now }
     ensures { result ≡ put ((module_format Second).text (module_in (B.value store.now) any.now)) out.entry }
 {
-    let mut out = out;
-    match any {
-        AnyModule::Ldterm(ldterm) => return put_ldterm(store, ldterm, out),
-        AnyModule::Ptem(ptem) => {
-            put_module_name(&mut out, ModuleName::Ptem);
-            put_ptem(&mut out, &ptem.termios, ptem.window);
-        }
-        AnyModule::Pckt(_) => put_module_name(&mut out, ModuleName::Pckt),
+    match &any.module {
+        AnyModule::Ldterm(ldterm) => put_ldterm(store, ldterm, &any.queues, out),
+        AnyModule::Ptem(ptem) => put_ptem_module(ptem, out),
+        AnyModule::Pckt(_) => put_pckt(out),
     }
-    out
 }
 
 // Modules, one behind the other.
 #[tactic(auto, using(strm_image::proofs::SinkRows::put_both, strm_image::proofs::SinkRows::put_nothing))]
-fn put_each<'a, B: Blocks>(store: &B, modules: &[AnyModule], out: Sink<'a>) -> Sink<'a>
+fn put_each<'a, B: Blocks>(store: &B, modules: &[Standing<AnyModule>], out: Sink<'a>) -> Sink<'a>
     requires held { AllByRecursion (IsHeld (B.value store.now)) modules.now }
     ensures { result ≡ put (flat_map (module_format Second).text (map (module_in (B.value store.now)) modules.now)) out.entry }
 {

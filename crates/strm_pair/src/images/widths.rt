@@ -1,6 +1,6 @@
 //! That the numbers of a pair have the widths that an image has, as their types say. Each function tells what is so, and does nothing.
 
-ghost use Rattle.std.specs.Prelude.{◌≡◌, ◌<◌, ◌^◌, map};
+ghost use Rattle.std.specs.Prelude.{◌<◌, ◌^◌, map};
 ghost use Rattle.std.specs.List.{AllByRecursion};
 ghost use Rattle.strm_blocks.specs.Blocks.{StoreValue};
 ghost use Rattle.strm_head.specs.Heads.{plain_slot};
@@ -12,6 +12,7 @@ ghost use Rattle.strm_pair.specs.Streams.{stream_in};
 use crate::ends::StreamEnd;
 use crate::modules::AnyModule;
 use crate::streams::Streams;
+use strm_frame::Standing;
 use strm_head::IoctlBytes;
 use strm_types::{Fates, Slot, Termios, Winsize};
 
@@ -61,10 +62,10 @@ fn know_slot(ioctl: &Slot<IoctlBytes>)
     }
 }
 
-fn know_module(any: &AnyModule)
+fn know_module(any: &Standing<AnyModule>)
     ensures { (s : StoreValue) → HasModuleNumbers (module_in s any.now) }
 {
-    match any {
+    match &any.module {
         AnyModule::Ldterm(ldterm) => know_termios(ldterm.termios),
         AnyModule::Ptem(ptem) => {
             know_termios(ptem.termios);
@@ -74,7 +75,7 @@ fn know_module(any: &AnyModule)
     }
 }
 
-fn know_modules(modules: &[AnyModule])
+fn know_modules(modules: &[Standing<AnyModule>])
     ensures { (s : StoreValue) → AllByRecursion HasModuleNumbers (map (module_in s) modules.now) }
 {
     if let Some((first, rest)) = modules.split_first() {

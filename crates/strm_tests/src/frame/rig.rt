@@ -9,8 +9,8 @@ ghost use Rattle.strm_tests.specs.Rigs.{is_end, AreTwo, AtRest};
 use super::stock::Stock;
 use arrayvec::ArrayVec;
 use strm_blocks::{Blocks, InHand};
-use strm_frame::{Enabled, Outbox, Stack, Stations, deliver};
-use strm_queue::{Queue, Table};
+use strm_frame::{Enabled, Outbox, QueuePair, Stack, Standing, Stations, Tables, deliver};
+use strm_queue::Queue;
 use strm_types::{Asks, Band, Fates, ModuleName, Note, QueueName, Side, Spot, Turn, Way};
 
 /// Two modules on a stream, the queues that are enabled, and how many messages have left at the top and at the bottom.
@@ -41,17 +41,24 @@ fn has_room<B: Blocks>(store: &B) -> bool
 impl Rig {
     /// A module with a name on the enabled list over one without, whose queue is full from 4 bytes on and lets writers go
     /// from 2 down. Nothing stands there.
-    pub fn new(upper: Table, lower: Table) -> Rig
-        ensures { (mblks dblks : ℕ) → AtRest (λ x. x.queue) (empty_store mblks dblks) result.modules.modules.items }
+    pub fn new(upper: Tables, lower: Tables) -> Rig
+        ensures { (mblks dblks : ℕ) → AtRest (empty_store mblks dblks) result.modules.modules.items }
     {
         let mut modules = ArrayVec::new();
-        modules.push(Stock {
-            name: ModuleName::Ldterm,
-            queue: Some(Queue::new(0, 512, 128, upper)),
+        modules.push(Standing {
+            module: Stock {
+                name: ModuleName::Ldterm,
+            },
+            queues: Some(QueuePair::new(0, 1, upper)),
         });
-        modules.push(Stock {
-            name: ModuleName::Pckt,
-            queue: Some(Queue::new(1, 4, 2, lower)),
+        modules.push(Standing {
+            module: Stock {
+                name: ModuleName::Pckt,
+            },
+            queues: Some(QueuePair {
+                read: Queue::new(2, 512, 128, lower.read),
+                write: Queue::new(3, 4, 2, lower.write),
+            }),
         });
         Rig {
             modules: Stack { modules },
@@ -64,7 +71,7 @@ impl Rig {
     // The name of the queue of the module at a place, where it has one.
     fn queue_name(&self, at: usize, way: Way) -> Option<QueueName> {
         let module = self.modules.modules.as_slice().get(at.checked_sub(1)?)?;
-        let place = module.name.place()?;
+        let place = module.module.name.place()?;
         Some(QueueName {
             side: Side::Slave,
             place,
@@ -127,11 +134,11 @@ impl Rig {
 
     /// Delivers the only message in hand to a spot.
     pub fn put<B: Blocks>(&mut self, store: &mut B, to: Spot, message: InHand)
-        requires are { AreTwo (λ x. x.queue) (B.value store.old) self.old.modules.modules.items }
+        requires are { AreTwo (B.value store.old) self.old.modules.modules.items }
         requires alone { (B.value store.old).hand ≡ record { name = token message; chain = in_hand (B.value store.old) (token message) } ∷ [] }
         requires chain { IsChain (in_hand (B.value store.old) (token message)) }
         requires near { to.at ≤ 3 }
-        ensures { AtRest (λ x. x.queue) (B.value store.new) self.new.modules.modules.items }
+        ensures { AtRest (B.value store.new) self.new.modules.modules.items }
     {
         let mut told = Fates::none();
         deliver(store, self, 16, to, message, &mut told);
@@ -139,7 +146,7 @@ impl Rig {
 
     /// How many messages and bytes stand on the queues, from the top.
     pub fn sizes<B: Blocks>(&self, store: &B) -> [(usize, usize); 2]
-        requires { AtRest (λ x. x.queue) (B.value store.now) self.now.modules.modules.items }
+        requires { AtRest (B.value store.now) self.now.modules.modules.items }
     {
         [
             self.modules.sizes(store, 1, Way::Down),
@@ -150,10 +157,10 @@ impl Rig {
     // Calls the service procedure of the module at a place, which sends one message at most, and delivers what it sends. The
     // answer is how many bytes it treated: none where there is no room for what any message may take.
     fn serve<B: Blocks>(&mut self, store: &mut B, at: usize) -> usize
-        requires rest { AtRest (λ x. x.queue) (B.value store.old) self.old.modules.modules.items }
+        requires rest { AtRest (B.value store.old) self.old.modules.modules.items }
         requires inside { 0 < at }
         requires within { at ≤ 2 }
-        ensures { AtRest (λ x. x.queue) (B.value store.new) self.new.modules.modules.items }
+        ensures { AtRest (B.value store.new) self.new.modules.modules.items }
     {
         if !has_room(store) {
             return 0;
@@ -176,10 +183,10 @@ impl Rig {
 
     // Ends a turn of the queue at a place.
     fn end_turn<B: Blocks>(&mut self, store: &B, at: usize, took: bool)
-        requires rest { AtRest (λ x. x.queue) (B.value store.now) self.old.modules.modules.items }
+        requires rest { AtRest (B.value store.now) self.old.modules.modules.items }
         requires inside { 0 < at }
         requires within { at ≤ 2 }
-        ensures { AtRest (λ x. x.queue) (B.value store.now) self.new.modules.modules.items }
+        ensures { AtRest (B.value store.now) self.new.modules.modules.items }
     {
         let end = self.modules.end_turn(store, at, Way::Down, took);
         self.note_if(end.room, at, Note::Room(Way::Down));
@@ -189,10 +196,10 @@ impl Rig {
     /// A turn of the queue at a place, which comes off the enabled list: its first message goes on where there is room past
     /// it, and else it waits for room.
     pub fn turn<B: Blocks>(&mut self, store: &mut B, at: usize) -> Turn
-        requires rest { AtRest (λ x. x.queue) (B.value store.old) self.old.modules.modules.items }
+        requires rest { AtRest (B.value store.old) self.old.modules.modules.items }
         requires inside { 0 < at }
         requires within { at ≤ 2 }
-        ensures { AtRest (λ x. x.queue) (B.value store.new) self.new.modules.modules.items }
+        ensures { AtRest (B.value store.new) self.new.modules.modules.items }
     {
         self.disable(at);
         let Asks::Room(band) = self.modules.asks(store, at, Way::Down) else {
@@ -213,15 +220,15 @@ impl Rig {
 impl<B: Blocks> Stations<B> for Rig {
     ghost use Rattle.std.specs.Prelude.{List, map};
     ghost use Rattle.strm_frame.specs.Stacks.{all_of};
-    ghost use Rattle.strm_tests.specs.ToyLaws.{stock_in};
+    ghost use Rattle.strm_frame.specs.Standings.{standing_in};
     ghost use Rattle.strm_tests.specs.Toys.{Stock};
     ghost use Rattle.strm_tests.specs.Rigs.{AreTwo, rig_costs, rig_puts, rig-costed, rig-frame};
 
     ghost Plain = { List Stock };
 
-    ghost plain = { λ s x. map (λ y. stock_in s y.name y.queue) x.modules.modules.items };
+    ghost plain = { λ s x. map (standing_in (λ t y. y.name) s) x.modules.modules.items };
 
-    ghost IsHeld = { λ s x. AreTwo (λ y. y.queue) s x.modules.modules.items };
+    ghost IsHeld = { λ s x. AreTwo s x.modules.modules.items };
 
     ghost keeps = { λ x. all_of (λ y i. 0) x.modules.modules.items };
 
@@ -245,7 +252,7 @@ impl<B: Blocks> Stations<B> for Rig {
         acts.sent
     }
 
-    ghost frame = { λ s t x same held. rig-frame (λ y. y.name) (λ y. y.queue) s t x.modules.modules.items same held };
+    ghost frame = { λ s t x same held. rig-frame (λ y. y.name) s t x.modules.modules.items same held };
 
     ghost costed = { rig-costed };
 

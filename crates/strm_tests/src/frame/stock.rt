@@ -1,31 +1,31 @@
-//! A module with a write queue. M_DATA that goes down stays there until its service procedure sends it on. It sends each
+//! A module with queues. M_DATA that goes down stays on the write queue until its service procedure sends it on. It sends each
 //! M_FLUSH that comes up down again, and passes all else.
 
 ghost use Rattle.std.specs.Prelude.{◌≡◌};
 ghost use Rattle.std.specs.Prelude.{if◌then◌else◌, [], ◌∷◌};
+ghost use Rattle.strm_types.specs.Queue.{put_enables, put_on};
+ghost use Rattle.strm_blocks.specs.Blocks.{IsInHand, dropped, in_hand, token};
+ghost use Rattle.strm_msg.specs.Messages.{IsChain, message_of};
+ghost use Rattle.strm_queue.specs.Stored.{Changes, FreesBlocks, FreesNone, IsReady, queue_in};
 ghost use Rattle.strm_tests.specs.Toys.{is_flush, onward, stays};
 
 use arrayvec::ArrayVec;
 use strm_blocks::{Blocks, InHand};
-use strm_frame::{Acts, LetGo, Module, Outbox, Sent, Served, TurnEnd, clear_queue, end_queue_turn};
+use strm_frame::{Acts, Module, Outbox, QueuePair, Sent, Served};
 use strm_msg::message_size;
-use strm_queue::Queue;
-use strm_queue::lengths::first_size;
-use strm_queue::standing::{count, dequeue, enqueue, is_full, sizes};
-use strm_types::{Asks, Band, Fates, ModuleName, MsgKind, Note, Rule, Side, Spot, Way};
+use strm_queue::standing::{dequeue, enqueue};
+use strm_types::{Asks, Band, Fates, ModuleName, MsgKind, Note, Spot, Way};
 
-/// Only what stands in the unused places of an array has no queue.
+/// It is set to nothing but its name.
 #[derive(Drop)]
 pub struct Stock {
     pub name: ModuleName,
-    pub queue: Option<Queue>,
 }
 
 impl Default for Stock {
     fn default() -> Stock {
         Stock {
             name: ModuleName::Ptem,
-            queue: None,
         }
     }
 }
@@ -66,28 +66,41 @@ fn stays(kind: MsgKind, way: Way) -> bool
     matches!((kind, way), (MsgKind::Data, Way::Down))
 }
 
+// A message stays on the write queue. It says whether that enables the queue.
+fn keep<B: Blocks>(pair: &mut QueuePair, store: &mut B, message: InHand) -> bool
+    requires ready { IsReady (B.value store.old) pair.old.write }
+    requires in_hand { IsInHand (B.value store.old) (token message) }
+    requires chain { IsChain (in_hand (B.value store.old) (token message)) }
+    ensures read { pair.new.read ≡ pair.old.read }
+    ensures queue { queue_in (B.value store.new) pair.new.write
+        ≡ put_on (message_of (in_hand (B.value store.old) (token message))) (queue_in (B.value store.old) pair.old.write) }
+    ensures enables { result
+        ≡ put_enables (message_of (in_hand (B.value store.old) (token message))) (queue_in (B.value store.old) pair.old.write) }
+    ensures changes { Changes (dropped (B.value store.old) (token message)) (B.value store.new) pair.old.write pair.new.write }
+    ensures frees { FreesBlocks (B.value store.old) (B.value store.new) }
+    ensures blocks { FreesNone (B.value store.old) (B.value store.new) }
+{
+    enqueue(store, &mut pair.write, message)
+}
+
 impl Module for Stock {
     ghost use Rattle.std.specs.Prelude.{refl, false};
-    ghost use Rattle.strm_tests.specs.Toys.{stocks, stock_does, stock_queue, with_stock, stock_asks, stock_serves};
-    ghost use Rattle.strm_tests.specs.ToyLaws.{stock_in, IsStocked, owned, stock-frame, stocks-within, one-call};
+    ghost use Rattle.strm_types.specs.declared.names.ModuleName.{ModuleName};
+    ghost use Rattle.strm_tests.specs.Toys.{stocks, stock_does, stock_asks, stock_serves};
+    ghost use Rattle.strm_tests.specs.ToyLaws.{some-same, stocks-within, one-call};
+    ghost use Rattle.strm_tests.specs.Rigs.{HasQueues};
 
-    ghost Plain = { Rattle.strm_tests.specs.Toys.Stock };
+    ghost Plain = { ModuleName };
 
-    ghost plain = { λ s x. stock_in s x.name x.queue };
+    ghost plain = { λ s x. x.name };
 
-    ghost name_of = { λ p. p.name };
+    ghost name_of = { λ p. p };
 
-    ghost IsHeld = { λ s x. IsStocked s x.queue };
-
-    ghost owns = { λ x. owned x.queue };
+    ghost IsHeld = { λ s x queues. HasQueues s x queues };
 
     ghost keeps = { λ x i. 0 };
 
     ghost puts = { stocks };
-
-    ghost queue_of = { stock_queue };
-
-    ghost with_queue = { with_stock };
 
     ghost line_of = { λ p. [] };
 
@@ -99,7 +112,7 @@ impl Module for Stock {
 
     ghost MayServe = { λ way again p. again ≡ false };
 
-    ghost MayStop = { λ way again bytes p. ⊥ };
+    ghost MayStop = { λ way again bytes x. ⊥ };
 
     ghost turn_cost = { λ here again p. 8 };
 
@@ -111,6 +124,7 @@ impl Module for Stock {
 
     fn put<B: Blocks>(
         &mut self,
+        queues: &mut Option<QueuePair>,
         store: &mut B,
         here: Spot,
         message: InHand,
@@ -119,10 +133,8 @@ impl Module for Stock {
         store.audit();
         let kind = store.kind(&message, 0);
         if stays(kind, here.way) {
-            let Some(queue) = &mut self.queue else {
-                unreachable!()
-            };
-            let enables = enqueue(store, queue, message);
+            let Some(pair) = queues else { unreachable!() };
+            let enables = keep(pair, store, message);
             return Acts {
                 notes: note_if(enables, Note::Enable(Way::Down)),
                 sent: Outbox::none(),
@@ -137,75 +149,24 @@ impl Module for Stock {
         }
     }
 
-    fn has_queue(&self, way: Way) -> bool {
-        match way {
-            Way::Up => false,
-            Way::Down => true,
-        }
-    }
-
-    fn is_full<B: Blocks>(&self, store: &B, way: Way, band: Band) -> bool {
-        match (way, &self.queue) {
-            (Way::Down, Some(queue)) => is_full(store, queue, band),
-            (Way::Down, None) | (Way::Up, _) => false,
-        }
-    }
-
-    fn count<B: Blocks>(&self, store: &B, way: Way, band: Band) -> usize {
-        match (way, &self.queue) {
-            (Way::Down, Some(queue)) => count(store, queue, band),
-            (Way::Down, None) | (Way::Up, _) => 0,
-        }
-    }
-
-    fn sizes<B: Blocks>(&self, store: &B, way: Way) -> (usize, usize) {
-        match (way, &self.queue) {
-            (Way::Down, Some(queue)) => sizes(store, queue),
-            (Way::Down, None) | (Way::Up, _) => (0, 0),
-        }
-    }
-
-    fn first_size<B: Blocks>(&self, store: &B, way: Way) -> usize {
-        match (way, &self.queue) {
-            (Way::Down, Some(queue)) => first_size(store, queue),
-            (Way::Down, None) | (Way::Up, _) => 0,
-        }
-    }
-
-    fn none_waits_up<B: Blocks>(&self, _store: &B) -> bool {
-        true
-    }
-
-    fn line_len(&self) -> usize {
-        0
-    }
-
-    fn let_wait(&mut self, way: Way, band: Band) {
-        match (way, &mut self.queue) {
-            (Way::Down, Some(queue)) => queue.let_wait(band),
-            (Way::Down, None) | (Way::Up, _) => {}
-        }
-    }
-
-    fn asks<B: Blocks>(&self, store: &B, way: Way) -> Asks {
+    fn asks<B: Blocks>(&self, queues: &Option<QueuePair>, store: &B, way: Way) -> Asks {
         store.audit();
-        match (way, &self.queue) {
-            (Way::Down, Some(queue)) if !queue.is_empty(store) => Asks::Room(Band(0)),
+        match (way, queues) {
+            (Way::Down, Some(pair)) if !pair.write.is_empty(store) => Asks::Room(Band(0)),
             (Way::Down | Way::Up, _) => Asks::Empty,
         }
     }
 
     fn serve<B: Blocks>(
         &mut self,
+        queues: &mut Option<QueuePair>,
         store: &mut B,
         here: Spot,
         _again: bool,
         _told: &mut Fates,
     ) -> Served {
-        let Some(queue) = &mut self.queue else {
-            unreachable!()
-        };
-        if queue.is_empty(store) {
+        let Some(pair) = queues else { unreachable!() };
+        if pair.write.is_empty(store) {
             return Served {
                 acts: Acts {
                     notes: ArrayVec::new(),
@@ -216,7 +177,7 @@ impl Module for Stock {
                 again: false,
             };
         }
-        let Some(message) = dequeue(store, queue) else {
+        let Some(message) = dequeue(store, &mut pair.write) else {
             unreachable!()
         };
         store.audit();
@@ -235,48 +196,27 @@ impl Module for Stock {
         }
     }
 
-    fn end_turn<B: Blocks>(&mut self, store: &B, way: Way, took: bool) -> TurnEnd {
-        match (way, &mut self.queue) {
-            (Way::Down, Some(queue)) => end_queue_turn(store, queue, took),
-            (Way::Down, None) | (Way::Up, _) => TurnEnd {
-                room: false,
-                more: false,
-            },
-        }
+    fn line_len(&self) -> usize {
+        0
     }
 
-    fn clear<B: Blocks>(
-        &mut self,
-        store: &mut B,
-        side: Side,
-        rule: Rule,
-        seeking: Option<u32>,
-        told: &mut Fates,
-    ) -> LetGo {
-        let direction = side.direction();
-        let Some(queue) = &mut self.queue else {
-            unreachable!()
-        };
-        let gone = clear_queue(store, queue, seeking, direction, rule, told);
-        LetGo {
-            notes: note_if(gone.room, Note::Room(Way::Down)),
-            met: gone.met,
-        }
+    fn clear_line(&mut self) -> usize {
+        0
     }
 
-    ghost within = { λ here m p. stocks-within here m p };
+    ghost within = { λ here m x. stocks-within here m x };
 
-    ghost frame = { λ s t x same held. stock-frame s t x.name x.queue (λ _. 0) same held };
+    ghost frame = { λ s t x queues others lists same held. (refl, some-same queues others lists held) };
 
-    ghost rests = { λ s x way i held may. refl };
+    ghost rested = { λ s t x queues others lists none held. (refl, some-same queues others lists held) };
+
+    ghost rests = { λ s x queues way i held may. refl };
 
     ghost either_way = { λ way way' p may. may };
 
-    ghost turn_goes = { λ here again stop p may. one-call here p p.queue.messages };
+    ghost turn_goes = { λ here again stop x may. one-call here again stop x };
 
-    ghost put_stays = { λ here m p way again may. may };
-
-    ghost queue_stays = { λ at q p way again may. may };
+    ghost put_stays = { λ here m x way again may. may };
 
     ghost line_stays = { λ p way again may. may };
 }

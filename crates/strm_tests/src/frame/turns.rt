@@ -8,8 +8,8 @@ use super::rig::Rig;
 use std::process::Abort;
 use std::test::Fail;
 use strm_blocks::{Blocks, TableStore};
+use strm_frame::Tables;
 use strm_msg::from_bytes;
-use strm_queue::Table;
 use strm_types::{Band, MsgKind, Place, QueueName, Side, Spot, Turn, Way};
 
 // What is done to the stream.
@@ -46,9 +46,9 @@ fn spot(at: u8, way: Way) -> Spot
 
 // Puts an M_DATA message, where a block is free.
 fn put_data<B: Blocks>(store: &mut B, rig: &mut Rig, to: Spot, bytes: &[u8]) -> bool
-    requires rest { AtRest (λ x. x.queue) (B.value store.old) rig.old.modules.modules.items }
+    requires rest { AtRest (B.value store.old) rig.old.modules.modules.items }
     requires near { to.at ≤ 3 }
-    ensures { AtRest (λ x. x.queue) (B.value store.new) rig.new.modules.modules.items }
+    ensures { AtRest (B.value store.new) rig.new.modules.modules.items }
 {
     let Ok(message) = from_bytes(store, MsgKind::Data, Band(0), bytes) else {
         return false;
@@ -59,9 +59,9 @@ fn put_data<B: Blocks>(store: &mut B, rig: &mut Rig, to: Spot, bytes: &[u8]) -> 
 
 // Puts an M_FLUSH for both queues, FLUSHRW, where a block is free.
 fn put_flush<B: Blocks>(store: &mut B, rig: &mut Rig, to: Spot) -> bool
-    requires rest { AtRest (λ x. x.queue) (B.value store.old) rig.old.modules.modules.items }
+    requires rest { AtRest (B.value store.old) rig.old.modules.modules.items }
     requires near { to.at ≤ 3 }
-    ensures { AtRest (λ x. x.queue) (B.value store.new) rig.new.modules.modules.items }
+    ensures { AtRest (B.value store.new) rig.new.modules.modules.items }
 {
     let Ok(message) = from_bytes(store, MsgKind::Flush, Band(0), b"\x03") else {
         return false;
@@ -72,8 +72,8 @@ fn put_flush<B: Blocks>(store: &mut B, rig: &mut Rig, to: Spot) -> bool
 
 // Does a row's step, and says whether it can be done, and a turn's answer is as wanted.
 fn goes<B: Blocks>(store: &mut B, rig: &mut Rig, row: &Row<'_>) -> bool
-    requires { AtRest (λ x. x.queue) (B.value store.old) rig.old.modules.modules.items }
-    ensures { AtRest (λ x. x.queue) (B.value store.new) rig.new.modules.modules.items }
+    requires { AtRest (B.value store.old) rig.old.modules.modules.items }
+    ensures { AtRest (B.value store.new) rig.new.modules.modules.items }
 {
     match &row.step {
         Step::Data(at, way) => *at <= 3 && put_data(store, rig, spot(*at, *way), row.bytes),
@@ -84,7 +84,7 @@ fn goes<B: Blocks>(store: &mut B, rig: &mut Rig, row: &Row<'_>) -> bool
 
 // Whether all stands as a row says.
 fn stands<B: Blocks>(store: &B, rig: &Rig, row: &Row<'_>) -> bool
-    requires { AtRest (λ x. x.queue) (B.value store.now) rig.now.modules.modules.items }
+    requires { AtRest (B.value store.now) rig.now.modules.modules.items }
 {
     rig.sizes(store) == row.queues
         && rig.enabled.as_slice() == row.enabled
@@ -93,7 +93,7 @@ fn stands<B: Blocks>(store: &B, rig: &Rig, row: &Row<'_>) -> bool
 
 // Does the steps of rows, one after the other, and compares.
 fn play_all<B: Blocks>(rt: &impl Abort, store: &mut B, rig: &mut Rig, rows: &[Row<'_>])
-    requires { AtRest (λ x. x.queue) (B.value store.old) rig.old.modules.modules.items }
+    requires { AtRest (B.value store.old) rig.old.modules.modules.items }
 {
     for at in 0..rows.len() {
         assert!(rt; goes(store, rig, &rows[at]), "row {at}");
@@ -210,7 +210,7 @@ const ROWS: [Row<'static>; 13] = [
 #[test]
 fn a_message_stays_on_a_queue_until_its_turn(rt: HostRuntime) -> Result<(), Fail> {
     let mut store = TableStore::new(rt.alloc(), 20, 20)?;
-    let mut rig = Rig::new(Table::new(rt.alloc())?, Table::new(rt.alloc())?);
+    let mut rig = Rig::new(Tables::new(rt.alloc())?, Tables::new(rt.alloc())?);
     play_all(&rt, &mut store, &mut rig, &ROWS);
     Ok(())
 }

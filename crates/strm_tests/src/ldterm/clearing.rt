@@ -6,8 +6,8 @@ ghost use Rattle.strm_blocks.specs.Blocks.{list_at};
 use std::process::Abort;
 use std::test::Fail;
 use strm_blocks::{Blocks, TableStore};
-use strm_frame::Module;
-use strm_ldterm::{Ldterm, Line, Tables, clear};
+use strm_frame::{QueuePair, Standing, Tables};
+use strm_ldterm::{Ldterm, Line};
 use strm_types::{Band, Fates, Rule, Side, Way};
 
 // A line of three bytes.
@@ -32,15 +32,17 @@ fn line_goes<B: Blocks>(
     requires read { list_at (B.value store.old) 0 ≡ [] }
     requires write { list_at (B.value store.old) 1 ≡ [] }
 {
-    let mut ldterm = Ldterm::new(0, 1, tables);
-    ldterm.line = typed(rt);
-    Module::let_wait(&mut ldterm, Way::Up, Band(0));
-    Module::let_wait(&mut ldterm, Way::Down, Band(0));
-    let popped = clear(&mut ldterm, store, side, Rule::ModulePopped, Some(1), told);
+    let mut module = Ldterm::new();
+    module.line = typed(rt);
+    let queues = Some(QueuePair::new(0, 1, tables));
+    let mut standing = Standing { module, queues };
+    standing.let_wait(Way::Up, Band(0));
+    standing.let_wait(Way::Down, Band(0));
+    let popped = standing.clear(store, side, Rule::ModulePopped, Some(1), told);
     assert!(rt; popped.notes.is_empty());
     assert!(rt; !popped.met);
-    assert_eq!(rt; ldterm.line.len(), 0);
-    let closed = clear(&mut ldterm, store, side, Rule::EndClosed, None, told);
+    assert_eq!(rt; standing.module.line.len(), 0);
+    let closed = standing.clear(store, side, Rule::EndClosed, None, told);
     assert!(rt; closed.notes.is_empty());
 }
 

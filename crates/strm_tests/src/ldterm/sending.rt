@@ -7,8 +7,8 @@ ghost use Rattle.strm_frame.specs.Outboxes.{sent_of, times_sent};
 use std::process::Abort;
 use std::test::Fail;
 use strm_blocks::{Blocks, NoBlocks, TableStore};
-use strm_frame::Outbox;
-use strm_ldterm::{Ldterm, Tables, end_file, end_line, stop};
+use strm_frame::{Outbox, QueuePair, Tables};
+use strm_ldterm::{Ldterm, end_file, end_line, stop};
 use strm_msg::first_bytes;
 use strm_types::{Fates, MsgKind, Side, Spot, Way};
 
@@ -51,7 +51,10 @@ fn sends<B: Blocks>(rt: &impl Abort, store: &mut B, tables: Tables) -> Result<()
         return Err(NoBlocks.into());
     }
     let mut told = Fates::none();
-    let mut ldterm = Ldterm::new(3, 4, tables);
+    let mut ldterm = Ldterm::new();
+    // What a key does is said of the module with the queues that its stream gave it.
+    let queues = QueuePair::new(3, 4, tables);
+    let _ = queues;
     assert!(rt; ldterm.line.has_room());
     ldterm.line.push(b'l');
     let sent = end_line(&mut ldterm, store, HERE, b'\n');

@@ -1,7 +1,8 @@
 -- What one module answers.
 use Rattle.std.proofs.Common.{◌∙◌, sym, ap}
-use Rattle.strm_types.specs.ModuleQueues.{messages_at}
+use Rattle.strm_types.specs.Standings.{messages_at}
 use Rattle.strm_types.specs.Queue.{first_size}
+use Rattle.strm_frame.specs.Standings.{standing_in}
 use Rattle.strm_frame.proofs.Beside.{said-of}
 use Rattle.strm_frame.proofs.room.first_size_among.Goals as goal
 
@@ -11,4 +12,4 @@ returns g c =
     let w = g.M.Module in
     let d = c.index-modules-at.result in
     let xs = c.args.modules.now in
-    c.first_size.ensures ∙ sym (ap first_size (said-of (w.plain s) (messages_at w.queue_of c.args.way) xs c.args.at d d _ c.requires.within c.index-modules-at.is))
+    c.first_size.ensures ∙ sym (ap first_size (said-of (standing_in w.plain s) (messages_at c.args.way) xs c.args.at d d _ c.requires.within c.index-modules-at.is))

@@ -3,11 +3,12 @@ use Rattle.std.specs.Prelude.{None}
 use Rattle.strm_types.specs.ModuleQueues.{last_place}
 use Rattle.strm_blocks.specs.Blocks.{StoreValue}
 use Rattle.strm_frame.specs.Stacks.{IsPlace}
+use Rattle.strm_frame.specs.Standings.{standing_in}
 use Rattle.strm_frame.proofs.room.place_above.Given as goal
 
 abbrev pub invariant-loop-index : goal.invariant-loop-index
 invariant-loop-index g l = record {
   inside : IsPlace (length l.modules) l.last;
-  same : (s : StoreValue) → last_place g.M.Module.queue_of l.way (suc l.index) l.last (drop l.index (take (l.at - 1) (map (g.M.Module.plain s) l.modules)))
-      ≡ last_place g.M.Module.queue_of l.way 1 None (take (l.at - 1) (map (g.M.Module.plain s) l.modules));
+  same : (s : StoreValue) → last_place (suc l.index) l.last (drop l.index (take (l.at - 1) (map (standing_in g.M.Module.plain s) l.modules)))
+      ≡ last_place 1 None (take (l.at - 1) (map (standing_in g.M.Module.plain s) l.modules));
 }

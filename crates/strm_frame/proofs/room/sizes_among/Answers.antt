@@ -1,7 +1,8 @@
 -- What one module answers.
 use Rattle.std.proofs.Common.{◌∙◌, sym, ap, length}
 use Rattle.strm_types.specs.Queue.{bytes_of}
-use Rattle.strm_types.specs.ModuleQueues.{messages_at}
+use Rattle.strm_types.specs.Standings.{messages_at}
+use Rattle.strm_frame.specs.Standings.{standing_in}
 use Rattle.strm_frame.proofs.Beside.{said-of}
 use Rattle.strm_frame.proofs.room.sizes_among.Goals as goal
 
@@ -11,7 +12,7 @@ returns-clause-messages g c =
     let w = g.M.Module in
     let d = c.index-modules-at.result in
     let xs = c.args.modules.now in
-    c.sizes.ensures.messages ∙ sym (ap length (said-of (w.plain s) (messages_at w.queue_of c.args.way) xs c.args.at d d _ c.requires.within c.index-modules-at.is))
+    c.sizes.ensures.messages ∙ sym (ap length (said-of (standing_in w.plain s) (messages_at c.args.way) xs c.args.at d d _ c.requires.within c.index-modules-at.is))
 
 pub returns-clause-bytes : goal.returns-clause-bytes
 returns-clause-bytes g c =
@@ -19,4 +20,4 @@ returns-clause-bytes g c =
     let w = g.M.Module in
     let d = c.index-modules-at.result in
     let xs = c.args.modules.now in
-    c.sizes.ensures.bytes ∙ sym (ap bytes_of (said-of (w.plain s) (messages_at w.queue_of c.args.way) xs c.args.at d d _ c.requires.within c.index-modules-at.is))
+    c.sizes.ensures.bytes ∙ sym (ap bytes_of (said-of (standing_in w.plain s) (messages_at c.args.way) xs c.args.at d d _ c.requires.within c.index-modules-at.is))

@@ -1,7 +1,8 @@
 -- What one module answers.
 use Rattle.std.proofs.Common.{◌≤◌, ◌∙◌, sym, subst}
-use Rattle.strm_types.specs.ModuleQueues.{messages_at}
+use Rattle.strm_types.specs.Standings.{messages_at}
 use Rattle.strm_types.specs.Queue.{first_size}
+use Rattle.strm_frame.specs.Standings.{standing_in}
 use Rattle.strm_frame.proofs.Beside.{said-of}
 use Rattle.strm_frame.proofs.serving.asks_among.Goals as goal
 
@@ -11,7 +12,7 @@ returns-clause-asks g c =
     let w = g.M.Module in
     let d = c.index-modules-at.result in
     let xs = c.args.modules.now in
-    c.asks.ensures.asks ∙ sym (said-of (w.plain s) (w.asks c.args.way) xs c.args.at d d _ c.requires.within c.index-modules-at.is)
+    c.asks.ensures.asks ∙ sym (said-of (standing_in w.plain s) (w.asks c.args.way) xs c.args.at d d _ c.requires.within c.index-modules-at.is)
 
 pub returns-clause-few : goal.returns-clause-few
 returns-clause-few g c =
@@ -19,4 +20,4 @@ returns-clause-few g c =
     let w = g.M.Module in
     let d = c.index-modules-at.result in
     let xs = c.args.modules.now in
-    subst (λ n. n ≤ 16777216) (sym (said-of (w.plain s) (λ p. first_size (messages_at w.queue_of c.args.way p)) xs c.args.at d d 0 c.requires.within c.index-modules-at.is)) c.asks.ensures.few
+    subst (λ n. n ≤ 16777216) (sym (said-of (standing_in w.plain s) (λ p. first_size (messages_at c.args.way p)) xs c.args.at d d 0 c.requires.within c.index-modules-at.is)) c.asks.ensures.few

@@ -1,7 +1,8 @@
 -- One module changes, and the others stay.
 use Rattle.std.proofs.Common.{◌∙◌, sym, refl, get_or}
-use Rattle.strm_types.specs.ModuleQueues.{queue_changed}
+use Rattle.strm_types.specs.Standings.{queue_changed}
 use Rattle.strm_types.specs.Service.{turn_ended, end_relieves, has_more}
+use Rattle.strm_frame.specs.Standings.{standing_in, Fits, owns, keeps_of}
 use Rattle.strm_frame.proofs.Beside.{said-of, change-plain, change-held, set-same}
 use Rattle.strm_frame.proofs.serving.end_turn_among.Goals as goal
 
@@ -17,10 +18,10 @@ returns-clause-does g c =
     let way = c.args.way in
     let e = c.end_turn.ensures in
     record {
-      state = change-plain (queue_changed w.queue_of w.with_queue way (turn_ended c.args.took)) (w.plain s) xs i x d y c.requires.within refl e.state;
-      room = e.room ∙ sym (said-of (w.plain s) (end_relieves w.queue_of c.args.took way) xs i x d _ c.requires.within refl);
-      more = e.more ∙ sym (said-of (w.plain s) (has_more w.queue_of way) xs i x d _ c.requires.within refl);
-      held = change-held w.IsHeld w.owns s xs i x d y c.requires.within refl e.owns_same c.requires.held e.held;
-      owns_same = set-same w.owns xs i x d y c.requires.within refl e.owns_same;
-      keeps_same = set-same w.keeps xs i x d y c.requires.within refl e.keeps_same;
+      state = change-plain (queue_changed way (turn_ended c.args.took)) (standing_in w.plain s) xs i x d y c.requires.within refl e.state;
+      room = e.room ∙ sym (said-of (standing_in w.plain s) (end_relieves c.args.took way) xs i x d _ c.requires.within refl);
+      more = e.more ∙ sym (said-of (standing_in w.plain s) (has_more way) xs i x d _ c.requires.within refl);
+      held = change-held (Fits w.IsHeld) owns s xs i x d y c.requires.within refl e.owns_same c.requires.held e.held;
+      owns_same = set-same owns xs i x d y c.requires.within refl e.owns_same;
+      keeps_same = set-same (keeps_of w.keeps) xs i x d y c.requires.within refl e.keeps_same;
     }

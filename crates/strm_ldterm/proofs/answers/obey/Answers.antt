@@ -12,20 +12,20 @@ use Rattle.strm_frame.proofs.Asked.{acked-plain}
 use Rattle.strm_frame.proofs.Behind.{first-tell, termios_read}
 use Rattle.strm_frame.proofs.Handing.{can-in_hand}
 use Rattle.strm_ldterm.specs.Does.{Puts}
-use Rattle.strm_ldterm.specs.Stands.{ldterm_in}
+use Rattle.strm_ldterm.specs.Stands.{ldterm_in, paired}
 use Rattle.strm_ldterm.proofs.answers.obey.Goals as goal
 use Rattle.strm_blocks.specs.Blocks.{token}
 
 pub returns-then-not-sets_termios : goal.returns-then-not-sets_termios
 returns-then-not-sets_termios g c =
     let s = g.B.Blocks.value c.args.store.now in
-    let x = c.args.ldterm.now in
+    let x = (paired c.args.ldterm.now c.args.queues.now) in
     let i = token c.args.message in
     let here = c.args.here in
     let m = message_in s i in
     let p = ldterm_in s x in
     let f = c.args.told.now in
-    subst (λ (b : Bool). Puts s s x x i (own_at ldterm_does here m) c.go_on.result f f (cond b (told_termios here c.args.ioc (read_termios (payload m.plain)) m p) (goes_on here m p))) (sym c.if-not-sets_termios.true ∙ c.sets_termios.ensures) (c.go_on.ensures f)
+    subst (λ (b : Bool). Puts s s x x i (own_at ldterm_does here m) c.go_on.result f f (cond b (told_termios here c.args.ioc (read_termios (payload m.plain)) m p) (goes_on here m p))) (sym c.if-not-sets_termios.true ∙ c.sets_termios.ensures) (c.go_on.ensures s x f c.requires.held c.requires.chain)
 
 pub payload_of-given-requires-clause-in_hand : goal.payload_of-given-requires-clause-in_hand
 payload_of-given-requires-clause-in_hand g c = can-in_hand _ _ _ c.audit.ensures c.requires.can_put
@@ -36,7 +36,7 @@ payload_of-given-requires-clause-kind g c = acked-plain (g.B.Blocks.value c.args
 pub returns-in_default : goal.returns-in_default
 returns-in_default g c =
     let s = g.B.Blocks.value c.args.store.now in
-    let x = c.args.ldterm.now in
+    let x = (paired c.args.ldterm.now c.args.queues.now) in
     let i = token c.args.message in
     let here = c.args.here in
     let m = message_in s i in
@@ -47,14 +47,14 @@ returns-in_default g c =
     let none : read_termios given ≡ None = sym said ∙ c.in_default.is in
     let acts = c.go_on-in_default.result in
     subst (λ (b : Bool). Puts s s x x i (own_at ldterm_does here m) acts f f (cond b (told_termios here c.args.ioc (read_termios given) m p) (goes_on here m p))) (sym c.if-not-sets_termios.false ∙ c.sets_termios.ensures)
-    (subst (λ (o : Option Termios). Puts s s x x i (own_at ldterm_does here m) acts f f (told_termios here c.args.ioc o m p)) (sym none) (c.go_on-in_default.ensures f))
+    (subst (λ (o : Option Termios). Puts s s x x i (own_at ldterm_does here m) acts f f (told_termios here c.args.ioc o m p)) (sym none) (c.go_on-in_default.ensures s x f c.requires.held c.requires.chain))
 
 pub returns : goal.returns
 returns g c =
     let s = g.B.Blocks.value c.args.store.now in
     let t = g.B.Blocks.value c.take_up.new.store in
-    let x = c.args.ldterm.now in
-    let y = c.take_up.new.ldterm in
+    let x = (paired c.args.ldterm.now c.args.queues.now) in
+    let y = (paired c.take_up.new.ldterm c.take_up.new.queues) in
     let i = token c.args.message in
     let here = c.args.here in
     let m = message_in s i in

@@ -11,7 +11,7 @@ use Rattle.strm_frame.specs.Outboxes.{message_in}
 use Rattle.strm_frame.proofs.Asked.{acked-is, acked-not, acked-plain}
 use Rattle.strm_frame.proofs.Handing.{can-in_hand}
 use Rattle.strm_ldterm.specs.Does.{Puts}
-use Rattle.strm_ldterm.specs.Stands.{ldterm_in}
+use Rattle.strm_ldterm.specs.Stands.{ldterm_in, paired}
 use Rattle.strm_types.proofs.LdtermWithin.{acked-own}
 use Rattle.strm_ldterm.proofs.answers.pass_up.Goals as goal
 use Rattle.strm_blocks.specs.Blocks.{token}
@@ -19,14 +19,14 @@ use Rattle.strm_blocks.specs.Blocks.{token}
 pub returns-then-not-is_iocack : goal.returns-then-not-is_iocack
 returns-then-not-is_iocack g c =
     let s = g.B.Blocks.value c.args.store.now in
-    let x = c.args.ldterm.now in
+    let x = (paired c.args.ldterm.now c.args.queues.now) in
     let i = token c.args.message in
     let here = c.args.here in
     let m = message_in s i in
     let p = ldterm_in s x in
     let f = c.args.told.now in
     let other : is_acked m ≡ false = acked-not s i c.args.kind c.requires.kind (sym c.is_iocack.ensures ∙ c.if-not-is_iocack.true) in
-    subst (λ (b : Bool). Puts s s x x i (own_at ldterm_does here m) c.go_on.result f f (cond b (told_by_header here (read_ioc m.plain) m p) (goes_on here m p))) (sym other) (c.go_on.ensures f)
+    subst (λ (b : Bool). Puts s s x x i (own_at ldterm_does here m) c.go_on.result f f (cond b (told_by_header here (read_ioc m.plain) m p) (goes_on here m p))) (sym other) (c.go_on.ensures s x f c.requires.held c.requires.chain)
 
 pub header_of-requires-clause-in_hand : goal.header_of-requires-clause-in_hand
 header_of-requires-clause-in_hand g c = can-in_hand _ _ _ c.audit.ensures c.requires.can_put
@@ -40,7 +40,7 @@ header_of-requires-clause-kind g c =
 pub returns-in_default : goal.returns-in_default
 returns-in_default g c =
     let s = g.B.Blocks.value c.args.store.now in
-    let x = c.args.ldterm.now in
+    let x = (paired c.args.ldterm.now c.args.queues.now) in
     let i = token c.args.message in
     let here = c.args.here in
     let m = message_in s i in
@@ -50,7 +50,7 @@ returns-in_default g c =
     let none : read_ioc m.plain ≡ None = sym c.header_of.ensures ∙ c.in_default.is in
     let acts = c.go_on-in_default.result in
     subst (λ (b : Bool). Puts s s x x i (own_at ldterm_does here m) acts f f (cond b (told_by_header here (read_ioc m.plain) m p) (goes_on here m p))) (sym acked)
-    (subst (λ (o : Option Ioc). Puts s s x x i (own_at ldterm_does here m) acts f f (told_by_header here o m p)) (sym none) (c.go_on-in_default.ensures f))
+    (subst (λ (o : Option Ioc). Puts s s x x i (own_at ldterm_does here m) acts f f (told_by_header here o m p)) (sym none) (c.go_on-in_default.ensures s x f c.requires.held c.requires.chain))
 
 pub obey-requires-clause-acked : goal.obey-requires-clause-acked
 obey-requires-clause-acked g c =
@@ -68,8 +68,8 @@ pub returns : goal.returns
 returns g c =
     let s = g.B.Blocks.value c.args.store.now in
     let t = g.B.Blocks.value c.obey.new.store in
-    let x = c.args.ldterm.now in
-    let y = c.obey.new.ldterm in
+    let x = (paired c.args.ldterm.now c.args.queues.now) in
+    let y = (paired c.obey.new.ldterm c.obey.new.queues) in
     let i = token c.args.message in
     let here = c.args.here in
     let m = message_in s i in

@@ -1,12 +1,12 @@
 -- The line goes up, or there is none to go.
 use Rattle.std.proofs.Common.{ℕ, ◌≡◌, List, [], ◌∷◌, ◌++◌, refl, sym, ap, subst, ◌∙◌, append-nil}
 use Rattle.strm_types.specs.declared.names.Way.TheVariants.{Up}
-use Rattle.strm_types.specs.Deliver.{toward}
-use Rattle.strm_types.specs.Ldterms.{onward, sends}
+use Rattle.strm_types.specs.Deliver.{toward, onward}
+use Rattle.strm_types.specs.Ldterms.{sends}
 use Rattle.strm_types.specs.Message.{data_message}
 use Rattle.strm_frame.specs.declared.parcels.Sent.{Sent}
 use Rattle.strm_ldterm.specs.Sending.{MadeOne}
-use Rattle.strm_ldterm.specs.Stands.{ldterm_in}
+use Rattle.strm_ldterm.specs.Stands.{ldterm_in, paired}
 use Rattle.strm_ldterm.proofs.Sends.{sends-made}
 use Rattle.strm_ldterm.proofs.TakingUp.{held-set, line-none, line-sent, termios-none}
 use Rattle.strm_ldterm.proofs.answers.set_termios.Goals as goal
@@ -14,19 +14,19 @@ use Rattle.strm_ldterm.proofs.answers.set_termios.Goals.{then-not-ends-via-then-
 use Rattle.strm_blocks.specs.Blocks.{token}
 
 pub returns-then-not-ends : goal.returns-then-not-ends
-returns-then-not-ends g c = λ f.
+returns-then-not-ends g c = λ q f held kept.
     let s = g.B.Blocks.value c.args.store.now in
-    let x = c.args.ldterm.now in
+    let x = (paired c.args.ldterm.now q) in
     elim c.then-not-ends.branch [
-      | then-not-ends-via-then-not-ends w ↦ termios-none s x c.args.here c.args.termios f c.requires.held (sym c.ends_lines-ends.ensures ∙ w.if-not-ends.true)
-      | then-not-ends-via-else-not-ends+then-len-eq0 w ↦ line-none s x c.args.here c.args.termios f c.requires.held (sym w.len.ensures.value ∙ w.if-len-eq0.true)
+      | then-not-ends-via-then-not-ends w ↦ termios-none s x c.args.here c.args.termios f held (sym c.ends_lines-ends.ensures ∙ w.if-not-ends.true)
+      | then-not-ends-via-else-not-ends+then-len-eq0 w ↦ line-none s x c.args.here c.args.termios f held (sym w.len.ensures.value ∙ w.if-len-eq0.true)
     ]
 
 pub returns : goal.returns
-returns g c = λ f.
+returns g c = λ q f held kept.
     let s = g.B.Blocks.value c.args.store.now in
     let t = g.B.Blocks.value c.make_line-message.new.store in
-    let x = c.args.ldterm.now in
+    let x = (paired c.args.ldterm.now q) in
     let p = ldterm_in s x in
     let y = record x { termios = c.args.termios; line = c.clear.new.self } in
     let z : Sent = record { to = c.toward.result; message = c.make_line-message.result } in
@@ -34,5 +34,5 @@ returns g c = λ f.
     let made : MadeOne s t (token z.message) (data_message x.line) = subst (λ (l : List ℕ). MadeOne s t (token z.message) (data_message l)) line c.make_line-message.ensures in
     line-sent s t x y z c.args.here c.args.termios f (sym c.ends_lines-ends.ensures ∙ c.if-not-ends.false) (λ none. c.if-len-eq0.false (c.len.ensures.value ∙ none))
     (sends-made s t x y z (z ∷ []) f f (data_message x.line) (toward Up c.args.here) (sends (onward Up c.args.here (data_message p.line) ∷ []) (record p { termios = c.args.termios; line = [] }))
-    (held-set s x c.args.termios c.clear.new.self c.requires.held) c.requires.kept (λ k. refl) (λ i. refl) made refl c.toward.ensures
+    (held-set s x c.args.termios c.clear.new.self held) kept (λ k. refl) (λ i. refl) made refl c.toward.ensures
     (ap (λ (l : List ℕ). record p { termios = c.args.termios; line = l }) c.clear.ensures.line) refl refl refl)

@@ -7,45 +7,32 @@ use Rattle.strm_types.specs.declared.spots.Note.{Note}
 use Rattle.strm_types.specs.declared.spots.Note.TheVariants.{Room}
 use Rattle.strm_types.specs.Budgets.{own_at}
 use Rattle.strm_types.specs.Tables.{ldterm_does}
-use Rattle.strm_types.specs.Ldterms.{onward, sends}
+use Rattle.strm_types.specs.Deliver.{onward}
+use Rattle.strm_types.specs.Ldterms.{sends}
 use Rattle.strm_types.specs.Options.{mode_number}
 use Rattle.strm_types.specs.TakenUp.{read_mode_of}
 use Rattle.strm_types.specs.Typing.{bare}
 use Rattle.strm_frame.specs.declared.parcels.Sent.{Sent}
 use Rattle.strm_frame.specs.Outboxes.{message_in}
 use Rattle.strm_ldterm.specs.Does.{Proceeds}
-use Rattle.strm_ldterm.specs.Stands.{ldterm_in}
+use Rattle.strm_ldterm.specs.Stands.{ldterm_in, paired}
 use Rattle.strm_ldterm.specs.TakingUp.{flush_takes, line_takes}
 use Rattle.strm_types.proofs.LdtermWithin.{acked-own}
 use Rattle.strm_ldterm.proofs.TakingUp.{can-kept, mode-plain, noted-kept, noted-room, room-left, takes-up}
 use Rattle.strm_ldterm.proofs.answers.take_up.Goals as goal
 use Rattle.strm_blocks.specs.Blocks.{token}
 
-pub send_up-mode-requires-clause-held : goal.send_up-mode-requires-clause-held
-send_up-mode-requires-clause-held g c = (c.set_termios-line.ensures c.args.told.now).held
-
-pub send_up-mode-requires-clause-kept : goal.send_up-mode-requires-clause-kept
-send_up-mode-requires-clause-kept g c =
-    let s = g.B.Blocks.value c.args.store.now in
-    let t = g.B.Blocks.value c.flush_input-room.new.store in
-    let u = g.B.Blocks.value c.set_termios-line.new.store in
-    let x = c.args.ldterm.now in
-    let y = c.flush_input-room.new.ldterm in
-    let z = c.set_termios-line.new.ldterm in
-    let f = c.args.told.now in
-    let kept = noted-kept s t x y (flush_takes c.args.set.0) (cond {A = List Note} c.flush_input-room.result.0 (Room Up ∷ []) []) (option_to_list c.flush_input-room.result.1) f c.flush_input-room.new.told _ (can-kept s x (token c.args.message) c.requires.can_put) c.flush_input-room.ensures in
-    noted-kept t u y z (line_takes y.line) [] (option_to_list c.set_termios-line.result) f f _ kept (c.set_termios-line.ensures f)
-
 pub send_up-mode-requires-clause-room : goal.send_up-mode-requires-clause-room
 send_up-mode-requires-clause-room g c =
     let s = g.B.Blocks.value c.args.store.now in
     let t = g.B.Blocks.value c.flush_input-room.new.store in
     let u = g.B.Blocks.value c.set_termios-line.new.store in
-    let x = c.args.ldterm.now in
-    let y = c.flush_input-room.new.ldterm in
-    let z = c.set_termios-line.new.ldterm in
+    let x = (paired c.args.ldterm.now c.args.queues.now) in
+    let y = (paired c.flush_input-room.new.ldterm c.flush_input-room.new.queues) in
+    let z = (paired c.set_termios-line.new.ldterm c.flush_input-room.new.queues) in
     let f = c.args.told.now in
-    noted-room t u y z (line_takes y.line) 1 [] (option_to_list c.set_termios-line.result) f f _ (c.set_termios-line.ensures f)
+    let kept = noted-kept s t x y (flush_takes c.args.set.0) (cond {A = List Note} c.flush_input-room.result.0 (Room Up ∷ []) []) (option_to_list c.flush_input-room.result.1) f c.flush_input-room.new.told _ (can-kept s x (token c.args.message) c.requires.can_put) c.flush_input-room.ensures in
+    noted-room t u y z (line_takes y.line) 1 [] (option_to_list c.set_termios-line.result) f f _ (c.set_termios-line.ensures c.flush_input-room.new.queues f c.flush_input-room.ensures.held kept)
     (room-left s t x y c.args.here c.args.set.0 (cond {A = List Note} c.flush_input-room.result.0 (Room Up ∷ []) []) (option_to_list c.flush_input-room.result.1) f c.flush_input-room.new.told c.flush_input-room.ensures c.requires.room)
 
 pub send_up-mode-requires-clause-kind : goal.send_up-mode-requires-clause-kind
@@ -57,16 +44,20 @@ returns g c =
     let t = g.B.Blocks.value c.flush_input-room.new.store in
     let u = g.B.Blocks.value c.set_termios-line.new.store in
     let v = g.B.Blocks.value c.send_up-mode.new.store in
-    let x = c.args.ldterm.now in
-    let y = c.flush_input-room.new.ldterm in
-    let z = c.set_termios-line.new.ldterm in
+    let x = (paired c.args.ldterm.now c.args.queues.now) in
+    let y = (paired c.flush_input-room.new.ldterm c.flush_input-room.new.queues) in
+    let z = (paired c.set_termios-line.new.ldterm c.flush_input-room.new.queues) in
     let here = c.args.here in
     let termios = c.args.set.1 in
+    let f = c.args.told.now in
     let f1 = c.flush_input-room.new.told in
+    let kept = noted-kept s t x y (flush_takes c.args.set.0) (cond {A = List Note} c.flush_input-room.result.0 (Room Up ∷ []) []) (option_to_list c.flush_input-room.result.1) f c.flush_input-room.new.told _ (can-kept s x (token c.args.message) c.requires.can_put) c.flush_input-room.ensures in
+    let set = c.set_termios-line.ensures c.flush_input-room.new.queues f1 c.flush_input-room.ensures.held kept in
+    let kept' = noted-kept t u y z (line_takes y.line) [] (option_to_list c.set_termios-line.result) f1 f1 _ kept set in
     let m = message_in s (token c.args.message) in
     let last : Sent = record { to = c.toward.result; message = c.args.message } in
     let mode = c.send_up-mode.result in
-    let told = subst (λ (bytes : List ℕ). Proceeds u v z z 1 [] (mode ∷ []) f1 f1 (sends (onward Up here (bare Setopts bytes) ∷ []) (ldterm_in u z))) (ap (λ n. n ∷ c.tostop_of.result ∷ []) c.mode_of.ensures ∙ ap (λ n. mode_number (read_mode_of termios) ∷ n ∷ []) c.tostop_of.ensures) (c.send_up-mode.ensures f1) in
+    let told = subst (λ (bytes : List ℕ). Proceeds u v z z 1 [] (mode ∷ []) f1 f1 (sends (onward Up here (bare Setopts bytes) ∷ []) (ldterm_in u z))) (ap (λ n. n ∷ c.tostop_of.result ∷ []) c.mode_of.ensures ∙ ap (λ n. mode_number (read_mode_of termios) ∷ n ∷ []) c.tostop_of.ensures) (c.send_up-mode.ensures.does z f1 set.held kept') in
     takes-up s t u v x y z here c.args.set.0 (own_at ldterm_does here m) termios (cond {A = List Note} c.flush_input-room.result.0 (Room Up ∷ []) []) (option_to_list c.flush_input-room.result.1) (option_to_list c.set_termios-line.result) mode last _ c.args.told.now f1
-    c.audit.ensures c.audit-2.ensures c.audit-3.ensures c.requires.can_put c.requires.chain c.toward.ensures c.flush_input-room.ensures (c.set_termios-line.ensures f1) told c.note_if.ensures refl
+    c.audit.ensures c.audit-2.ensures c.audit-3.ensures c.requires.can_put c.requires.chain c.toward.ensures c.flush_input-room.ensures set told c.note_if.ensures refl
     (omega (arith, acked-own here m c.requires.up c.requires.acked))

@@ -2,7 +2,7 @@
 use Rattle.std.proofs.Common.{sym, ap, subst, ◌∙◌, ◌≡◌, ◌<◌, length}
 use Rattle.std.specs.Prelude.{Some}
 use Rattle.strm_frame.proofs.Handing.{can-in_hand}
-use Rattle.strm_ldterm.specs.Stands.{ldterm_in}
+use Rattle.strm_ldterm.specs.Stands.{ldterm_in, paired}
 use Rattle.strm_ldterm.specs.Does.{Alters}
 use Rattle.strm_ldterm.proofs.Finished.{work-cells, work-can}
 use Rattle.strm_ldterm.proofs.Freeing.{none-freed}
@@ -13,13 +13,13 @@ pub return_rest-requires-clause-in_hand : goal.return_rest-requires-clause-in_ha
 return_rest-requires-clause-in_hand g c =
     let s = g.B.Blocks.value c.args.store.now in
     let there : c.args.ldterm.now.in_work ≡ Some c.in-Some.message = sym c.take.ensures.value ∙ c.in-Some.is in
-    can-in_hand s _ _ c.audit.ensures (work-can s c.args.ldterm.now c.in-Some.message there c.requires.kept)
+    can-in_hand s _ _ c.audit.ensures (work-can s (paired c.args.ldterm.now c.args.queues.now) c.in-Some.message there c.requires.kept)
 
 pub returns-clause-state : goal.returns-clause-state
 returns-clause-state g c =
     let s = g.B.Blocks.value c.args.store.now in
     let t = g.B.Blocks.value c.return_rest.new.store in
-    let x = c.args.ldterm.now in
+    let x = (paired c.args.ldterm.now c.args.queues.now) in
     let there : x.in_work ≡ Some c.in-Some.message = sym c.take.ensures.value ∙ c.in-Some.is in
     ap (λ o. ldterm_in t (record x { in_work = o; read_queue = c.return_rest.new.queue })) c.take.ensures.after
     ∙ read-returned s x c.in-Some.message there c.audit.ensures c.requires.held c.requires.kept t c.return_rest.new.queue c.return_rest.ensures.changes c.return_rest.ensures.queue
@@ -28,7 +28,7 @@ pub returns-clause-alters : goal.returns-clause-alters
 returns-clause-alters g c =
     let s = g.B.Blocks.value c.args.store.now in
     let t = g.B.Blocks.value c.return_rest.new.store in
-    let x = c.args.ldterm.now in
+    let x = (paired c.args.ldterm.now c.args.queues.now) in
     let there : x.in_work ≡ Some c.in-Some.message = sym c.take.ensures.value ∙ c.in-Some.is in
     subst (λ o. Alters s t x (record x { in_work = o; read_queue = c.return_rest.new.queue })) (sym c.take.ensures.after)
     (read-returned-alters s x c.in-Some.message there c.audit.ensures c.requires.held c.requires.kept t c.return_rest.new.queue c.return_rest.ensures.changes c.return_rest.ensures.frees)
@@ -39,4 +39,4 @@ returns-in_default-clause-blocks g c = λ left. none-freed (g.B.Blocks.value c.a
 pub returns-clause-blocks : goal.returns-clause-blocks
 returns-clause-blocks g c = λ left.
     let there : c.args.ldterm.now.in_work ≡ Some c.in-Some.message = sym c.take.ensures.value ∙ c.in-Some.is in
-    c.return_rest.ensures.blocks (subst (λ l. 0 < length l) (work-cells (g.B.Blocks.value c.args.store.now) c.args.ldterm.now c.in-Some.message there) left)
+    c.return_rest.ensures.blocks (subst (λ l. 0 < length l) (work-cells (g.B.Blocks.value c.args.store.now) (paired c.args.ldterm.now c.args.queues.now) c.in-Some.message there) left)

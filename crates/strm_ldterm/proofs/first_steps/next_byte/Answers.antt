@@ -1,15 +1,14 @@
 -- The message in work has a byte less.
-use Rattle.std.proofs.Common.{ℕ, ◌≡◌, [], drop, sym, subst, ◌∙◌}
-use Rattle.std.specs.Prelude.{Some}
+use Rattle.std.proofs.Common.{ℕ, ◌≡◌, [], drop, sym, subst, ◌∙◌, arith}
+use Rattle.std.specs.Prelude.{IfSome, Some}
 use Rattle.strm_types.specs.Input.{cells_left, left_of, with_left}
 use Rattle.strm_types.specs.Ldterms as ldterms
 use Rattle.strm_types.specs.Ldterms.{sends}
 use Rattle.strm_types.specs.Message.{cells_of}
 use Rattle.strm_frame.specs.Outboxes.{message_in}
-use Rattle.strm_frame.proofs.Handing.{can-in_hand}
-use Rattle.strm_ldterm.specs.Stands.{ldterm_in}
+use Rattle.strm_ldterm.specs.Stands.{ldterm_in, IsData, paired}
 use Rattle.strm_ldterm.specs.Does.{Proceeds}
-use Rattle.strm_ldterm.proofs.Finished.{work-can}
+use Rattle.strm_ldterm.proofs.Beside.{chain-in-hand}
 use Rattle.strm_ldterm.proofs.Begun.{work-comes, idle-proceeds, busy-left, busy-byte}
 use Rattle.strm_ldterm.proofs.first_steps.next_byte.Goals as goal
 use Rattle.strm_blocks.specs.Blocks.{token}
@@ -18,31 +17,35 @@ pub take_byte-byte-requires-clause-in_hand : goal.take_byte-byte-requires-clause
 take_byte-byte-requires-clause-in_hand g c =
     let s = g.B.Blocks.value c.args.store.now in
     let there : c.args.ldterm.now.in_work ≡ Some c.in-Some.message = sym c.take.ensures.value ∙ c.in-Some.is in
-    can-in_hand s _ _ c.audit.ensures (work-can s c.args.ldterm.now c.in-Some.message there c.requires.kept)
+    let is : IsData s (token c.in-Some.message) = subst (λ o. IfSome o (λ m. IsData s (token m))) there c.requires.is in
+    chain-in-hand s (token c.in-Some.message) c.audit.ensures is.chain.some
 
 pub returns-in_default-clause-did : goal.returns-in_default-clause-did
-returns-in_default-clause-did g c = λ f.
+returns-in_default-clause-did g c = λ q f held kept.
     let s = g.B.Blocks.value c.args.store.now in
-    let x = c.args.ldterm.now in
+    let x = (paired c.args.ldterm.now q) in
     let p = ldterm_in s x in
     subst (λ o. Proceeds s s x (record x { in_work = o }) 0 [] [] f f (sends [] (with_left (drop 1 (cells_left p)) p))) (sym c.take.ensures.after)
-    (idle-proceeds s x (sym c.take.ensures.value ∙ c.in_default.is) f c.requires.held (drop 1 (cells_left p)))
+    (idle-proceeds s x (sym c.take.ensures.value ∙ c.in_default.is) f held (drop 1 (cells_left p)))
 
 pub returns-clause-did : goal.returns-clause-did
-returns-clause-did g c = λ f.
+returns-clause-did g c = λ q f held kept.
     let s = g.B.Blocks.value c.args.store.now in
     let t = g.B.Blocks.value c.take_byte-byte.new.store in
-    let x = c.args.ldterm.now in
+    let x = (paired c.args.ldterm.now q) in
     let m = c.in-Some.message in
     let r = c.take_byte-byte.result.0 in
     let there : x.in_work ≡ Some m = sym c.take.ensures.value ∙ c.in-Some.is in
     let w = message_in s (token m) in
-    subst (λ (q : ldterms.Ldterm ℕ). Proceeds s t x (record x { in_work = Some r }) 0 [] [] f f (sends [] q)) (sym (busy-left s x m there 1))
-    (work-comes s t x m r (left_of (drop 1 (cells_of w)) w) there c.audit-2.ensures c.requires.held c.requires.kept c.take_byte-byte.ensures.became f)
+    subst (λ (p : ldterms.Discipline ℕ). Proceeds s t x (record x { in_work = Some r }) 0 [] [] f f (sends [] p)) (sym (busy-left s x m there 1))
+    (work-comes s t x m r (left_of (drop 1 (cells_of w)) w) there c.audit-2.ensures held kept c.take_byte-byte.ensures.became f)
 
 pub returns-clause-byte : goal.returns-clause-byte
-returns-clause-byte g c =
+returns-clause-byte g c = λ q held.
     let s = g.B.Blocks.value c.args.store.now in
-    let x = c.args.ldterm.now in
+    let x = (paired c.args.ldterm.now q) in
     let there : x.in_work ≡ Some c.in-Some.message = sym c.take.ensures.value ∙ c.in-Some.is in
-    busy-byte s x c.in-Some.message there c.take_byte-byte.result.1 c.requires.held c.take_byte-byte.ensures.byte
+    busy-byte s x c.in-Some.message there c.take_byte-byte.result.1 held c.take_byte-byte.ensures.byte
+
+pub returns-clause-frees : goal.returns-clause-frees
+returns-clause-frees g c = let shifts = c.take_byte-byte.ensures.became.hands in record { mblks = omega (arith, shifts.mblks); dblks = omega (arith, shifts.dblks) }

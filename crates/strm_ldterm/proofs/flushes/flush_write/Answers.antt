@@ -9,6 +9,7 @@ use Rattle.strm_types.specs.Deliver.{Goes, counted_with}
 use Rattle.strm_types.specs.declared.rules.Rule.TheVariants.{Flushed}
 use Rattle.strm_types.specs.Emptied.{of_data, cells_gone}
 use Rattle.strm_queue.specs.Stored.{messages_on}
+use Rattle.strm_ldterm.specs.Stands.{paired}
 use Rattle.strm_ldterm.proofs.Beside.{held-quieter}
 use Rattle.strm_ldterm.proofs.Flushed.{flushes-down, write-after}
 use Rattle.strm_ldterm.proofs.flushes.flush_write.Goals as goal
@@ -24,7 +25,7 @@ not-true false is = refl
 pub returns : goal.returns
 returns g c =
     let s = g.B.Blocks.value c.args.store.now in
-    let x = c.args.ldterm.now in
+    let x = (paired c.args.ldterm.now c.args.queues.now) in
     let b = c.flush_queue in
     let e = b.ensures in
     let t = g.B.Blocks.value b.new.store in

@@ -6,14 +6,14 @@ use Rattle.strm_types.specs.Cells.{plain}
 use Rattle.strm_types.specs.Ldterms.{sends}
 use Rattle.strm_types.specs.Lines.{edited, is_blank, Types}
 use Rattle.strm_types.specs.Typing.{dropped, lost}
-use Rattle.strm_ldterm.specs.Stands.{ldterm_in}
+use Rattle.strm_ldterm.specs.Stands.{ldterm_in, paired}
 use Rattle.strm_ldterm.specs.Does.{Proceeds}
 use Rattle.strm_ldterm.proofs.Strikes.{added-room, added-full, added-over, line-proceeds}
 use Rattle.strm_ldterm.proofs.line_keys.add_to_line.Goals as goal
 
 pub returns-then-has_room : goal.returns-then-has_room
-returns-then-has_room c = λ s held.
-    let x = c.args.ldterm.now in
+returns-then-has_room c = λ s q held.
+    let x = (paired c.args.ldterm.now q) in
     let p = ldterm_in s x in
     let b = c.args.byte in
     let f = c.args.told.now in
@@ -22,8 +22,8 @@ returns-then-has_room c = λ s held.
     (line-proceeds s x c.push.new.self (edited is_blank (Types b) x.line) f f (sends [] (record p { line = edited is_blank (Types b) x.line })) held c.push.ensures refl refl refl refl)
 
 pub returns-then-contains : goal.returns-then-contains
-returns-then-contains c = λ s held.
-    let x = c.args.ldterm.now in
+returns-then-contains c = λ s q held.
+    let x = (paired c.args.ldterm.now q) in
     let p = ldterm_in s x in
     let b = c.args.byte in
     let f = c.args.told.now in
@@ -33,8 +33,8 @@ returns-then-contains c = λ s held.
     (line-proceeds s x x.line x.line f c.tell_lost.new.told (dropped plain c.args.here LineFull b p) held refl refl refl refl (c.tell_lost.ensures (b ∷ []) refl))
 
 pub returns : goal.returns
-returns c = λ s held.
-    let x = c.args.ldterm.now in
+returns c = λ s q held.
+    let x = (paired c.args.ldterm.now q) in
     let p = ldterm_in s x in
     let b = c.args.byte in
     let f = c.args.told.now in

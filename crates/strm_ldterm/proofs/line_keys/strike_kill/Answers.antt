@@ -5,13 +5,13 @@ use Rattle.strm_types.specs.declared.rules.Rule.TheVariants.{Killed}
 use Rattle.strm_types.specs.Cells.{plain}
 use Rattle.strm_types.specs.Lines.{edited, is_blank, ErasesAll}
 use Rattle.strm_types.specs.Typing.{edits}
-use Rattle.strm_ldterm.specs.Stands.{ldterm_in}
+use Rattle.strm_ldterm.specs.Stands.{ldterm_in, paired}
 use Rattle.strm_ldterm.proofs.Strikes.{line-proceeds}
 use Rattle.strm_ldterm.proofs.line_keys.strike_kill.Goals as goal
 
 pub returns : goal.returns
-returns c = λ s held.
-    let x = c.args.ldterm.now in
+returns c = λ s q held.
+    let x = (paired c.args.ldterm.now q) in
     let left = edited is_blank ErasesAll x.line in
     let e = c.clear-gone.ensures in
     let gone = length-drop (length left) x.line ∙ sym (e.gone ∙ ap (λ l. length x.line - length l) e.line) in

@@ -4,7 +4,7 @@ use Rattle.strm_types.specs.Cells.{plain}
 use Rattle.strm_types.specs.Deliver.{tallied}
 use Rattle.strm_types.specs.Typing.{echo_dir, echo_grows, echo_stands}
 use Rattle.strm_ldterm.specs.PlainRuns.{run_echoed}
-use Rattle.strm_ldterm.specs.Stands.{ldterm_in}
+use Rattle.strm_ldterm.specs.Stands.{ldterm_in, paired}
 use Rattle.strm_ldterm.specs.Does.{Proceeds}
 use Rattle.strm_ldterm.proofs.EchoStands.{proceeds-still, proceeds-told, stands-gone, told-made}
 use Rattle.strm_ldterm.proofs.RunsDone.{echoed-so, unechoed}
@@ -13,7 +13,7 @@ use Rattle.strm_ldterm.proofs.plain_runs.echo_run.Goals as goal
 pub returns : goal.returns
 returns g c =
     let s = g.B.Blocks.value c.args.store.now in
-    let x = c.args.ldterm.now in
+    let x = (paired c.args.ldterm.now c.args.queues.now) in
     let p = ldterm_in s x in
     let f = c.args.told.now in
     proceeds-still s x 1 c.new.result.items f f [] (run_echoed c.args.here c.args.run.now p) c.requires.held c.new.ensures refl
@@ -23,8 +23,8 @@ pub returns-then-contains : goal.returns-then-contains
 returns-then-contains g c =
     let s = g.B.Blocks.value c.args.store.now in
     let t = g.B.Blocks.value c.stand_run.new.store in
-    let x = c.args.ldterm.now in
-    let x' = c.stand_run.new.ldterm in
+    let x = (paired c.args.ldterm.now c.args.queues.now) in
+    let x' = (paired c.stand_run.new.ldterm c.stand_run.new.queues) in
     let here = c.args.here in
     let run = c.args.run.now in
     let d = echo_dir plain here in

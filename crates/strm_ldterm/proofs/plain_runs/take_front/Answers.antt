@@ -1,15 +1,14 @@
 -- The message in work has fewer bytes.
 use Rattle.std.proofs.Common.{ℕ, ◌≡◌, [], ◌++◌, drop, length, sym, ap, subst, ◌∙◌}
-use Rattle.std.specs.Prelude.{Some}
+use Rattle.std.specs.Prelude.{IfSome, Some}
 use Rattle.strm_types.specs.Input.{cells_left, left_of, with_left}
 use Rattle.strm_types.specs.Ldterms as ldterms
 use Rattle.strm_types.specs.Ldterms.{sends}
 use Rattle.strm_types.specs.Message.{cells_of}
 use Rattle.strm_frame.specs.Outboxes.{message_in}
-use Rattle.strm_frame.proofs.Handing.{can-in_hand}
-use Rattle.strm_ldterm.specs.Stands.{ldterm_in}
+use Rattle.strm_ldterm.specs.Stands.{ldterm_in, IsData, paired}
 use Rattle.strm_ldterm.specs.Does.{Proceeds}
-use Rattle.strm_ldterm.proofs.Finished.{work-can}
+use Rattle.strm_ldterm.proofs.Beside.{chain-in-hand}
 use Rattle.strm_ldterm.proofs.Begun.{busy-cells, busy-left, idle-cells, idle-proceeds, work-comes}
 use Rattle.strm_ldterm.proofs.plain_runs.take_front.Goals as goal
 use Rattle.strm_blocks.specs.Blocks.{token}
@@ -18,41 +17,42 @@ pub take_plain-message-requires-clause-in_hand : goal.take_plain-message-require
 take_plain-message-requires-clause-in_hand g c =
     let s = g.B.Blocks.value c.args.store.now in
     let there : c.args.ldterm.now.in_work ≡ Some c.in-Some.message = sym c.take.ensures.value ∙ c.in-Some.is in
-    can-in_hand s _ _ c.audit.ensures (work-can s c.args.ldterm.now c.in-Some.message there c.requires.kept)
+    let is : IsData s (token c.in-Some.message) = subst (λ o. IfSome o (λ m. IsData s (token m))) there c.requires.is in
+    chain-in-hand s (token c.in-Some.message) c.audit.ensures is.chain.some
 
 pub returns-in_default-clause-did : goal.returns-in_default-clause-did
-returns-in_default-clause-did g c = λ f.
+returns-in_default-clause-did g c = λ q f held kept.
     let s = g.B.Blocks.value c.args.store.now in
-    let x = c.args.ldterm.now in
+    let x = (paired c.args.ldterm.now q) in
     let p = ldterm_in s x in
     let rest = drop (length c.args.run.now.items) (cells_left p) in
     subst (λ o. Proceeds s s x (record x { in_work = o }) 0 [] [] f f (sends [] (with_left rest p))) (sym c.take.ensures.after)
-    (idle-proceeds s x (sym c.take.ensures.value ∙ c.in_default.is) f c.requires.held rest)
+    (idle-proceeds s x (sym c.take.ensures.value ∙ c.in_default.is) f held rest)
 
 pub returns-in_default-clause-front : goal.returns-in_default-clause-front
-returns-in_default-clause-front g c =
+returns-in_default-clause-front g c = λ q.
     let s = g.B.Blocks.value c.args.store.now in
-    let x = c.args.ldterm.now in
+    let x = (paired c.args.ldterm.now q) in
     let none = idle-cells s x (sym c.take.ensures.value ∙ c.in_default.is) in
     none ∙ sym (ap (λ l. l ++ drop (length l) (cells_left (ldterm_in s x))) c.requires.fresh ∙ none)
 
 pub returns-clause-did : goal.returns-clause-did
-returns-clause-did g c = λ f.
+returns-clause-did g c = λ q f held kept.
     let s = g.B.Blocks.value c.args.store.now in
     let t = g.B.Blocks.value c.take_plain-message.new.store in
-    let x = c.args.ldterm.now in
+    let x = (paired c.args.ldterm.now q) in
     let m = c.in-Some.message in
     let r = c.take_plain-message.result in
     let n = length c.take_plain-message.new.run.items in
     let there : x.in_work ≡ Some m = sym c.take.ensures.value ∙ c.in-Some.is in
     let w = message_in s (token m) in
-    subst (λ (q : ldterms.Ldterm ℕ). Proceeds s t x (record x { in_work = Some r }) 0 [] [] f f (sends [] q)) (sym (busy-left s x m there n))
-    (work-comes s t x m r (left_of (drop n (cells_of w)) w) there c.audit-2.ensures c.requires.held c.requires.kept c.take_plain-message.ensures.became f)
+    subst (λ (q : ldterms.Discipline ℕ). Proceeds s t x (record x { in_work = Some r }) 0 [] [] f f (sends [] q)) (sym (busy-left s x m there n))
+    (work-comes s t x m r (left_of (drop n (cells_of w)) w) there c.audit-2.ensures held kept c.take_plain-message.ensures.became f)
 
 pub returns-clause-front : goal.returns-clause-front
-returns-clause-front g c =
+returns-clause-front g c = λ q.
     let s = g.B.Blocks.value c.args.store.now in
-    let x = c.args.ldterm.now in
+    let x = (paired c.args.ldterm.now q) in
     let run = c.take_plain-message.new.run.items in
     let there : x.in_work ≡ Some c.in-Some.message = sym c.take.ensures.value ∙ c.in-Some.is in
     let cells = busy-cells s x c.in-Some.message there in

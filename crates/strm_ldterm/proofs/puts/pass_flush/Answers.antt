@@ -1,14 +1,15 @@
 -- First what waits to go up is flushed, then what waits to go down, and then the message goes on.
 use Rattle.std.proofs.Common.{[], ◌∷◌, sym, ap, subst, ◌∙◌}
 use Rattle.strm_types.specs.declared.flushing.FlushAsked.{FlushAsked}
-use Rattle.strm_types.specs.Ldterms.{sends, both, onward, read_flushed, write_flushed}
+use Rattle.strm_types.specs.Deliver.{onward}
+use Rattle.strm_types.specs.Ldterms.{sends, both, read_flushed, write_flushed}
 use Rattle.strm_blocks.specs.Blocks.{in_hand, token}
 use Rattle.strm_msg.specs.Messages.{IsChain}
 use Rattle.strm_msg.proofs.Chains.{kind-is}
 use Rattle.strm_types.specs.Flushing.{is_flush}
 use Rattle.strm_frame.specs.Outboxes.{message_in}
 use Rattle.strm_frame.proofs.Handing.{can-in_hand}
-use Rattle.strm_ldterm.specs.Stands.{ldterm_in}
+use Rattle.strm_ldterm.specs.Stands.{ldterm_in, paired}
 use Rattle.strm_ldterm.specs.Does.{Does}
 use Rattle.strm_ldterm.proofs.Flushed.{alters-both, flushes-both}
 use Rattle.strm_ldterm.proofs.Passing.{flushes-send, flush-plain, passes-after}
@@ -23,25 +24,14 @@ asked_of-asked-requires-clause-kind g c =
     let s = g.B.Blocks.value c.args.store.now in
     flush-plain _ (ap is_flush (sym (kind-is (in_hand s (token c.args.message)))) ∙ c.requires.kind)
 
-pub pass_on-requires-clause-chain : goal.pass_on-requires-clause-chain
-pass_on-requires-clause-chain g c =
-    let s = g.B.Blocks.value c.args.store.now in
-    let t = g.B.Blocks.value c.flush_read-up.new.store in
-    let u = g.B.Blocks.value c.flush_write-down.new.store in
-    let x = c.args.ldterm.now in
-    let y = c.flush_read-up.new.ldterm in
-    let z = c.flush_write-down.new.ldterm in
-    let alters = alters-both s t u x y z c.flush_read-up.ensures.alters c.flush_write-down.ensures.alters in
-    subst IsChain (sym (still-chain s u x z (token c.args.message) c.audit.ensures c.requires.can_put alters)) c.requires.chain
-
 pub returns : goal.returns
 returns g c =
     let s = g.B.Blocks.value c.args.store.now in
     let t = g.B.Blocks.value c.flush_read-up.new.store in
     let u = g.B.Blocks.value c.flush_write-down.new.store in
-    let x = c.args.ldterm.now in
-    let y = c.flush_read-up.new.ldterm in
-    let z = c.flush_write-down.new.ldterm in
+    let x = (paired c.args.ldterm.now c.args.queues.now) in
+    let y = (paired c.flush_read-up.new.ldterm c.flush_read-up.new.queues) in
+    let z = (paired c.flush_write-down.new.ldterm c.flush_write-down.new.queues) in
     let i = token c.args.message in
     let m = message_in s i in
     let here = c.args.here in
@@ -49,6 +39,8 @@ returns g c =
     let p = ldterm_in s x in
     let f = c.args.told.now in
     let f2 = c.flush_write-down.new.told in
+    let alters = alters-both s t u x y z c.flush_read-up.ensures.alters c.flush_write-down.ensures.alters in
+    let chain = subst IsChain (sym (still-chain s u x z i c.audit.ensures c.requires.can_put alters)) c.requires.chain in
     let did = flushes-both s t u x y z _ _ c.rooms.result.items f c.flush_read-up.new.told f2 (read_flushed here asked p) (write_flushed here asked) c.flush_read-up.ensures c.flush_write-down.ensures c.rooms.ensures in
     subst (λ (a : FlushAsked). Does s u x z i c.pass_on.result f f2 (both (both (read_flushed here a p) (write_flushed here a)) (sends (onward here.way here m ∷ [])))) c.asked_of-asked.ensures.asked
-    (passes-after s u x z i c.audit.ensures c.requires.can_put here c.rooms.result.items c.pass_on.result f f2 (both (read_flushed here asked p) (write_flushed here asked)) did (flushes-send here asked p) (c.pass_on.ensures f2))
+    (passes-after s u x z i c.audit.ensures c.requires.can_put here c.rooms.result.items c.pass_on.result f f2 (both (read_flushed here asked p) (write_flushed here asked)) did (flushes-send here asked p) (c.pass_on.ensures u z f2 alters.held chain))

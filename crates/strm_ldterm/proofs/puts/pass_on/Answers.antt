@@ -4,6 +4,5 @@ use Rattle.strm_ldterm.proofs.Steps.{passes-does}
 use Rattle.strm_ldterm.proofs.puts.pass_on.Goals as goal
 
 pub returns : goal.returns
-returns g c = λ f.
-    passes-does (g.B.Blocks.value c.args.store.now) c.args.ldterm.now (record { to = c.toward.result; message = c.args.message }) _ f c.args.here _
-    c.requires.held c.requires.chain c.toward.ensures c.one.ensures refl
+returns c = λ s x f held chain.
+    passes-does s x (record { to = c.toward.result; message = c.args.message }) _ f c.args.here _ held chain c.toward.ensures c.one.ensures refl

@@ -15,7 +15,7 @@ use Rattle.strm_blocks.specs.Blocks.{in_hand, token}
 use Rattle.strm_msg.proofs.Chains.{kind-is}
 use Rattle.strm_frame.specs.Outboxes.{message_in}
 use Rattle.strm_frame.proofs.Handing.{can-in_hand}
-use Rattle.strm_ldterm.specs.Stands.{ldterm_in}
+use Rattle.strm_ldterm.specs.Stands.{ldterm_in, paired}
 use Rattle.strm_ldterm.specs.Does.{Puts}
 use Rattle.strm_ldterm.proofs.Last.{waits-low}
 use Rattle.strm_ldterm.proofs.Passing.{puts-flush, puts-pass, puts-wait}
@@ -35,14 +35,14 @@ pub returns-then-waits_on-clause-does : goal.returns-then-waits_on-clause-does
 returns-then-waits_on-clause-does g c =
     let s = g.B.Blocks.value c.args.store.now in
     let t = g.B.Blocks.value c.wait.new.store in
-    let x = c.args.ldterm.now in
+    let x = (paired c.args.ldterm.now c.args.queues.now) in
     let i = token c.args.message in
     let f = c.args.told.now in
     let here = c.args.here in
     let m = message_in s i in
     let p = ldterm_in s x in
-    subst (λ a. Puts s t x c.wait.new.ldterm i (own_at ldterm_does here m) c.wait.result f f a) (sym (puts-wait here m p (sym c.waits_on.ensures ∙ c.if-waits_on.true)))
-    (does-puts s t x c.wait.new.ldterm i (own_at ldterm_does here m) c.wait.result f f (queued_at here.way m p) (c.wait.ensures.does f))
+    subst (λ a. Puts s t x (paired c.wait.new.ldterm c.wait.new.queues) i (own_at ldterm_does here m) c.wait.result f f a) (sym (puts-wait here m p (sym c.waits_on.ensures ∙ c.if-waits_on.true)))
+    (does-puts s t x (paired c.wait.new.ldterm c.wait.new.queues) i (own_at ldterm_does here m) c.wait.result f f (queued_at here.way m p) (c.wait.ensures.does f))
 
 pub pass_flush-requires-clause-kind : goal.pass_flush-requires-clause-kind
 pass_flush-requires-clause-kind g c =
@@ -53,26 +53,26 @@ pub returns-then-is_flush-clause-does : goal.returns-then-is_flush-clause-does
 returns-then-is_flush-clause-does g c =
     let s = g.B.Blocks.value c.args.store.now in
     let t = g.B.Blocks.value c.pass_flush.new.store in
-    let x = c.args.ldterm.now in
+    let x = (paired c.args.ldterm.now c.args.queues.now) in
     let i = token c.args.message in
     let f = c.args.told.now in
     let here = c.args.here in
     let m = message_in s i in
     let p = ldterm_in s x in
     let flush = ap is_flush (kind-is (in_hand s i) ∙ sym c.kind-kind.ensures) ∙ sym c.is_flush.ensures ∙ c.if-is_flush.true in
-    subst (λ a. Puts s t x c.pass_flush.new.ldterm i (own_at ldterm_does here m) c.pass_flush.result f c.pass_flush.new.told a) (sym (puts-flush here m p (sym c.waits_on.ensures ∙ c.if-waits_on.false) flush))
-    (does-puts s t x c.pass_flush.new.ldterm i (own_at ldterm_does here m) c.pass_flush.result f c.pass_flush.new.told (flush_passes here m p) c.pass_flush.ensures)
+    subst (λ a. Puts s t x (paired c.pass_flush.new.ldterm c.pass_flush.new.queues) i (own_at ldterm_does here m) c.pass_flush.result f c.pass_flush.new.told a) (sym (puts-flush here m p (sym c.waits_on.ensures ∙ c.if-waits_on.false) flush))
+    (does-puts s t x (paired c.pass_flush.new.ldterm c.pass_flush.new.queues) i (own_at ldterm_does here m) c.pass_flush.result f c.pass_flush.new.told (flush_passes here m p) c.pass_flush.ensures)
 
 pub returns-clause-does : goal.returns-clause-does
 returns-clause-does g c =
     let s = g.B.Blocks.value c.args.store.now in
-    let x = c.args.ldterm.now in
+    let x = (paired c.args.ldterm.now c.args.queues.now) in
     let i = token c.args.message in
     let here = c.args.here in
     let m = message_in s i in
     let p = ldterm_in s x in
     let flush = ap is_flush (kind-is (in_hand s i) ∙ sym c.kind-kind.ensures) ∙ sym c.is_flush.ensures ∙ c.if-is_flush.false in
-    subst (λ a. Puts s (g.B.Blocks.value c.pass.new.store) x c.pass.new.ldterm i (own_at ldterm_does here m) c.pass.result c.args.told.now c.pass.new.told a) (sym (puts-pass here m p (sym c.waits_on.ensures ∙ c.if-waits_on.false) flush)) c.pass.ensures
+    subst (λ a. Puts s (g.B.Blocks.value c.pass.new.store) x (paired c.pass.new.ldterm c.pass.new.queues) i (own_at ldterm_does here m) c.pass.result c.args.told.now c.pass.new.told a) (sym (puts-pass here m p (sym c.waits_on.ensures ∙ c.if-waits_on.false) flush)) c.pass.ensures
 
 -- M_DATA and M_PROTO wait
 held-there : (kind : MsgKind) → is_held kind ≡ true → waits_there kind ≡ true

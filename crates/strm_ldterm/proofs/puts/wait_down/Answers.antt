@@ -4,6 +4,7 @@ use Rattle.std.specs.Prelude.{◌&&◌, nat_lt}
 use Rattle.strm_blocks.specs.Blocks.{in_hand, token}
 use Rattle.strm_msg.proofs.Chains.{band-is}
 use Rattle.strm_frame.proofs.Handing.{can-in_hand}
+use Rattle.strm_ldterm.specs.Stands.{paired}
 use Rattle.strm_ldterm.proofs.Steps.{waits-down}
 use Rattle.strm_ldterm.proofs.puts.wait_down.Goals as goal
 
@@ -17,7 +18,7 @@ pub returns-clause-does : goal.returns-clause-does
 returns-clause-does g c = λ f.
     let e = c.enqueue-enables in
     let s = g.B.Blocks.value c.args.store.now in
-    let x = c.args.ldterm.now in
+    let x = (paired c.args.ldterm.now c.args.queues.now) in
     let i = token c.args.message in
     waits-down s (g.B.Blocks.value e.new.store) x i e.new.queue
     (record { notes = c.note_if.result; sent = c.none.result }) f e.result c.audit.ensures c.requires.held c.requires.can_put e.ensures.frees c.none.ensures

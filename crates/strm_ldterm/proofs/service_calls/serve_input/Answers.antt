@@ -3,7 +3,7 @@ use Rattle.std.specs.Prelude.{None}
 use Rattle.strm_ldterm.specs.Bounds.{passes_whole}
 use Rattle.strm_ldterm.specs.Began.{input_of}
 use Rattle.strm_ldterm.specs.Does.{Proceeds}
-use Rattle.strm_ldterm.specs.Stands.{ldterm_in, stage_in}
+use Rattle.strm_ldterm.specs.Stands.{ldterm_in, stage_in, paired}
 use Rattle.strm_ldterm.specs.Turns.{stages_left}
 use Rattle.strm_ldterm.proofs.Joining.{still-kept}
 use Rattle.strm_ldterm.proofs.Turned.{between-needs, first-serves, whole-serves, work-in, work-treats}
@@ -14,7 +14,7 @@ treat-requires-clause-held g c = (c.in-InWork.ensures.works c.args.told.now).hel
 
 pub treat-requires-clause-kept : goal.treat-requires-clause-kept
 treat-requires-clause-kept g c =
-    still-kept (g.B.Blocks.value c.args.store.now) (g.B.Blocks.value c.begin_input.new.store) c.args.ldterm.now c.begin_input.new.ldterm 0 [] c.args.told.now c.args.told.now _ c.audit.ensures
+    still-kept (g.B.Blocks.value c.args.store.now) (g.B.Blocks.value c.begin_input.new.store) (paired c.args.ldterm.now c.args.queues.now) (paired c.begin_input.new.ldterm c.begin_input.new.queues) 0 [] c.args.told.now c.args.told.now _ c.audit.ensures
     (c.in-InWork.ensures.works c.args.told.now) c.requires.kept
 
 pub treat-requires-clause-room : goal.treat-requires-clause-room
@@ -25,14 +25,14 @@ treat-requires-clause-room g c =
 
 pub treat-requires-clause-work : goal.treat-requires-clause-work
 treat-requires-clause-work g c =
-    work-in (g.B.Blocks.value c.args.store.now) (g.B.Blocks.value c.begin_input.new.store) c.args.here c.args.ldterm.now c.begin_input.new.ldterm c.in-InWork.bytes c.args.told.now c.in-InWork.ensures
+    work-in (g.B.Blocks.value c.args.store.now) (g.B.Blocks.value c.begin_input.new.store) c.args.here (paired c.args.ldterm.now c.args.queues.now) (paired c.begin_input.new.ldterm c.begin_input.new.queues) c.in-InWork.bytes c.args.told.now c.in-InWork.ensures
 
 pub returns-in-Empty : goal.returns-in-Empty
 returns-in-Empty g c =
     let s = g.B.Blocks.value c.args.store.now in
     let s1 = g.B.Blocks.value c.begin_input.new.store in
-    let x = c.args.ldterm.now in
-    let x1 = c.begin_input.new.ldterm in
+    let x = (paired c.args.ldterm.now c.args.queues.now) in
+    let x1 = (paired c.begin_input.new.ldterm c.begin_input.new.queues) in
     let whole = c.in-Empty.ensures in
     whole-serves s s1 c.args.here x x1 false c.args.told.now c.of_whole.result c.none.result 0 (input_of s s1 c.args.here x x1 None)
     c.of_whole.ensures.notes c.of_whole.ensures.sent c.of_whole.ensures.bytes c.of_whole.ensures.stopped c.of_whole.ensures.again
@@ -44,8 +44,8 @@ pub returns-in-Whole : goal.returns-in-Whole
 returns-in-Whole g c =
     let s = g.B.Blocks.value c.args.store.now in
     let s1 = g.B.Blocks.value c.begin_input.new.store in
-    let x = c.args.ldterm.now in
-    let x1 = c.begin_input.new.ldterm in
+    let x = (paired c.args.ldterm.now c.args.queues.now) in
+    let x1 = (paired c.begin_input.new.ldterm c.begin_input.new.queues) in
     let whole = c.in-Whole.ensures in
     let done = c.of_whole-in-Whole in
     whole-serves s s1 c.args.here x x1 false c.args.told.now done.result c.in-Whole.passed.sent c.in-Whole.passed.bytes (input_of s s1 c.args.here x x1 None)
@@ -55,5 +55,5 @@ returns-in-Whole g c =
 
 pub returns-in-InWork : goal.returns-in-InWork
 returns-in-InWork g c =
-    work-treats (g.B.Blocks.value c.args.store.now) (g.B.Blocks.value c.treat.new.store) c.args.here c.args.ldterm.now c.treat.new.ldterm c.treat.result c.args.told.now c.treat.new.told c.requires.way
-    (g.B.Blocks.value c.begin_input.new.store) c.begin_input.new.ldterm c.in-InWork.bytes c.audit.ensures c.requires.stage c.in-InWork.ensures c.treat.ensures
+    work-treats (g.B.Blocks.value c.args.store.now) (g.B.Blocks.value c.treat.new.store) c.args.here (paired c.args.ldterm.now c.args.queues.now) (paired c.treat.new.ldterm c.treat.new.queues) c.treat.result c.args.told.now c.treat.new.told c.requires.way
+    (g.B.Blocks.value c.begin_input.new.store) (paired c.begin_input.new.ldterm c.begin_input.new.queues) c.in-InWork.bytes c.audit.ensures c.requires.stage c.in-InWork.ensures c.treat.ensures

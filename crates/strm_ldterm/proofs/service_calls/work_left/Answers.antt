@@ -11,7 +11,7 @@ use Rattle.strm_ldterm.proofs.service_calls.work_left.Goals as goal
 pub booked_size-requires-clause-in_hand : goal.booked_size-requires-clause-in_hand
 booked_size-requires-clause-in_hand g c =
     let s = g.B.Blocks.value c.args.store.now in
-    let is : IsData s (token c.in-Some.message) = subst (λ o. IfSome o (λ m. IsData s (token m))) c.in-Some.is c.requires.held.work in
+    let is : IsData s (token c.in-Some.message) = subst (λ o. IfSome o (λ m. IsData s (token m))) c.in-Some.is c.requires in
     chain-in-hand s (token c.in-Some.message) c.audit.ensures is.chain.some
 
 -- what counts of a message is no more than it has
@@ -23,7 +23,7 @@ pub returns-clause-few : goal.returns-clause-few
 returns-clause-few g c =
     let s = g.B.Blocks.value c.args.store.now in
     let i = token c.in-Some.message in
-    let is : IsData s i = subst (λ o. IfSome o (λ m. IsData s (token m))) c.in-Some.is c.requires.held.work in
+    let is : IsData s i = subst (λ o. IfSome o (λ m. IsData s (token m))) c.in-Some.is c.requires in
     let long = cells-long (in_hand s i) is.chain in
     let part = some-of (is_data (in_hand s i)) (bytes_of (in_hand s i)) in
     let few = few-bytes s c.audit.ensures 0 i in

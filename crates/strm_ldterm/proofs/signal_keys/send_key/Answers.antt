@@ -4,7 +4,8 @@ use Rattle.strm_types.specs.declared.kinds.MsgKind.TheVariants.{Pcsig}
 use Rattle.strm_types.specs.declared.names.Way.TheVariants.{Up}
 use Rattle.strm_types.specs.declared.rules.Rule.TheVariants.{SignalKey}
 use Rattle.strm_types.specs.Cells.{plain}
-use Rattle.strm_types.specs.Ldterms.{sends, onward}
+use Rattle.strm_types.specs.Deliver.{onward}
+use Rattle.strm_types.specs.Ldterms.{sends}
 use Rattle.strm_types.specs.Typing.{bare, lost}
 use Rattle.strm_ldterm.specs.Stands.{ldterm_in}
 use Rattle.strm_ldterm.proofs.Sends.{tells, key-told}
@@ -15,10 +16,9 @@ pub send_up-requires-clause-kind : goal.send_up-requires-clause-kind
 send_up-requires-clause-kind g c = signal-plain
 
 pub returns : goal.returns
-returns g c =
+returns g c = λ x held kept.
     let s = g.B.Blocks.value c.args.store.now in
-    let x = c.args.ldterm.now in
     let f = c.args.told.now in
     tells s (g.B.Blocks.value c.send_up.new.store) x x 1 (c.send_up.result ∷ []) f c.tell.new.self
-    (sends (onward Up c.args.here (bare Pcsig (c.args.signal ∷ [])) ∷ []) (ldterm_in s x)) (lost plain c.args.here SignalKey (c.args.byte ∷ [])) (c.send_up.ensures f)
+    (sends (onward Up c.args.here (bare Pcsig (c.args.signal ∷ [])) ∷ []) (ldterm_in s x)) (lost plain c.args.here SignalKey (c.args.byte ∷ [])) (c.send_up.ensures.does x f held kept)
     (key-told c.args.here SignalKey c.args.byte _ f _ c.tell.ensures c.direction_at.ensures)

@@ -1,19 +1,21 @@
 -- The message is made, and nothing else changes.
-use Rattle.std.proofs.Common.{[], ◌∷◌, refl}
+use Rattle.std.proofs.Common.{[], ◌∷◌, refl, arith}
 use Rattle.strm_types.specs.declared.names.Way.TheVariants.{Up}
-use Rattle.strm_types.specs.Deliver.{toward}
-use Rattle.strm_types.specs.Ldterms.{sends, onward}
+use Rattle.strm_types.specs.Deliver.{toward, onward}
+use Rattle.strm_types.specs.Ldterms.{sends}
 use Rattle.strm_types.specs.Typing.{bare}
 use Rattle.strm_frame.specs.declared.parcels.Sent.{Sent}
 use Rattle.strm_ldterm.specs.Stands.{ldterm_in}
 use Rattle.strm_ldterm.proofs.Sends.{sends-made}
 use Rattle.strm_ldterm.proofs.signal_keys.send_up.Goals as goal
 
-pub returns : goal.returns
-returns g c = λ f.
+pub returns-clause-does : goal.returns-clause-does
+returns-clause-does g c = λ x f held kept.
     let s = g.B.Blocks.value c.args.store.now in
-    let x = c.args.ldterm.now in
     let m = bare c.args.kind c.args.bytes.now in
     let z : Sent = record { to = c.toward.result; message = c.make-message.result } in
-    sends-made s (g.B.Blocks.value c.make-message.new.store) x x z (z ∷ []) f f m (toward Up c.args.here) (sends (onward Up c.args.here m ∷ []) (ldterm_in s x)) c.requires.held c.requires.kept
+    sends-made s (g.B.Blocks.value c.make-message.new.store) x x z (z ∷ []) f f m (toward Up c.args.here) (sends (onward Up c.args.here m ∷ []) (ldterm_in s x)) held kept
     (λ k. refl) (λ i. refl) c.make-message.ensures refl c.toward.ensures refl refl refl refl
+
+pub returns-clause-spends : goal.returns-clause-spends
+returns-clause-spends g c = record { mblks = omega (arith, c.make-message.ensures.room_m); dblks = omega (arith, c.make-message.ensures.room_d) }

@@ -6,7 +6,7 @@ use Rattle.strm_types.specs.Deliver.{Comes, Goes, tallied}
 use Rattle.strm_types.specs.Typing.{echo_dir, echo_grows, echo_stands, echoed}
 use Rattle.strm_types.specs.Write.{chunk_count}
 use Rattle.strm_msg.proofs.Pieces.{chunk-some}
-use Rattle.strm_ldterm.specs.Stands.{ldterm_in}
+use Rattle.strm_ldterm.specs.Stands.{ldterm_in, paired}
 use Rattle.strm_ldterm.specs.Does.{Proceeds}
 use Rattle.strm_ldterm.specs.Echoes.{echo_bytes}
 use Rattle.strm_ldterm.proofs.EchoStands.{proceeds-still, proceeds-told, echoed-none, echoed-full, echoed-room, stands-gone, told-lost, told-made, runs-enough, few-bytes}
@@ -15,7 +15,7 @@ use Rattle.strm_ldterm.proofs.standing_echo.echo.Goals as goal
 pub returns-then-len-eq0 : goal.returns-then-len-eq0
 returns-then-len-eq0 g c =
     let s = g.B.Blocks.value c.args.store.now in
-    let x = c.args.ldterm.now in
+    let x = (paired c.args.ldterm.now c.args.queues.now) in
     let bytes = echo_bytes c.args.plan x.line in
     let f = c.args.told.now in
     proceeds-still s x (chunk_count (length bytes)) c.new.result.items f f [] (echoed plain c.args.here 0 bytes (ldterm_in s x)) c.requires.held c.new.ensures refl
@@ -31,7 +31,7 @@ chunk_count-runs-requires g c =
 pub returns-then-is_full : goal.returns-then-is_full
 returns-then-is_full g c =
     let s = g.B.Blocks.value c.args.store.now in
-    let x = c.args.ldterm.now in
+    let x = (paired c.args.ldterm.now c.args.queues.now) in
     let here = c.args.here in
     let bytes = echo_bytes c.args.plan x.line in
     let d = echo_dir plain here in
@@ -54,8 +54,8 @@ pub returns : goal.returns
 returns g c =
     let s = g.B.Blocks.value c.args.store.now in
     let t = g.B.Blocks.value c.let_stand.new.store in
-    let x = c.args.ldterm.now in
-    let x' = c.let_stand.new.ldterm in
+    let x = (paired c.args.ldterm.now c.args.queues.now) in
+    let x' = (paired c.let_stand.new.ldterm c.let_stand.new.queues) in
     let here = c.args.here in
     let bytes = echo_bytes c.args.plan x.line in
     let d = echo_dir plain here in

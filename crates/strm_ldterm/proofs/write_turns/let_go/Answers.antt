@@ -4,34 +4,32 @@ use Rattle.std.specs.Prelude.{None}
 use Rattle.strm_types.specs.declared.names.Way.TheVariants.{Down}
 use Rattle.strm_types.specs.Input.{back_on}
 use Rattle.strm_types.specs.Ldterms as ldterms
-use Rattle.strm_types.specs.Ldterms.{onward, sends}
+use Rattle.strm_types.specs.Deliver.{onward}
+use Rattle.strm_types.specs.Ldterms.{sends}
 use Rattle.strm_types.specs.OutputTurns.{with_given}
 use Rattle.strm_frame.specs.Outboxes.{sent_of}
 use Rattle.strm_ldterm.specs.Outgone.{data_of}
-use Rattle.strm_ldterm.specs.Stands.{ldterm_in}
+use Rattle.strm_ldterm.specs.Stands.{ldterm_in, paired}
 use Rattle.strm_ldterm.proofs.Flushed.{kept-still}
 use Rattle.strm_ldterm.proofs.Freeing.{none-freed-both}
 use Rattle.strm_ldterm.proofs.Proceeding.{proceeds-alters, proceeds-both}
 use Rattle.strm_ldterm.proofs.write_turns.let_go.Goals as goal
 
-pub send_output-requires-clause-held : goal.send_output-requires-clause-held
-send_output-requires-clause-held g c = c.return_output.ensures.alters.held
-
-pub send_output-requires-clause-kept : goal.send_output-requires-clause-kept
-send_output-requires-clause-kept g c =
-    kept-still (g.B.Blocks.value c.args.store.now) (g.B.Blocks.value c.return_output.new.store) c.args.ldterm.now c.return_output.new.ldterm c.return_output.ensures.alters c.requires.kept
+pub send_output-requires-clause-gathers : goal.send_output-requires-clause-gathers
+send_output-requires-clause-gathers g c = c.return_output.ensures.alters.held.gathers
 
 pub returns-clause-did : goal.returns-clause-did
 returns-clause-did g c = λ f.
     let s = g.B.Blocks.value c.args.store.now in
     let t = g.B.Blocks.value c.return_output.new.store in
     let u = g.B.Blocks.value c.send_output.new.store in
-    let x = c.args.ldterm.now in
-    let y = c.return_output.new.ldterm in
+    let x = (paired c.args.ldterm.now c.args.queues.now) in
+    let y = (paired c.return_output.new.ldterm c.return_output.new.queues) in
     let p = ldterm_in s x in
-    let q : ldterms.Ldterm ℕ = record p { in_work = None; write_queue = back_on p.in_work p.write_queue } in
-    proceeds-both s t u x y c.send_output.new.ldterm 0 0 [] (sent_of c.send_output.result) f f f (sends [] q) (λ (r : ldterms.Ldterm ℕ). sends (map (onward Down c.args.here) (with_given r.gathered (data_of c.args.band.0 []))) (record r { gathered = [] })) c.audit.ensures c.requires.kept
-    (proceeds-alters s t x y f q c.return_output.ensures.alters c.return_output.ensures.state) (c.send_output.ensures.did f)
+    let q : ldterms.Discipline ℕ = record p { in_work = None; write_queue = back_on p.in_work p.write_queue } in
+    let alters = c.return_output.ensures.alters in
+    proceeds-both s t u x y (paired c.send_output.new.ldterm c.return_output.new.queues) 0 0 [] (sent_of c.send_output.result) f f f (sends [] q) (λ (r : ldterms.Discipline ℕ). sends (map (onward Down c.args.here) (with_given r.gathered (data_of c.args.band.0 []))) (record r { gathered = [] })) c.audit.ensures c.requires.kept
+    (proceeds-alters s t x y f q alters c.return_output.ensures.state) (c.send_output.ensures.did c.return_output.new.queues f alters.held (kept-still s t x y alters c.requires.kept))
 
 pub returns-clause-blocks : goal.returns-clause-blocks
 returns-clause-blocks g c = λ left.

@@ -2,9 +2,8 @@
 use Rattle.std.proofs.Common.{ℕ, arith, sym, ap, ◌∙◌, []}
 use Rattle.std.specs.Prelude.{Option}
 use Rattle.std.proofs.lemmas.List.{length-map}
-use Rattle.strm_types.specs.ModuleQueues.{messages_at}
+use Rattle.strm_types.specs.Standings.{messages_at}
 use Rattle.strm_types.specs.Queue.{first_size}
-use Rattle.strm_laws.specs.Stacked.{module_queue}
 use Rattle.strm_pair.specs.AnyModules.{module_in}
 use Rattle.strm_pair.specs.Named.{at_found}
 use Rattle.strm_pair.specs.Stacks.{modules_in}
@@ -20,10 +19,10 @@ pub returns-in-Some : goal.returns-in-Some
 returns-in-Some g c =
     let s = g.B.Blocks.value c.args.store.now in
     let ms = modules_in s c.args.stack.now in
-    c.first_size.ensures ∙ ap (λ (found : Option ℕ). first_size (at_found (messages_at module_queue c.args.way) [] ms found)) (sym (sym (c.place_named.ensures.place s) ∙ c.in-Some.is))
+    c.first_size.ensures ∙ ap (λ (found : Option ℕ). first_size (at_found (messages_at c.args.way) [] ms found)) (sym (sym (c.place_named.ensures.place s) ∙ c.in-Some.is))
 
 pub returns-in-None : goal.returns-in-None
 returns-in-None g c =
     let s = g.B.Blocks.value c.args.store.now in
     let ms = modules_in s c.args.stack.now in
-    ap (λ (found : Option ℕ). first_size (at_found (messages_at module_queue c.args.way) [] ms found)) (sym (sym (c.place_named.ensures.place s) ∙ c.in-None.is))
+    ap (λ (found : Option ℕ). first_size (at_found (messages_at c.args.way) [] ms found)) (sym (sym (c.place_named.ensures.place s) ∙ c.in-None.is))

@@ -3,7 +3,6 @@ use Rattle.std.proofs.Common.{ℕ, arith, sym, ap, ◌∙◌, false}
 use Rattle.std.specs.Prelude.{Option}
 use Rattle.std.proofs.lemmas.List.{length-map}
 use Rattle.strm_types.specs.ModuleQueues.{full_at}
-use Rattle.strm_laws.specs.Stacked.{module_queue}
 use Rattle.strm_pair.specs.AnyModules.{module_in}
 use Rattle.strm_pair.specs.Named.{at_found}
 use Rattle.strm_pair.specs.Stacks.{modules_in}
@@ -19,10 +18,10 @@ pub returns-in-Some : goal.returns-in-Some
 returns-in-Some g c =
     let s = g.B.Blocks.value c.args.store.now in
     let ms = modules_in s c.args.stack.now in
-    c.is_full.ensures ∙ ap (λ (found : Option ℕ). at_found (full_at module_queue c.args.way c.args.band.0) false ms found) (sym (sym (c.place_named.ensures.place s) ∙ c.in-Some.is))
+    c.is_full.ensures ∙ ap (λ (found : Option ℕ). at_found (full_at c.args.way c.args.band.0) false ms found) (sym (sym (c.place_named.ensures.place s) ∙ c.in-Some.is))
 
 pub returns-in-None : goal.returns-in-None
 returns-in-None g c =
     let s = g.B.Blocks.value c.args.store.now in
     let ms = modules_in s c.args.stack.now in
-    ap (λ (found : Option ℕ). at_found (full_at module_queue c.args.way c.args.band.0) false ms found) (sym (sym (c.place_named.ensures.place s) ∙ c.in-None.is))
+    ap (λ (found : Option ℕ). at_found (full_at c.args.way c.args.band.0) false ms found) (sym (sym (c.place_named.ensures.place s) ∙ c.in-None.is))

@@ -2,9 +2,8 @@
 use Rattle.std.proofs.Common.{ℕ, arith, sym, ap, ◌∙◌, [], length}
 use Rattle.std.specs.Prelude.{Option}
 use Rattle.std.proofs.lemmas.List.{length-map}
-use Rattle.strm_types.specs.ModuleQueues.{messages_at}
+use Rattle.strm_types.specs.Standings.{messages_at}
 use Rattle.strm_types.specs.Queue.{bytes_of}
-use Rattle.strm_laws.specs.Stacked.{module_queue}
 use Rattle.strm_pair.specs.AnyModules.{module_in}
 use Rattle.strm_pair.specs.Named.{at_found}
 use Rattle.strm_pair.specs.Stacks.{modules_in}
@@ -20,22 +19,22 @@ pub returns-in-Some-clause-messages : goal.returns-in-Some-clause-messages
 returns-in-Some-clause-messages g c =
     let s = g.B.Blocks.value c.args.store.now in
     let ms = modules_in s c.args.stack.now in
-    c.sizes.ensures.messages ∙ ap (λ (found : Option ℕ). length (at_found (messages_at module_queue c.args.way) [] ms found)) (sym (sym (c.place_named.ensures.place s) ∙ c.in-Some.is))
+    c.sizes.ensures.messages ∙ ap (λ (found : Option ℕ). length (at_found (messages_at c.args.way) [] ms found)) (sym (sym (c.place_named.ensures.place s) ∙ c.in-Some.is))
 
 pub returns-in-None-clause-messages : goal.returns-in-None-clause-messages
 returns-in-None-clause-messages g c =
     let s = g.B.Blocks.value c.args.store.now in
     let ms = modules_in s c.args.stack.now in
-    ap (λ (found : Option ℕ). length (at_found (messages_at module_queue c.args.way) [] ms found)) (sym (sym (c.place_named.ensures.place s) ∙ c.in-None.is))
+    ap (λ (found : Option ℕ). length (at_found (messages_at c.args.way) [] ms found)) (sym (sym (c.place_named.ensures.place s) ∙ c.in-None.is))
 
 pub returns-in-Some-clause-bytes : goal.returns-in-Some-clause-bytes
 returns-in-Some-clause-bytes g c =
     let s = g.B.Blocks.value c.args.store.now in
     let ms = modules_in s c.args.stack.now in
-    c.sizes.ensures.bytes ∙ ap (λ (found : Option ℕ). bytes_of (at_found (messages_at module_queue c.args.way) [] ms found)) (sym (sym (c.place_named.ensures.place s) ∙ c.in-Some.is))
+    c.sizes.ensures.bytes ∙ ap (λ (found : Option ℕ). bytes_of (at_found (messages_at c.args.way) [] ms found)) (sym (sym (c.place_named.ensures.place s) ∙ c.in-Some.is))
 
 pub returns-in-None-clause-bytes : goal.returns-in-None-clause-bytes
 returns-in-None-clause-bytes g c =
     let s = g.B.Blocks.value c.args.store.now in
     let ms = modules_in s c.args.stack.now in
-    ap (λ (found : Option ℕ). bytes_of (at_found (messages_at module_queue c.args.way) [] ms found)) (sym (sym (c.place_named.ensures.place s) ∙ c.in-None.is))
+    ap (λ (found : Option ℕ). bytes_of (at_found (messages_at c.args.way) [] ms found)) (sym (sym (c.place_named.ensures.place s) ∙ c.in-None.is))

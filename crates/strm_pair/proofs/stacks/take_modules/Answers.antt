@@ -3,15 +3,15 @@ use Rattle.std.proofs.Common.{◌≡◌, ◌<◌, true, false, List, [], ◌∷�
 use Rattle.std.specs.Prelude.{◌==◌}
 use Rattle.std.proofs.lemmas.Bool.Decides.{nat_tests}
 use Rattle.strm_frame.specs.Stacks.{all_of}
-use Rattle.strm_pair.specs.AnyModules.{owns}
-use Rattle.strm_pair.specs.declared.modules.AnyModule.{AnyModule}
+use Rattle.strm_frame.specs.Standings.{owns}
+use Rattle.strm_pair.specs.AnyModules.{AnyStanding}
 use Rattle.strm_pair.proofs.stacks.take_modules.Goals as goal
 
-none-of : (xs : List AnyModule) → length xs ≡ 0 → xs ≡ []
+none-of : (xs : List AnyStanding) → length xs ≡ 0 → xs ≡ []
 none-of [] none = refl
 none-of (x ∷ xs) none = absurd (omega (arith, none))
 
-one-less : (xs ys : List AnyModule) → (length xs ≡ 0 → ⊥) → ((x : AnyModule) (rest : List AnyModule) → xs ≡ x ∷ rest → ys ≡ rest) → length ys < length xs
+one-less : (xs ys : List AnyStanding) → (length xs ≡ 0 → ⊥) → ((x : AnyStanding) (rest : List AnyStanding) → xs ≡ x ∷ rest → ys ≡ rest) → length ys < length xs
 one-less [] ys some rest = absurd (some refl)
 one-less (x ∷ xs) ys some rest = let same = ap length (rest x xs refl) in omega (arith, same)
 

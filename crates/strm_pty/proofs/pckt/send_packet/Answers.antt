@@ -1,7 +1,7 @@
 -- The packet goes to the next place, and what is made was counted.
 use Rattle.std.proofs.Common.{ap, ◌∙◌}
 use Rattle.strm_types.specs.declared.names.Way.TheVariants.{Up}
-use Rattle.strm_types.specs.Ldterms.{onward}
+use Rattle.strm_types.specs.Deliver.{onward}
 use Rattle.strm_types.specs.Names.{direction_at}
 use Rattle.strm_types.specs.Pckts.{plain_packed}
 use Rattle.strm_frame.specs.Outboxes.{message_in}

@@ -3,7 +3,7 @@ use Rattle.std.proofs.Common.{◌≡◌, [], ◌∷◌, ◌++◌, sym, subst, �
 use Rattle.std.specs.Prelude.{None, Some}
 use Rattle.strm_types.specs.declared.names.Way.TheVariants.{Down}
 use Rattle.strm_types.specs.Acks.{ack_message, payload}
-use Rattle.strm_types.specs.Ldterms.{onward}
+use Rattle.strm_types.specs.Deliver.{onward}
 use Rattle.strm_types.specs.Budgets.{own_at}
 use Rattle.strm_types.specs.Tables.{ptem_does}
 use Rattle.strm_types.specs.Ptems.{window_signal, window_told}

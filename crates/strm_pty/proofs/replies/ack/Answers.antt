@@ -4,7 +4,7 @@ use Rattle.strm_types.specs.declared.ioctls.Ioc.{Ioc}
 use Rattle.strm_types.specs.declared.kinds.MsgKind.TheVariants.{Iocack}
 use Rattle.strm_types.specs.declared.names.Way.TheVariants.{Up}
 use Rattle.strm_types.specs.Ioctls.{ioc_bytes}
-use Rattle.strm_types.specs.Ldterms.{onward}
+use Rattle.strm_types.specs.Deliver.{onward}
 use Rattle.strm_types.specs.Typing.{bare}
 use Rattle.strm_pty.proofs.Replied.{ack-plain, makes-as}
 use Rattle.strm_pty.proofs.Doing.{freed-then, room-freed}

@@ -3,7 +3,7 @@ use Rattle.std.proofs.Common.{[], ◌∷◌, ◌++◌, sym, subst, append-nil, a
 use Rattle.std.specs.Option.{option_to_list}
 use Rattle.strm_types.specs.declared.names.Way.TheVariants.{Up, Down}
 use Rattle.strm_types.specs.Acks.{ack_message, telling_message}
-use Rattle.strm_types.specs.Ldterms.{onward}
+use Rattle.strm_types.specs.Deliver.{onward}
 use Rattle.strm_types.specs.Ptems.{window_signal}
 use Rattle.strm_pty.specs.Does.{Swaps}
 use Rattle.strm_pty.proofs.Carried.{carry-more}

@@ -3,7 +3,7 @@ use Rattle.std.proofs.Common.{[], ◌∷◌, ap, ◌∙◌, arith}
 use Rattle.strm_types.specs.declared.ioctls.Ioc.{Ioc}
 use Rattle.strm_types.specs.declared.kinds.MsgKind.TheVariants.{Iocnak}
 use Rattle.strm_types.specs.Ioctls.{ioc_bytes}
-use Rattle.strm_types.specs.Ldterms.{onward}
+use Rattle.strm_types.specs.Deliver.{onward}
 use Rattle.strm_types.specs.Typing.{bare}
 use Rattle.strm_pty.proofs.Replied.{makes-as}
 use Rattle.strm_pty.proofs.Doing.{freed-then, room-freed}

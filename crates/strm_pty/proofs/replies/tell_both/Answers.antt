@@ -2,7 +2,7 @@
 use Rattle.std.proofs.Common.{ℕ, List, [], ◌∷◌, drop, sym, ap, subst, ◌∙◌}
 use Rattle.strm_types.specs.declared.names.Way.TheVariants.{Up, Down}
 use Rattle.strm_types.specs.Acks.{ack_message, telling_message}
-use Rattle.strm_types.specs.Ldterms.{onward}
+use Rattle.strm_types.specs.Deliver.{onward}
 use Rattle.strm_blocks.specs.Blocks.{IsInHand, token}
 use Rattle.strm_frame.specs.Hands.{HasRoom}
 use Rattle.strm_pty.specs.Does.{Swaps}

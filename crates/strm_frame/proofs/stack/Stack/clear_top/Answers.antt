@@ -1,22 +1,24 @@
 -- The modules are taken as a slice, and written back whole.
 use Rattle.std.proofs.Common.{◌∙◌, List, ap, sym, subst, [], length}
 use Rattle.strm_types.specs.declared.names.Way.TheVariants.{Down}
-use Rattle.strm_types.specs.ModuleQueues.{at_place, messages_at}
+use Rattle.strm_types.specs.ModuleQueues.{at_place}
+use Rattle.strm_types.specs.Standings.{messages_at}
 use Rattle.strm_types.specs.Modules.{act_among}
 use Rattle.strm_types.specs.Service.{cleared}
 use Rattle.strm_frame.specs.Does.{Clears}
 use Rattle.strm_frame.specs.Stacks.{all_in, all_of, AreHeld}
+use Rattle.strm_frame.specs.Standings.{standing_in, Fits, owns, keeps_of}
 use Rattle.strm_frame.proofs.Beside.{refilled}
 use Rattle.strm_frame.proofs.stack.Stack.clear_top.Goals as goal
 
 pub clear_among-requires-clause-held : goal.clear_among-requires-clause-held
 clear_among-requires-clause-held g c =
     let w = g.M.Module in
-    subst (AreHeld w.IsHeld w.owns (g.B.Blocks.value c.args.store.now)) (sym c.as_mut_slice.ensures.value) c.requires.held
+    subst (AreHeld (Fits w.IsHeld) owns (g.B.Blocks.value c.args.store.now)) (sym c.as_mut_slice.ensures.value) c.requires.held
 
 pub clear_among-requires-clause-rests : goal.clear_among-requires-clause-rests
 clear_among-requires-clause-rests g c = λ i.
-    ap (λ xs. all_of g.M.Module.keeps xs i) c.as_mut_slice.ensures.value ∙ c.requires.rests i
+    ap (λ xs. all_of (keeps_of g.M.Module.keeps) xs i) c.as_mut_slice.ensures.value ∙ c.requires.rests i
 
 pub returns-clause-length : goal.returns-clause-length
 returns-clause-length g c =
@@ -31,8 +33,8 @@ returns-clause-does g c =
     let before = c.as_mut_slice.ensures.value in
     let ys = c.clear_among.new.modules in
     let same = refilled c.args.self.now.modules.items ys (c.clear_among.ensures.length ∙ ap length before) in
-    let clears = act_among (cleared w.queue_of w.with_queue w.line_of w.without_line c.args.side c.args.rule) 0 in
+    let clears = act_among (cleared w.line_of w.without_line c.args.side c.args.rule) 0 in
     let These = λ (xs zs : List _).
-    let ps = all_in w.plain s xs in
-    Clears (all_in w.plain) (AreHeld w.IsHeld w.owns) (all_of w.owns) (all_of w.keeps) s t xs zs c.args.seeking (at_place (messages_at w.queue_of Down) [] 1 ps) c.clear_among.result c.args.told.now c.clear_among.new.told (clears ps) in
+    let ps = all_in (standing_in w.plain) s xs in
+    Clears (all_in (standing_in w.plain)) (AreHeld (Fits w.IsHeld) owns) (all_of owns) (all_of (keeps_of w.keeps)) s t xs zs c.args.seeking (at_place (messages_at Down) [] 1 ps) c.clear_among.result c.args.told.now c.clear_among.new.told (clears ps) in
     subst (These c.args.self.now.modules.items) (sym same) (subst (λ xs. These xs ys) before c.clear_among.ensures.does)

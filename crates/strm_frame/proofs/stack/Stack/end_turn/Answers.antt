@@ -1,10 +1,12 @@
 -- The modules are written back whole.
 use Rattle.std.proofs.Common.{◌-◌, ◌∙◌, false, List, sym, ap, subst, length}
-use Rattle.strm_types.specs.ModuleQueues.{at_place, queue_changed}
+use Rattle.strm_types.specs.ModuleQueues.{at_place}
+use Rattle.strm_types.specs.Standings.{queue_changed}
 use Rattle.strm_types.specs.Modules.{change_among}
 use Rattle.strm_types.specs.Service.{turn_ended, end_relieves, has_more}
 use Rattle.strm_frame.specs.Does.{EndsTurn}
 use Rattle.strm_frame.specs.Stacks.{all_in, all_of, AreHeld}
+use Rattle.strm_frame.specs.Standings.{standing_in, Fits, owns, keeps_of}
 use Rattle.strm_frame.proofs.Beside.{refilled}
 use Rattle.strm_frame.proofs.stack.Stack.end_turn.Goals as goal
 
@@ -19,7 +21,7 @@ returns-clause-does g c =
     let ys = c.end_turn_among.new.modules in
     let same = refilled c.args.self.now.modules.items ys (c.end_turn_among.ensures.length ∙ ap length before) in
     let These = λ (xs zs : List _).
-    EndsTurn (all_in w.plain) (AreHeld w.IsHeld w.owns) (all_of w.owns) (all_of w.keeps) s xs zs c.end_turn_among.result
-    (at_place (end_relieves w.queue_of took way) false place (all_in w.plain s xs)) (at_place (has_more w.queue_of way) false place (all_in w.plain s xs))
-    (change_among (queue_changed w.queue_of w.with_queue way (turn_ended took)) (place - 1) (all_in w.plain s xs)) in
+    EndsTurn (all_in (standing_in w.plain)) (AreHeld (Fits w.IsHeld) owns) (all_of owns) (all_of (keeps_of w.keeps)) s xs zs c.end_turn_among.result
+    (at_place (end_relieves took way) false place (all_in (standing_in w.plain) s xs)) (at_place (has_more way) false place (all_in (standing_in w.plain) s xs))
+    (change_among (queue_changed way (turn_ended took)) (place - 1) (all_in (standing_in w.plain) s xs)) in
     subst (These c.args.self.now.modules.items) (sym same) (subst (λ xs. These xs ys) before c.end_turn_among.ensures.does)

@@ -4,6 +4,7 @@ use Rattle.strm_types.specs.ModuleQueues.{place_past, waits_at, waits_past}
 use Rattle.strm_blocks.specs.Blocks.{StoreValue}
 use Rattle.strm_frame.specs.Does.{Changes}
 use Rattle.strm_frame.specs.Stacks.{all_in, all_of, AreHeld}
+use Rattle.strm_frame.specs.Standings.{standing_in, Fits, owns, keeps_of}
 use Rattle.strm_frame.proofs.Beside.{refilled}
 use Rattle.strm_frame.proofs.stack.Stack.let_wait_past.Goals as goal
 
@@ -14,10 +15,10 @@ returns-clause-does g c =
     let ys = c.let_wait_at.new.modules in
     let same = refilled c.args.self.now.modules.items ys (c.let_wait_at.ensures.length ∙ ap length before) in
     let These = λ (xs zs : List _).
-    Changes (all_in w.plain) (AreHeld w.IsHeld w.owns) (all_of w.owns) (all_of w.keeps) xs zs (waits_past w.queue_of w.with_queue c.args.way c.args.band.0 c.args.at) in
+    Changes (all_in (standing_in w.plain)) (AreHeld (Fits w.IsHeld) owns) (all_of owns) (all_of (keeps_of w.keeps)) xs zs (waits_past c.args.way c.args.band.0 c.args.at) in
     let did = c.let_wait_at.ensures.does in
-    let waits = λ (s : StoreValue). waits_at w.queue_of w.with_queue c.args.way c.args.band.0 (all_in w.plain s c.as_mut_slice.result.now) in
-    let past = λ (s : StoreValue) (xs : List _). place_past w.queue_of c.args.way c.args.at (all_in w.plain s xs) in
+    let waits = λ (s : StoreValue). waits_at c.args.way c.args.band.0 (all_in (standing_in w.plain) s c.as_mut_slice.result.now) in
+    let past = λ (s : StoreValue) (xs : List _). place_past c.args.way c.args.at (all_in (standing_in w.plain) s xs) in
     let passes : These c.as_mut_slice.result.now ys = record {
       state = λ s. did.state s ∙ ap (waits s) (c.place_past-place.ensures.place s ∙ ap (past s) (sym before));
       held = did.held;

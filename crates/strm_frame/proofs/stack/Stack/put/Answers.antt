@@ -1,8 +1,9 @@
 -- The modules are taken as a slice, and written back whole.
 use Rattle.std.proofs.Common.{◌-◌, ◌∙◌, List, ap, sym, subst, length, map, arith}
-use Rattle.std.specs.Prelude.{slice_index_or}
+use Rattle.std.specs.Prelude.{ℕ, slice_index_or}
 use Rattle.strm_types.specs.Budgets.{own_at}
 use Rattle.strm_types.specs.Modules.{put_among}
+use Rattle.strm_types.specs.Standings.{of_part, Standing}
 use Rattle.strm_frame.specs.Does.{Puts}
 use Rattle.strm_frame.specs.Hands.{CanPut, HasRoom}
 use Rattle.strm_frame.specs.Outboxes.{message_in}
@@ -10,6 +11,7 @@ use Rattle.strm_frame.specs.Stacks.{all_in, all_of, AreHeld}
 use Rattle.strm_frame.proofs.Beside.{refilled}
 use Rattle.strm_frame.proofs.stack.Stack.put.Goals as goal
 use Rattle.strm_blocks.specs.Blocks.{token}
+use Rattle.strm_frame.specs.Standings.{standing_in, Fits, owns, keeps_of}
 
 pub put_among-requires-clause-within : goal.put_among-requires-clause-within
 put_among-requires-clause-within g c = let same = ap length c.as_mut_slice.ensures.value in omega arith
@@ -17,18 +19,18 @@ put_among-requires-clause-within g c = let same = ap length c.as_mut_slice.ensur
 pub put_among-requires-clause-held : goal.put_among-requires-clause-held
 put_among-requires-clause-held g c =
     let w = g.M.Module in
-    subst (AreHeld w.IsHeld w.owns (g.B.Blocks.value c.args.store.now)) (sym c.as_mut_slice.ensures.value) c.requires.held
+    subst (AreHeld (Fits w.IsHeld) owns (g.B.Blocks.value c.args.store.now)) (sym c.as_mut_slice.ensures.value) c.requires.held
 
 pub put_among-requires-clause-can_put : goal.put_among-requires-clause-can_put
 put_among-requires-clause-can_put g c =
-    subst (λ xs. CanPut (g.B.Blocks.value c.args.store.now) (token c.args.message) (all_of g.M.Module.keeps xs)) (sym c.as_mut_slice.ensures.value) c.requires.can_put
+    subst (λ xs. CanPut (g.B.Blocks.value c.args.store.now) (token c.args.message) (all_of (keeps_of g.M.Module.keeps) xs)) (sym c.as_mut_slice.ensures.value) c.requires.can_put
 
 pub put_among-requires-clause-room : goal.put_among-requires-clause-room
 put_among-requires-clause-room g c =
     let w = g.M.Module in
     let s = g.B.Blocks.value c.args.store.now in
     let m = message_in s (token c.args.message) in
-    subst (λ xs. HasRoom s (slice_index_or (map (λ p. own_at (w.does p) c.args.to m) (map (w.plain s) xs)) (c.args.to.at - 1) 0)) (sym c.as_mut_slice.ensures.value) c.requires.room
+    subst (λ xs. HasRoom s (slice_index_or (map (of_part (λ p. own_at (w.does p) c.args.to m)) (map (standing_in w.plain s) xs)) (c.args.to.at - 1) 0)) (sym c.as_mut_slice.ensures.value) c.requires.room
 
 pub returns-clause-length : goal.returns-clause-length
 returns-clause-length g c =
@@ -46,8 +48,8 @@ returns-clause-does g c =
     let before = c.as_mut_slice.ensures.value in
     let ys = c.put_among.new.modules in
     let same = refilled c.args.self.now.modules.items ys (c.put_among.ensures.length ∙ ap length before) in
-    let said = λ (say : w.Plain → _) (xs : List _). slice_index_or (map say (all_in w.plain s xs)) (to.at - 1) 0 in
+    let said = λ (say : Standing w.Plain ℕ → _) (xs : List _). slice_index_or (map say (all_in (standing_in w.plain) s xs)) (to.at - 1) 0 in
     let These = λ (xs zs : List _).
-    Puts (all_in w.plain) (AreHeld w.IsHeld w.owns) (all_of w.owns) (all_of w.keeps) s t xs zs n (said (λ p. own_at (w.does p) to m) xs)
-    c.put_among.result c.args.told.now c.put_among.new.told (put_among w.puts (to.at - 1) to m (all_in w.plain s xs)) in
+    Puts (all_in (standing_in w.plain)) (AreHeld (Fits w.IsHeld) owns) (all_of owns) (all_of (keeps_of w.keeps)) s t xs zs n (said (of_part (λ p. own_at (w.does p) to m)) xs)
+    c.put_among.result c.args.told.now c.put_among.new.told (put_among w.puts (to.at - 1) to m (all_in (standing_in w.plain) s xs)) in
     subst (These c.args.self.now.modules.items) (sym same) (subst (λ xs. These xs ys) before c.put_among.ensures.does)

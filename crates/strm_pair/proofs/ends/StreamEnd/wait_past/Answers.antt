@@ -3,7 +3,7 @@ use Rattle.std.proofs.Common.{ℕ, List, map, ap, sym, ◌∙◌}
 use Rattle.std.specs.Prelude.{Option}
 use Rattle.strm_types.specs.ModuleQueues.{waits_at}
 use Rattle.strm_laws.specs.Past.{waits_on}
-use Rattle.strm_laws.specs.Stacked.{Module, module_name, module_queue, with_module_queue}
+use Rattle.strm_laws.specs.Stacked.{Standing, module_name}
 use Rattle.strm_laws.proofs.StackStays.{waits-names}
 use Rattle.strm_pair.proofs.Puttings.{side-changed}
 use Rattle.strm_pair.proofs.ends.StreamEnd.wait_past.Goals as goal
@@ -20,8 +20,8 @@ pub returns-in-Some-clause-stream : goal.returns-in-Some-clause-stream
 returns-in-Some-clause-stream c = λ s.
     let x = c.args.self.now in
     let t = stream_in s x in
-    ap (λ (ms : List (Module ℕ)). record t { modules = ms }) (c.let_wait_past.ensures.does.state s)
-    ∙ ap (λ (o : Option ℕ). record t { modules = waits_at module_queue with_module_queue c.args.way c.args.band.0 t.modules o }) (sym (c.place_past.ensures.place s) ∙ c.in-Some.is)
+    ap (λ (ms : List (Standing ℕ)). record t { modules = ms }) (c.let_wait_past.ensures.does.state s)
+    ∙ ap (λ (o : Option ℕ). record t { modules = waits_at c.args.way c.args.band.0 t.modules o }) (sym (c.place_past.ensures.place s) ∙ c.in-Some.is)
     ∙ ap (λ o. waits_on c.args.way c.args.band.0 o t) (sym (sym (c.place_past.ensures.place s) ∙ c.in-Some.is))
 
 pub returns-in-None-clause-stream : goal.returns-in-None-clause-stream

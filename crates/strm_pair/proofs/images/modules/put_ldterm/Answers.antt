@@ -1,17 +1,40 @@
 -- Its settings and both queues are its text.
-use Rattle.std.proofs.Common.{◌∙◌, ap}
+use Rattle.std.proofs.Common.{sym, ap, subst, ◌∙◌}
+use Rattle.std.specs.Prelude.{IfSome}
 use Rattle.strm_image.specs.declared.versions.QueueKind.TheVariants as queues
 use Rattle.strm_image.specs.declared.versions.Version.TheVariants.{Second}
+use Rattle.strm_image.specs.Modules.{module_format}
 use Rattle.strm_image.specs.Queues.{queue}
 use Rattle.strm_image.specs.Sinks.{put}
 use Rattle.strm_queue.specs.Stored.{queue_in}
+use Rattle.strm_frame.specs.Standings.{IsPairReady, standing}
+use Rattle.strm_ldterm.specs.Stands.{HasInHand}
+use Rattle.strm_pair.specs.declared.modules.AnyModule.TheVariants as kinds
+use Rattle.strm_pair.specs.AnyModules.{module_in}
 use Rattle.strm_pair.proofs.RestTexts.{ldterm_written}
 use Rattle.strm_pair.proofs.images.modules.put_ldterm.Goals as goal
+
+pub unreachable-requires : goal.unreachable-requires
+unreachable-requires g c = subst (HasInHand (g.B.Blocks.value c.args.store.now) c.args.ldterm.now) c.in_default.is c.requires.held.itself
+
+pub put_queue-out-requires : goal.put_queue-out-requires
+put_queue-out-requires g c =
+    let s = g.B.Blocks.value c.args.store.now in
+    let ready : IsPairReady s c.in-Some.pair = subst (λ o. IfSome o (IsPairReady s)) c.in-Some.is c.requires.held.queues in
+    ready.read
+
+pub put_queue-requires : goal.put_queue-requires
+put_queue-requires g c =
+    let s = g.B.Blocks.value c.args.store.now in
+    let ready : IsPairReady s c.in-Some.pair = subst (λ o. IfSome o (IsPairReady s)) c.in-Some.is c.requires.held.queues in
+    ready.write
 
 pub returns : goal.returns
 returns g c =
     let s = g.B.Blocks.value c.args.store.now in
     let x = c.args.ldterm.now in
-    c.put_queue.ensures ∙ ap (put ((queue Second queues.LdtermWrite).text (queue_in s x.write_queue)))
-    (c.put_queue-out.ensures ∙ ap (put ((queue Second queues.LdtermRead).text (queue_in s x.read_queue))) (c.put_settings.ensures s))
-    ∙ ldterm_written s x c.args.out
+    let pair = c.in-Some.pair in
+    c.put_queue.ensures ∙ ap (put ((queue Second queues.LdtermWrite).text (queue_in s pair.write)))
+    (c.put_queue-out.ensures ∙ ap (put ((queue Second queues.LdtermRead).text (queue_in s pair.read))) (c.put_settings.ensures s))
+    ∙ ldterm_written s x pair c.args.out
+    ∙ ap (λ o. put ((module_format Second).text (module_in s (standing (kinds.Ldterm x) o))) c.args.out) (sym c.in-Some.is)

@@ -1,11 +1,30 @@
--- An ldterm is new on its two lists, and a ptem has none.
-use Rattle.std.proofs.Common.{arith}
-use Rattle.strm_frame.proofs.Handing.{once-self}
-use Rattle.strm_pair.proofs.MadeModules.{ldterm-made}
+-- Each kind is new, fits queues where it has some and fits none else, and keeps nothing.
+use Rattle.std.proofs.Common.{◌≡◌, true, refl, ap}
+use Rattle.std.proofs.lemmas.Bool.{false≢true}
+use Rattle.std.specs.Prelude.{Option, None, Some, is_some}
+use Rattle.strm_laws.specs.Stacked.{OfLdterm}
+use Rattle.strm_blocks.specs.Blocks.{StoreValue}
+use Rattle.strm_frame.specs.declared.queue_pair.QueuePair.{QueuePair}
+use Rattle.strm_ldterm.specs.declared.ldterm.Ldterm.{Ldterm}
+use Rattle.strm_ldterm.specs.Stands.{HasInHand}
+use Rattle.strm_pair.proofs.MadeModules.{none-are}
 use Rattle.strm_pair.proofs.modules.AnyModule.made.Goals as goal
 
-pub returns-in-Some-clause-made : goal.returns-in-Some-clause-made
-returns-in-Some-clause-made c = rw c.in-Ldterm.is (ldterm-made c.args.first c.new.result c.new.ensures.state c.new.ensures.held c.new.ensures.rests c.new.ensures.owns)
+ldterm-fits : (s : StoreValue) (x : Ldterm) (queues : Option QueuePair) → is_some queues ≡ true → ((pair : QueuePair) → HasInHand s x (Some pair)) → HasInHand s x queues
+ldterm-fits s x None has held = absurd (false≢true has)
+ldterm-fits s x (Some pair) has held = held pair
 
-pub returns-in-Some-clause-shelf : goal.returns-in-Some-clause-shelf
-returns-in-Some-clause-shelf c = λ none. absurd (omega (arith, none, c.new.ensures.owns c.args.first, once-self c.args.first))
+pub returns-in-Ldterm-clause-made : goal.returns-in-Ldterm-clause-made
+returns-in-Ldterm-clause-made c = rw c.in-Ldterm.is (λ s. ap OfLdterm (c.new.ensures.state s))
+
+pub returns-in-Ldterm-clause-fresh : goal.returns-in-Ldterm-clause-fresh
+returns-in-Ldterm-clause-fresh c = rw c.in-Ldterm.is (record {
+  held = λ s queues has. ldterm-fits s c.new.result queues has (λ pair. c.new.ensures.held s pair);
+  rests = c.new.ensures.rests;
+})
+
+pub returns-in-Ptem-clause-fresh : goal.returns-in-Ptem-clause-fresh
+returns-in-Ptem-clause-fresh c = rw c.in-Ptem.is (record { held = λ s queues has. none-are queues has; rests = λ i. refl })
+
+pub returns-in-Pckt-clause-fresh : goal.returns-in-Pckt-clause-fresh
+returns-in-Pckt-clause-fresh c = rw c.in-Pckt.is (record { held = λ s queues has. none-are queues has; rests = λ i. refl })

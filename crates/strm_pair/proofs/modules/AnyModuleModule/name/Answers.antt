@@ -1,14 +1,14 @@
 -- Its kind says its name.
 use Rattle.std.proofs.Common.{sym, ap, ◌∙◌}
-use Rattle.strm_laws.specs.Stacked.{module_name}
-use Rattle.strm_pair.specs.AnyModules.{module_in}
+use Rattle.strm_laws.specs.Stacked.{kind_name}
+use Rattle.strm_pair.specs.AnyModules.{kind_in}
 use Rattle.strm_pair.proofs.modules.AnyModuleModule.name.Goals as goal
 
 pub returns-in-Ldterm : goal.returns-in-Ldterm
-returns-in-Ldterm c = λ s. c.name.ensures s ∙ ap (λ x. module_name (module_in s x)) (sym c.in-Ldterm.is)
+returns-in-Ldterm c = λ s. c.name.ensures s ∙ ap (λ x. kind_name (kind_in s x)) (sym c.in-Ldterm.is)
 
 pub returns-in-Ptem : goal.returns-in-Ptem
-returns-in-Ptem c = λ s. c.name-in-Ptem.ensures s ∙ ap (λ x. module_name (module_in s x)) (sym c.in-Ptem.is)
+returns-in-Ptem c = λ s. c.name-in-Ptem.ensures s ∙ ap (λ x. kind_name (kind_in s x)) (sym c.in-Ptem.is)
 
 pub returns-in-Pckt : goal.returns-in-Pckt
-returns-in-Pckt c = λ s. c.name-in-Pckt.ensures s ∙ ap (λ x. module_name (module_in s x)) (sym c.in-Pckt.is)
+returns-in-Pckt c = λ s. c.name-in-Pckt.ensures s ∙ ap (λ x. kind_name (kind_in s x)) (sym c.in-Pckt.is)

@@ -1,66 +1,44 @@
--- An ldterm keeps what the module does.
-use Rattle.std.proofs.Common.{ℕ, ◌≡◌, Bool, false, List, [], subst, arith, rules}
-use Rattle.strm_types.specs.Deliver.{Parcel}
-use Rattle.strm_types.specs.Budgets.{most}
-use Rattle.strm_types.proofs.CostsOf.{none-few}
-use Rattle.strm_blocks.specs.Blocks.{StoreValue}
-use Rattle.strm_frame.specs.Hands.{AreIn, HasRoom}
-use Rattle.strm_frame.specs.Outboxes.{parcels_in, sent_of}
-use Rattle.strm_frame.specs.Serves.{later_cost}
-use Rattle.strm_pair.specs.AnyModules.{keeps}
+-- Its kind does it; an ldterm keeps what the module does.
+use Rattle.std.proofs.Common.{true, refl, subst}
+use Rattle.std.proofs.lemmas.Bool.{false≢true}
+use Rattle.strm_types.specs.LdtermCalls.{Ends}
+use Rattle.strm_types.specs.LdtermStands.{discipline_at}
+use Rattle.strm_laws.specs.TurnCalls.{discipline_of}
+use Rattle.strm_frame.specs.Hands.{AreIn}
+use Rattle.strm_ldterm.specs.Bounds.{turn_cost}
+use Rattle.strm_pair.specs.AnyModules.{kind_cost, kind_keeps}
+use Rattle.strm_pair.proofs.KindsDo.{kind-fits, kind-serves, ldterm-kind, pckt-kind, ptem-kind}
 use Rattle.strm_pair.proofs.modules.AnyModuleModule.serve.Goals as goal
 
+pub serve-requires-clause-held : goal.serve-requires-clause-held
+serve-requires-clause-held g c = kind-fits _ _ _ _ _ ldterm-kind _ _ _ _ c.in-Ldterm.is c.requires.held
+
+pub serve-requires-in-Ptem-clause-held : goal.serve-requires-in-Ptem-clause-held
+serve-requires-in-Ptem-clause-held g c = kind-fits _ _ _ _ _ ptem-kind _ _ _ _ c.in-Ptem.is c.requires.held
+
+pub serve-requires-in-Pckt-clause-held : goal.serve-requires-in-Pckt-clause-held
+serve-requires-in-Pckt-clause-held g c = kind-fits _ _ _ _ _ pckt-kind _ _ _ _ c.in-Pckt.is c.requires.held
+
 pub serve-requires-clause-kept : goal.serve-requires-clause-kept
-serve-requires-clause-kept g c = subst (λ x. AreIn (g.B.Blocks.value c.args.store.now) (λ _. 0) (keeps x)) c.in-Ldterm.is c.requires.kept
+serve-requires-clause-kept g c = subst (λ x. AreIn (g.B.Blocks.value c.args.store.now) (λ _. 0) (kind_keeps x)) c.in-Ldterm.is c.requires.kept
 
--- the others send nothing
-none-sent : (s : StoreValue) (again : Bool) (next : ℕ) (ps : List (Parcel ℕ)) → again ≡ false → ps ≡ [] → HasRoom s (later_cost again next ps)
-none-sent s again next ps ends none = rw (ends, none) (let free = none-few ℕ most 0 in record { mblks = omega (arith, free); dblks = omega (arith, free) })
+pub returns-in-Ldterm : goal.returns-in-Ldterm
+returns-in-Ldterm g c =
+    let here = c.args.here in
+    let again = c.args.again in
+    rw c.in-Ldterm.is (kind-serves _ _ _ _ _ ldterm-kind (turn_cost here true) (kind_cost here true)
+    (λ n x. Ends here.way again (discipline_at x) n) (λ n x. Ends here.way again (discipline_of x) n) (λ n x ends. ends)
+    _ _ _ _ _ _ _ _ _ _ (λ on p. refl) c.serve.ensures)
 
+-- the others have no procedure, and never stop
 pub returns-in-Ptem : goal.returns-in-Ptem
 returns-in-Ptem g c =
-    let t = g.B.Blocks.value c.serve-in-Ptem.new._store in
-    let r = c.serve-in-Ptem.result in
-    let e = c.serve-in-Ptem.ensures in
-    record {
-      state = search rules;
-      notes = search rules;
-      sent = search rules;
-      told = search rules;
-      bytes = search rules;
-      again = search rules;
-      stopped = search rules;
-      stops = search rules;
-      some = search rules;
-      made = search rules;
-      held = search rules;
-      own = search rules;
-      chains = e.chains;
-      hands = search rules;
-      room = none-sent t r.again _ (parcels_in t (sent_of r.acts.sent)) e.again e.sent;
-      pool = e.pool;
-    }
+    rw c.in-Ptem.is (rw c.in-Ptem.is (kind-serves _ _ _ _ _ ptem-kind (λ p. 0) (kind_cost c.args.here true)
+    (λ n x. ⊥) (λ n x. Ends c.args.here.way c.args.again (discipline_of x) n) (λ n x never. absurd never)
+    _ _ _ _ _ _ _ _ _ _ (λ on p. absurd (false≢true on)) c.serve-in-Ptem.ensures))
 
 pub returns-in-Pckt : goal.returns-in-Pckt
 returns-in-Pckt g c =
-    let t = g.B.Blocks.value c.serve-in-Pckt.new._store in
-    let r = c.serve-in-Pckt.result in
-    let e = c.serve-in-Pckt.ensures in
-    record {
-      state = search rules;
-      notes = search rules;
-      sent = search rules;
-      told = search rules;
-      bytes = search rules;
-      again = search rules;
-      stopped = search rules;
-      stops = search rules;
-      some = search rules;
-      made = search rules;
-      held = search rules;
-      own = search rules;
-      chains = e.chains;
-      hands = search rules;
-      room = none-sent t r.again _ (parcels_in t (sent_of r.acts.sent)) e.again e.sent;
-      pool = e.pool;
-    }
+    rw c.in-Pckt.is (rw c.in-Pckt.is (kind-serves _ _ _ _ _ pckt-kind (λ p. 0) (kind_cost c.args.here true)
+    (λ n x. ⊥) (λ n x. Ends c.args.here.way c.args.again (discipline_of x) n) (λ n x never. absurd never)
+    _ _ _ _ _ _ _ _ _ _ (λ on p. absurd (false≢true on)) c.serve-in-Pckt.ensures))

@@ -5,7 +5,7 @@ use Rattle.std.proofs.lemmas.List.{length-map}
 use Rattle.strm_types.specs.declared.limits.TheConstants.{MODULES}
 use Rattle.strm_types.specs.Names.{place_of}
 use Rattle.strm_laws.specs.Earlier.{before_among, before_by, before_modules, places_of, queue_named}
-use Rattle.strm_laws.specs.Stacked.{Module, module_name}
+use Rattle.strm_laws.specs.Stacked.{Standing, module_name}
 use Rattle.strm_laws.specs.State.{Stream}
 use Rattle.strm_frame.specs.Stacks.{IsPlace}
 use Rattle.strm_pair.specs.Stacks.{modules_in}
@@ -25,7 +25,7 @@ pub returns-in-None : goal.returns-in-None
 returns-in-None c = λ s.
     let ms = modules_in s c.end.result.now.stack in
     let many : c.min.result ≡ min MODULES (length (places_of ms)) =
-    omega (arith, c.min.ensures, c.module_count.ensures s, length-map ms (λ (p : Module ℕ). place_of (module_name p))) in
+    omega (arith, c.min.ensures, c.module_count.ensures s, length-map ms (λ (p : Standing ℕ). place_of (module_name p))) in
     c.before_modules.ensures ∙ ap (λ n. before_modules c.args.side c.args.way n c.args.at) many
     ∙ ap (before_by c.args.side c.args.way c.args.at (places_of ms)) (sym (sym (c.place_before.ensures.place s) ∙ c.in-None.is))
     ∙ ap (λ (t : Stream ℕ). before_among c.args.side c.args.way c.args.at t.modules) (c.end.ensures.stream s)

@@ -3,9 +3,10 @@ use Rattle.std.proofs.Common.{ℕ, ◌≤◌, length, refl, sym, ap, subst, ◌�
 use Rattle.std.proofs.lemmas.List.{length-map}
 use Rattle.strm_types.specs.declared.answers.Turn.TheVariants.{Blocked, Idle}
 use Rattle.strm_types.specs.declared.spots.Asks.TheVariants as asked
-use Rattle.strm_types.specs.ModuleQueues.{at_place, messages_at}
+use Rattle.strm_types.specs.ModuleQueues.{at_place}
+use Rattle.strm_types.specs.Standings.{messages_at}
 use Rattle.strm_laws.specs.ModuleTurns.{stayed_at}
-use Rattle.strm_laws.specs.Stacked.{module_asks, module_queue}
+use Rattle.strm_laws.specs.Stacked.{module_asks}
 use Rattle.strm_laws.specs.State.{State, Stream, stream}
 use Rattle.strm_types.specs.Queue.{first_size}
 use Rattle.strm_laws.specs.TurnOutcomes.{stayed_put}
@@ -26,7 +27,7 @@ returns-in-Free-clause-begins g c =
     let at = c.in-Some.at in
     let found = sym (c.module_named.ensures s) ∙ c.in-Some.is in
     let asks = sym c.in-Free.is ∙ c.asks.ensures.asks ∙ ap (λ (t : Stream ℕ). at_place (module_asks name.way) asked.Empty at t.modules) (c.end.ensures.stream s) in
-    let few = subst (λ (t : Stream ℕ). at_place (λ p. first_size (messages_at module_queue name.way p)) 0 at t.modules ≤ 16777216) (c.end.ensures.stream s) c.asks.ensures.few in
+    let few = subst (λ (t : Stream ℕ). at_place (λ p. first_size (messages_at name.way p)) 0 at t.modules ≤ 16777216) (c.end.ensures.stream s) c.asks.ensures.few in
     may-move name at st found few (λ turn. turned-asks name at asked.Free turn st c.requires.idle found asks)
 
 pub returns-then-has_room_past-clause-begins : goal.returns-then-has_room_past-clause-begins
@@ -39,7 +40,7 @@ returns-then-has_room_past-clause-begins g c =
     let found = sym (c.module_named.ensures s) ∙ c.in-Some.is in
     let asks = sym c.in-Room.is ∙ c.asks.ensures.asks ∙ ap (λ (t : Stream ℕ). at_place (module_asks name.way) asked.Empty at t.modules) (c.end.ensures.stream s) in
     let room = sym c.has_room_past.ensures ∙ c.if-has_room_past.true in
-    let few = subst (λ (t : Stream ℕ). at_place (λ p. first_size (messages_at module_queue name.way p)) 0 at t.modules ≤ 16777216) (c.end.ensures.stream s) c.asks.ensures.few in
+    let few = subst (λ (t : Stream ℕ). at_place (λ p. first_size (messages_at name.way p)) 0 at t.modules ≤ 16777216) (c.end.ensures.stream s) c.asks.ensures.few in
     may-move name at st found few (λ turn. turned-asks name at (asked.Room band) turn st c.requires.idle found asks ∙ turned-room name at band turn st room)
 
 pub overflow_cast-here : goal.overflow_cast-here

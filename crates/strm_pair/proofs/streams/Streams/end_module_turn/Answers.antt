@@ -5,7 +5,6 @@ use Rattle.strm_types.specs.Names.{enable_if, enable_some}
 use Rattle.strm_types.specs.Service.{end_relieves, has_more}
 use Rattle.strm_laws.specs.Earlier.{before_at}
 use Rattle.strm_laws.specs.ModuleTurns.{queue_ended}
-use Rattle.strm_laws.specs.Stacked.{module_queue}
 use Rattle.strm_laws.specs.State.{State, stream, with_stream}
 use Rattle.strm_pair.specs.declared.streams.Streams.{Streams}
 use Rattle.strm_pair.specs.Pairs.{state_in}
@@ -22,8 +21,8 @@ returns-clause-state g c =
     let e = c.end_queue-end.ensures in
     let gone = c.let_go.ensures s in
     let ms = (stream here.side st).modules in
-    let more = at_place (has_more module_queue here.way) false here.at ms in
-    let room = at_place (end_relieves module_queue c.args.took here.way) false here.at ms in
+    let more = at_place (has_more here.way) false here.at ms in
+    let room = at_place (end_relieves c.args.took here.way) false here.at ms in
     let ended = with_stream here.side (queue_ended here c.args.took (stream here.side st)) st in
     ap (λ (x : Streams). record (state_in s x) { enabled = c.enable_if.new.self }) gone
     ∙ ap (λ ns. record (state_in s q) { enabled = ns })

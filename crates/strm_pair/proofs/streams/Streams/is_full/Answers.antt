@@ -2,7 +2,6 @@
 use Rattle.std.proofs.Common.{false, ap, sym, ◌∙◌}
 use Rattle.strm_types.specs.declared.names.Place.TheVariants.{Ldterm}
 use Rattle.strm_types.specs.ModuleQueues as modules
-use Rattle.strm_laws.specs.Stacked.{module_queue}
 use Rattle.strm_laws.specs.State.{Stream, stream}
 use Rattle.strm_pair.specs.Named.{at_named}
 use Rattle.strm_pair.specs.Pairs.{state_in}
@@ -17,6 +16,6 @@ returns-in-Ldterm g c =
     let way = c.args.queue.way in
     let band = c.args.band.0 in
     c.is_full_named.ensures
-    ∙ ap (λ place. at_named place (modules.full_at module_queue way band) false (modules_in s c.end-end.result.now.stack)) c.in-Ldterm.is
-    ∙ ap (λ (u : Stream _). at_named Ldterm (modules.full_at module_queue way band) false u.modules) (c.end-end.ensures.stream s)
+    ∙ ap (λ place. at_named place (modules.full_at way band) false (modules_in s c.end-end.result.now.stack)) c.in-Ldterm.is
+    ∙ ap (λ (u : Stream _). at_named Ldterm (modules.full_at way band) false u.modules) (c.end-end.ensures.stream s)
     ∙ ap (λ place. full_in place way band t) (sym c.in-Ldterm.is)

@@ -6,7 +6,10 @@ use Rattle.strm_laws.specs.Pushes.{may_stand, mode_put, named_by, with_modules}
 use Rattle.strm_types.specs.Names.{place_of}
 use Rattle.strm_laws.specs.State.{State, stream}
 use Rattle.strm_pair.specs.declared.streams.Streams.{Streams}
-use Rattle.strm_pair.specs.Pairs.{state_in, AreHeld}
+use Rattle.std.specs.List.{AllByRecursion}
+use Rattle.strm_pair.specs.AnyModules.{HasAsNamed, all-have}
+use Rattle.strm_pair.specs.Pairs.{end_at, state_in, AreHeld}
+use Rattle.strm_pair.proofs.Sides.{modules-are}
 use Rattle.strm_pair.proofs.ModulePushed.{made-named}
 use Rattle.strm_pair.proofs.Modes.{driver_comes, modules-stay, pushed-is}
 use Rattle.strm_pair.proofs.streams.Streams.push.Goals as goal
@@ -29,8 +32,11 @@ returns-clause-leads g c =
     let told = c.put_mode.ensures in
     let reads = is_some (place_of name) in
     let may = ap (λ (o : Option _). may_stand (named_by o) (stream c.args.side s).modules) (sym c.in-Some.is) ∙ c.requires.may_stand in
+    let now = g.B.Blocks.value c.args.store.now in
+    let items = (end_at c.args.side c.args.self.now).stack.modules.items in
+    let has = subst (AllByRecursion HasAsNamed) (sym (modules-are now c.args.self.now c.args.side)) (all-have now items (c.requires.rests.held.beside c.args.side).stack.each) in
     let new = made-named name (stream c.args.side s).modules may in
-    let pushed = pushed-is c.args.side name new.0 s new.1 may in
+    let pushed = pushed-is c.args.side name new.0 s new.1 has may in
     let stands : v ≡ with_modules c.args.side (new.0 ∷ (stream c.args.side u).modules) u =
     subst (λ o. IfSome o (λ p. v ≡ with_modules c.args.side (p ∷ (stream c.args.side u).modules) u)) new.1 c.put_on.ensures.state in
     let held = c.put_on.ensures.held in

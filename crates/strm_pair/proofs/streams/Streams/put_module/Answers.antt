@@ -93,7 +93,7 @@ returns-clause-does g c =
     let b_is = ap (λ k. between k f'.made_from_slave) second ∙ put-between to m st small SlaveToMaster f f' (omega (arith, few.0, first)) (omega (arith, few.1, second)) tells in
     let at : Streams → Streams = λ z. record z { enabled = noted to.side place earlier acts.notes.items z.enabled; books = with_more a b z.books } in
     module-by s t p c.book_made.new.self x i to place earlier acts f f' a b
-    c.audit.ensures c.requires.may.can_put place_is (λ way. before-stays s t p y to.side way to.at names) c.requires.may.beside e.takes a_is b_is
+    c.audit.ensures c.requires.may.can_put place_is (λ way. before-stays s t p y to.side way to.at (c.requires.may.beside to.side).stack e.takes.held names) c.requires.may.beside e.takes a_is b_is
     (c.book_made.ensures
     ∙ ap (λ (z : Streams). record z { books = with_more a b z.books }) (c.note.ensures t ∙ ap (λ ns. record y { enabled = noted to.side place earlier ns y.enabled }) c.as_slice.ensures.value)
     ∙ ap at e.streams)

@@ -3,6 +3,7 @@ use Rattle.std.proofs.Common.{◌-◌, length, ap, sym, subst, ◌∙◌, arith}
 use Rattle.std.proofs.lemmas.List.{length-map}
 use Rattle.std.specs.Prelude.{HoldsAt}
 use Rattle.strm_types.specs.ModuleQueues.{at_place}
+use Rattle.strm_types.specs.Standings.{HoldsOfPart}
 use Rattle.strm_laws.specs.State.{stream}
 use Rattle.strm_frame.specs.Hands.{HasRoom}
 use Rattle.strm_pair.specs.AnyModules.{MayServe, module_in, turn_cost}
@@ -23,7 +24,7 @@ serve-requires g c =
     let is = c.get_mut.ensures.value in
     let few = length-map c.get_mut.result.now.stack.modules.items (module_in s) in
     let same = modules-are s p here.side ∙ ap (λ (e : StreamEnd). modules_in s e.stack) (sym is) in
-    let turn = subst (λ ms. HoldsAt (MayServe here.way c.args.again) ms (here.at - 1)) same
+    let turn = subst (λ ms. HoldsAt (HoldsOfPart (MayServe here.way c.args.again)) ms (here.at - 1)) same
     (may-serve here.way c.args.again (here.at - 1) (stream here.side (state_in s p)).modules (omega (arith, c.requires.inside, c.requires.within)) c.requires.begins) in (
       omega arith,
       (

@@ -9,7 +9,7 @@ use Rattle.strm_laws.specs.ModuleTurns.{module_turn_ended, module_turned}
 use Rattle.strm_laws.specs.Ledgers.{FewBooked}
 use Rattle.strm_laws.specs.Spares.{spare}
 use Rattle.strm_types.specs.LdtermCalls.{bytes_left}
-use Rattle.strm_laws.specs.TurnCalls.{ldterm_of, module_at}
+use Rattle.strm_laws.specs.TurnCalls.{discipline_of, module_at}
 use Rattle.strm_laws.specs.TurnOutcomes.{TurnOutcome}
 use Rattle.strm_laws.proofs.Balances.{range-low, turn-few}
 use Rattle.strm_laws.proofs.InOrder.{BooksMade}
@@ -30,7 +30,7 @@ end_module_turn-requires-clause-within g c = let stands = c.call_on-bytes.ensure
 pub overflow_cast-result : goal.overflow_cast-result
 overflow_cast-result g c =
     let begins = c.in-Serves.ensures.begins in
-    let left = ap (λ v. bytes_left c.in-Serves.here.way false (ldterm_of (module_at c.in-Serves.here v))) begins.stays in
+    let left = ap (λ v. bytes_left c.in-Serves.here.way false (discipline_of (module_at c.in-Serves.here v))) begins.stays in
     omega (arith, c.call_on-bytes.ensures.treats.within, begins.few, left)
 
 pub returns-in-Over-clause-turn : goal.returns-in-Over-clause-turn
@@ -102,7 +102,7 @@ returns-in-Serves-clause-few g c =
     let stays = ap spare c.in-Serves.ensures.begins.stays in
     let behind = ap (λ (t : TurnOutcome ℕ). spare t.state) is in
     let same = same-spare st (module_turn_ended c.args.name c.in-Serves.here (not (on.result == 0)) st) ended in
-    let left = ap (λ v. bytes_left c.in-Serves.here.way false (ldterm_of (module_at c.in-Serves.here v))) c.in-Serves.ensures.begins.stays in
+    let left = ap (λ v. bytes_left c.in-Serves.here.way false (discipline_of (module_at c.in-Serves.here v))) c.in-Serves.ensures.begins.stays in
     subst FewBooked (sym shows)
     (turn-few plain old (module_turned plain c.args.name (Moved on.result) old).state (module_turned plain c.args.name (Moved on.result) old).gone c.requires.range (module-books plain c.args.name (Moved on.result) old)
     (spare-low (module_turned plain c.args.name (Moved on.result) old).state (omega (arith, range-spare old c.requires.range, stays, behind, same, on.ensures.treats.left, within, few, left))))

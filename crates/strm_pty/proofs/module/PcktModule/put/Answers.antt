@@ -1,10 +1,12 @@
 -- What a put did, in the frame's words.
-use Rattle.std.proofs.Common.{ℕ, rules, subst, sym}
+use Rattle.std.proofs.Common.{ℕ, refl, rules, subst, sym}
 use Rattle.strm_types.proofs.PcktWithin.{pckt-own}
 use Rattle.strm_frame.specs.Hands.{HasRoom, Spends}
 use Rattle.strm_frame.specs.Outboxes.{message_in}
 use Rattle.strm_frame.proofs.Handing.{can-in_hand}
 use Rattle.strm_pty.proofs.PacketCosts.{packs-hands, packs-spends}
+use Rattle.strm_pty.specs.Packs.{pckt_in}
+use Rattle.strm_pty.proofs.Alone.{alone-ready, alone-stands}
 use Rattle.strm_pty.proofs.module.PcktModule.put.Goals as goal
 use Rattle.strm_blocks.specs.Blocks.{token}
 
@@ -22,13 +24,15 @@ returns g c =
     let t = g.B.Blocks.value c.put.new.store in
     let n = token c.args.message in
     let here = c.args.here in
+    let queues = c.args._queues.now in
+    let none = c.requires.held.itself in
     let e = c.put.ensures in
     record {
-      state = search rules;
+      state = alone-stands s t queues none pckt_in pckt_in refl;
       notes = e.notes;
       sent = e.swaps.sent;
       told = e.told;
-      held = tt;
+      held = record { queues = alone-ready s t queues none; itself = none };
       own = search rules;
       chains = e.swaps.chains;
       hands = packs-hands s t n here c.put.result _ _ e;

@@ -5,6 +5,7 @@ use Rattle.strm_frame.specs.Outboxes.{message_in}
 use Rattle.strm_pty.specs.Beside.{ptem_in}
 use Rattle.strm_types.proofs.PtemPuts.{puts-gone}
 use Rattle.strm_frame.proofs.Handing.{can-in_hand}
+use Rattle.strm_pty.proofs.Alone.{alone-ready, alone-stands}
 use Rattle.strm_pty.proofs.module.PtemModule.put.Goals as goal
 use Rattle.strm_blocks.specs.Blocks.{token}
 
@@ -13,13 +14,17 @@ put-requires-clause-in_hand g c = can-in_hand (g.B.Blocks.value c.args.store.now
 
 pub returns : goal.returns
 returns g c =
+    let s = g.B.Blocks.value c.args.store.now in
+    let t = g.B.Blocks.value c.put.new.store in
+    let queues = c.args._queues.now in
+    let none = c.requires.held.itself in
     let e = c.put.ensures.does in
     record {
-      state = e.state;
+      state = alone-stands s t queues none _ _ e.state;
       notes = e.notes;
       sent = e.sent;
-      told = ap (λ gone. tallied gone c.args._told.now) (sym (puts-gone c.args.here (message_in (g.B.Blocks.value c.args.store.now) (token c.args.message)) (ptem_in c.args.self.now)));
-      held = tt;
+      told = ap (λ gone. tallied gone c.args._told.now) (sym (puts-gone c.args.here (message_in s (token c.args.message)) (ptem_in c.args.self.now)));
+      held = record { queues = alone-ready s t queues none; itself = none };
       own = search rules;
       chains = e.chains;
       hands = e.hands;

@@ -10,7 +10,7 @@ use Rattle.strm_frame.specs.declared.stack.Stack.{Stack}
 use Rattle.strm_tests.specs.declared.frame.stock.Stock as toy
 use Rattle.strm_frame.specs.Serves.{stop_of}
 use Rattle.strm_frame.specs.Stacks.{all_of}
-use Rattle.strm_tests.specs.ToyLaws.{stock_in}
+use Rattle.strm_frame.specs.Standings.{standing_in}
 use Rattle.strm_frame.proofs.Beside.{rest-in}
 use Rattle.strm_tests.proofs.RigSteps.{eight-taken, kept-none, rig-may, room-seen, sent-can, sent-chain, sent-rest, none-rest}
 use Rattle.strm_tests.proofs.frame.rig.Rig.serve.Goals as goal
@@ -23,7 +23,7 @@ serve-served-requires g c =
     let within = c.requires.within in
     let s = g.B.Blocks.value c.args.store.now in
     let room = room-seen s (sym c.has_room.ensures ∙ c.if-not-has_room.false) in
-    let few = eight-taken (map (λ y. stock_in s y.name y.queue) xs) (c.args.at - 1) in
+    let few = eight-taken (map (standing_in (λ t y. y.name) s) xs) (c.args.at - 1) in
     (omega arith, (c.requires.inside, (omega arith, (c.requires.rest.are.held, ((λ d. refl), (rest-in s (all_of (λ y i. 0) xs) (kept-none xs), record { mblks = omega (arith, few, room.mblks); dblks = omega (arith, few, room.dblks) }))))))
 
 pub deliver-requires-clause-held : goal.deliver-requires-clause-held
@@ -75,5 +75,5 @@ returns g c =
     record {
       are = c.deliver.ensures.delivers.held;
       hand = sent-rest s t (all_of (λ y i. 0) xs) (all_of (λ y i. 0) ys) _ c.requires.rest.hand (kept-none xs) (kept-none ys) c.serve-served.ensures.does.hands c.in-Some.next _ c.in-Some.ensures
-          here false (stop_of c.serve-served.result) _ (map (λ y. stock_in s y.name y.queue) xs) u (all_of (λ y i. 0) zs) c.serve-served.ensures.does.sent (kept-none zs) carried;
+          here false (stop_of c.serve-served.result) _ (map (standing_in (λ t y. y.name) s) xs) u (all_of (λ y i. 0) zs) c.serve-served.ensures.does.sent (kept-none zs) carried;
     }

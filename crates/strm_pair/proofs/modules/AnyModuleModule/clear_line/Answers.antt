@@ -1,0 +1,17 @@
+-- By its kind.
+use Rattle.std.proofs.Common.{length, ap, sym, ◌∙◌}
+use Rattle.strm_laws.specs.Stacked.{OfPtem, kind_line, without_kind_line}
+use Rattle.strm_pair.specs.AnyModules.{kind_in}
+use Rattle.strm_pair.proofs.modules.AnyModuleModule.clear_line.Goals as goal
+
+pub returns-in-Ldterm-clause-gone : goal.returns-in-Ldterm-clause-gone
+returns-in-Ldterm-clause-gone c = λ s. ap (λ x. length (kind_line (kind_in s x))) c.in-Ldterm.is ∙ c.clear_line.ensures.gone s
+
+pub returns-in-Ptem-clause-gone : goal.returns-in-Ptem-clause-gone
+returns-in-Ptem-clause-gone c = λ s. ap (λ x. length (kind_line (kind_in s x))) c.in-Ptem.is ∙ c.clear_line-in-Ptem.ensures.gone s
+
+pub returns-in-Ptem-clause-line : goal.returns-in-Ptem-clause-line
+returns-in-Ptem-clause-line c = λ s. ap OfPtem (c.clear_line-in-Ptem.ensures.line s) ∙ sym (ap (λ x. without_kind_line (kind_in s x)) c.in-Ptem.is)
+
+pub returns-in-Pckt-clause-gone : goal.returns-in-Pckt-clause-gone
+returns-in-Pckt-clause-gone c = λ s. ap (λ x. length (kind_line (kind_in s x))) c.in-Pckt.is ∙ c.clear_line-in-Pckt.ensures.gone s
