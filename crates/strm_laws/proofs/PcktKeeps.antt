@@ -1,5 +1,6 @@
--- A put at pckt loses no cell and makes none but those that it tells, and does the same where the origins of cells are forgotten.
-use Rattle.std.proofs.Common.{ℕ, suc, ◌≡◌, ◌+◌, Bool, true, false, cond, List, [], ◌∷◌, ◌++◌, map, refl, sym, ap, ◌∙◌, arith}
+-- A put at pckt loses no cell, makes none but those that it tells, as many as its table says, and does the same where the origins of cells are
+-- forgotten.
+use Rattle.std.proofs.Common.{ℕ, suc, ◌≡◌, ◌≤◌, ◌+◌, ◌*◌, Bool, true, false, cond, List, [], ◌∷◌, ◌++◌, length, map, refl, sym, ap, subst, ◌∙◌, arith}
 use Rattle.std.proofs.lemmas.List.{map-append}
 use Rattle.std.specs.Prelude.{◌&&◌, not, None, Some, option_map, count_by}
 use Rattle.strm_types.specs.declared.kinds.MsgKind.{MsgKind}
@@ -9,18 +10,24 @@ use Rattle.strm_types.specs.declared.names.Way.{Way}
 use Rattle.strm_types.specs.declared.names.Way.TheVariants.{Up, Down}
 use Rattle.strm_types.specs.declared.spots.Spot.{Spot}
 use Rattle.strm_types.specs.Cells.{AreCells, Cells, cells_made, plain}
+use Rattle.strm_types.specs.Costs.{packs_on_way}
 use Rattle.strm_types.specs.Deliver.{Acted, toward}
 use Rattle.strm_types.specs.Flushing.{asked_by, flush_bytes}
+use Rattle.strm_types.specs.Input.{made_of}
 use Rattle.strm_types.specs.Kinds.{kind_number}
 use Rattle.strm_types.specs.Message.{Message, band_of, cells_of, has_parts, map_message, weight_of}
 use Rattle.strm_types.specs.Names.{direction_at}
 use Rattle.strm_types.specs.Origins.{map_acted, map_parcel}
 use Rattle.strm_types.specs.Pckts.{Pckt, flush_passed, is_bare_packet, is_flush_passed, is_packed, is_stop_or_start, kind_made, packet, pckt_dir, pckt_on_way, pckt_packs, pckt_passes, pckt_puts, plain_made, plain_packed}
+use Rattle.strm_types.specs.Shapes.{shape_of}
+use Rattle.strm_types.specs.Tables.{pckt_does}
 use Rattle.strm_laws.specs.Places.{direction_to, weight_gone, weight_made, weight_sent}
+use Rattle.strm_laws.specs.Spares.{packet_most}
 use Rattle.strm_laws.proofs.Forgetting.{cells-forget}
 use Rattle.strm_laws.proofs.LdtermKeeps.{onward-weighs}
 use Rattle.strm_types.proofs.MadeCells.{made-forget}
-use Rattle.strm_types.proofs.PcktPuts.{passed_made, packs_made, puts-each}
+use Rattle.strm_types.proofs.PcktPuts.{passed_made, packs-make, packs_made, puts-each}
+use Rattle.strm_types.proofs.PcktWithin.{pckt-makes}
 use Rattle.strm_laws.proofs.PutForgets.{parts-forget}
 use Rattle.strm_laws.proofs.PutWeights.{no-parts, weight-flush}
 use Rattle.strm_types.proofs.Weights.{count-join, weight-whole}
@@ -128,3 +135,26 @@ module _ {C : Type 0} (cells : Cells C) (are : AreCells cells) (made : ℕ) (her
       at : (way : Way) → pckt_on_way plain made here way (map_message f m) ≡ image f (pckt_on_way cells made here way m)
       at Up = kinds (is_packed m.kind)
       at Down = refl
+
+-- how much it makes
+module _ {C : Type 0} (cells : Cells C) (made : ℕ) (here : Spot) (m : Message C) (small : length m.plain ≤ 16777216) where
+  plain-few : length (plain_packed m) ≤ 16777216
+  plain-few = at (is_bare_packet m)
+    where
+      at : (bare : Bool) → length (cond bare [] m.plain) ≤ 16777216
+      at true = omega arith
+      at false = small
+
+  packs-fit : made_of (pckt_puts cells made here m).gone ≤ packs_on_way here.way m * packet_most
+  packs-fit = at here.way
+    where
+      up : (packed : Bool) → made_of (cond packed (pckt_packs cells made here m) (pckt_passes here m)).gone ≤ cond packed 1 0 * packet_most
+      up true = omega (arith, packs-make cells made here m, plain-few)
+      up false = omega arith
+
+      at : (way : Way) → made_of (pckt_on_way cells made here way m).gone ≤ packs_on_way way m * packet_most
+      at Up = up (is_packed m.kind)
+      at Down = omega arith
+
+  pub puts-make : made_of (pckt_puts cells made here m).gone ≤ (pckt_does here.way (shape_of m)).makes * packet_most
+  puts-make = subst (λ (n : ℕ). made_of (pckt_puts cells made here m).gone ≤ n * packet_most) (sym (pckt-makes here m)) packs-fit

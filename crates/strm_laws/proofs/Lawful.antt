@@ -1,0 +1,103 @@
+-- What a module owes the stream on which it stands, of whatever kind it is: what it does loses no cell, keeps within the table of its name, and is
+-- the same where the origins of cells are forgotten. LawfulKinds says that each kind is so.
+use Rattle.std.proofs.Common.{ℕ, ◌≡◌, ◌≤◌, ◌+◌, ◌-◌, ◌*◌, Bool, true, false, length, map}
+use Rattle.std.specs.Prelude.{Option, Some, count_by}
+use Rattle.strm_types.specs.declared.names.Dir.{Dir}
+use Rattle.strm_types.specs.declared.names.Side.{Side}
+use Rattle.strm_types.specs.declared.names.Way.{Way}
+use Rattle.strm_types.specs.declared.names.Way.TheVariants.{Up}
+use Rattle.strm_types.specs.declared.spots.Spot.{Spot}
+use Rattle.strm_types.specs.Budgets.{Within, emits_at}
+use Rattle.strm_types.specs.Cells.{AreCells, Cells, plain}
+use Rattle.strm_types.specs.Deliver.{Acted}
+use Rattle.strm_types.specs.Input.{made_of}
+use Rattle.strm_types.specs.LdtermStands.{disciplined}
+use Rattle.strm_types.specs.Message.{Message, map_message, weight_of}
+use Rattle.strm_types.specs.Names.{direction_at, other}
+use Rattle.strm_types.specs.Origins.{map_acted}
+use Rattle.strm_types.specs.Shapes.{shape_of}
+use Rattle.strm_types.specs.Standings.{QueuePair}
+use Rattle.strm_types.specs.Tables.{name_does}
+use Rattle.strm_laws.specs.LdtermOrigins.{map_serving}
+use Rattle.strm_laws.specs.LdtermWeights.{IgnoresMapping}
+use Rattle.strm_laws.specs.Places.{weight_gone, weight_made, weight_sent}
+use Rattle.strm_laws.specs.Restorable.{GoodMessage, GoodModule}
+use Rattle.strm_laws.specs.Spares.{module_packs, packet_most}
+use Rattle.strm_laws.specs.Stacked.{IsAtRest, Module, OfLdterm, OfPckt, OfPtem, Standing, kind_weight, map_kind, map_module, module_asks, module_line, module_name, module_puts, module_rests, module_serves, module_weight, without_kind_line}
+use Rattle.strm_types.specs.Service.{Serving}
+use Rattle.strm_laws.proofs.GoodDeliveries.{AreGood}
+use Rattle.strm_laws.proofs.LdtermReady.{IsReady}
+use Rattle.strm_laws.proofs.TurnOrder.{TurnOrder}
+
+-- What a call of its service procedure wants of it, where so many bytes are left of the turn; of one without a turn of its own it wants nothing.
+abbrev pub IsReadyWith : {C : Type 0} → Bool → Way → ℕ → Option (QueuePair C) → Module C → Type 0
+IsReadyWith again way left queues (OfLdterm l) = IsReady again way left (disciplined l queues)
+IsReadyWith again way left queues (OfPtem p) = Unit {0}
+IsReadyWith again way left queues (OfPckt p) = Unit {0}
+
+abbrev pub IsReadyAt : {C : Type 0} → Bool → Way → ℕ → Standing C → Type 0
+IsReadyAt again way left x = IsReadyWith again way left x.queues x.part
+
+-- what it leaves and sends can be in an image
+pub record GoodActed {C : Type 0} (t : Acted C (Standing C)) : Type 0 where
+  pub state : GoodModule t.state
+  pub sent : AreGood GoodMessage t.sent
+
+module _ {C : Type 0} (x : Standing C) where
+  -- where the origins of its cells are changed, or forgotten
+  module _ {D : Type 0} (f : C → D) where
+    pub record LawfulImage : Type 0 where
+      pub name : module_name (map_module f x) ≡ module_name x
+      pub line : module_line (map_module f x) ≡ map f (module_line x)
+      pub lineless : without_kind_line (map_kind f x.part) ≡ map_kind f (without_kind_line x.part)
+      pub rests : module_rests (map_module f x) ≡ module_rests x
+      pub asks : (way : Way) → module_asks way (map_module f x) ≡ module_asks way x
+
+  -- a put at it, where so many cells were made before in the direction of what goes up
+  module _ (cells : Cells C) (made : ℕ) (here : Spot) (m : Message C) where
+    abbrev put : Acted C (Standing C)
+    put = module_puts cells made here m x
+
+    pub record LawfulPut : Type 0 where
+      -- it leaves the name, and begins no turn
+      pub name : module_name put.state ≡ module_name x
+      pub rests : IsAtRest x → IsAtRest put.state
+      pub ready : (again : Bool) (way : Way) (left : ℕ) → IsReadyAt again way left x → IsReadyAt again way left put.state
+      -- it loses no cell, and makes none but the next of the direction in which it sends up
+      pub once : (p : Dir → C → Bool) → module_weight p here.side put.state + (weight_sent p put.sent + weight_gone p put.gone)
+          ≡ module_weight p here.side x + weight_of (p (direction_at here.way here.side)) m + weight_made p put.gone
+      pub order : TurnOrder cells (other here.side) made put.gone
+      -- it keeps within the table of its name: what it sends, and how much it makes
+      pub within : Within put.sent (emits_at here (name_does (module_name x) here.way (shape_of m)))
+      pub makes : length m.plain ≤ 16777216 → made_of put.gone ≤ module_packs here m x * packet_most
+      pub forgets : AreCells cells
+          → module_puts plain made here (map_message cells.byte m) (map_module cells.byte x) ≡ map_acted cells.byte (map_module cells.byte) put
+      pub good : GoodMessage m → GoodModule x → GoodActed put
+
+  -- a call of its service procedure
+  module _ (cells : Cells C) (here : Spot) (made : ℕ) (again : Bool) where
+    abbrev call : Option ℕ → Serving C (Standing C)
+    call stop = module_serves cells here made again stop x
+
+    pub record LawfulCall : Type 0 where
+      pub name : (stop : Option ℕ) → module_name (call stop).acted.state ≡ module_name x
+      -- where it is ready, the turn goes on behind it, or nothing of one is under way
+      pub goes : (left : ℕ) → IsReadyAt again here.way left x → (call (Some left)).again ≡ true
+          → IsReadyAt true here.way (left - (call (Some left)).bytes) (call (Some left)).acted.state
+      pub ends : (left : ℕ) → IsReadyAt again here.way left x → (call (Some left)).again ≡ false → IsAtRest (call (Some left)).acted.state
+      -- it loses no cell, and makes none but the next of the direction in which it sends down
+      pub once : (p : Dir → C → Bool) → IgnoresMapping cells p → (left : ℕ) → IsReadyAt again here.way left x → let t = (call (Some left)).acted in
+          module_weight p here.side t.state + (weight_sent p t.sent + weight_gone p t.gone) ≡ module_weight p here.side x + weight_made p t.gone
+      pub order : (stop : Option ℕ) → TurnOrder cells here.side made (call stop).acted.gone
+      pub forgets : AreCells cells → (left : ℕ)
+          → module_serves plain here made again (Some left) (map_module cells.byte x)
+          ≡ map_serving cells.byte (map_module cells.byte) (call (Some left))
+      pub good : (stop : Option ℕ) → GoodModule x → GoodActed (call stop).acted
+
+  pub record IsLawful : Type 1 where
+    pub image : {D : Type 0} (f : C → D) → LawfulImage f
+    -- where nothing of a turn is under way it has nothing itself but its line, which comes up, and is ready for a turn's first call
+    pub weighs : (p : Dir → C → Bool) (side : Side) → IsAtRest x → kind_weight p side x.part ≡ count_by (p (direction_at Up side)) (module_line x)
+    pub ready : (way : Way) (left : ℕ) → IsAtRest x → IsReadyAt false way left x
+    pub put : (cells : Cells C) (made : ℕ) (here : Spot) (m : Message C) → LawfulPut cells made here m
+    pub call : (cells : Cells C) (here : Spot) (made : ℕ) (again : Bool) → LawfulCall cells here made again
