@@ -1,16 +1,16 @@
 -- What a module owes the stream on which it stands, of whatever kind it is: what it does loses no cell, keeps within the table of its name, and is
 -- the same where the origins of cells are forgotten. LawfulKinds says that each kind is so.
 use Rattle.std.proofs.Common.{ℕ, ◌≡◌, ◌≤◌, ◌+◌, ◌-◌, ◌*◌, Bool, true, false, length, map}
-use Rattle.std.specs.Prelude.{Option, Some, count_by}
+use Rattle.std.specs.Prelude.{Option, Some, count_by, None}
 use Rattle.strm_types.specs.declared.names.Dir.{Dir}
 use Rattle.strm_types.specs.declared.names.Side.{Side}
 use Rattle.strm_types.specs.declared.names.Way.{Way}
 use Rattle.strm_types.specs.declared.names.Way.TheVariants.{Up}
 use Rattle.strm_types.specs.declared.spots.Spot.{Spot}
 use Rattle.strm_types.specs.Budgets.{Within, emits_at}
-use Rattle.strm_types.specs.Cells.{AreCells, Cells, plain}
+use Rattle.strm_types.specs.Cells.{AreCells, Cells, plain, Tagged}
 use Rattle.strm_types.specs.Deliver.{Acted}
-use Rattle.strm_types.specs.Input.{made_of}
+use Rattle.strm_types.specs.Input.{made_of, stages_done}
 use Rattle.strm_types.specs.LdtermStands.{disciplined}
 use Rattle.strm_types.specs.Message.{Message, map_message, weight_of}
 use Rattle.strm_types.specs.Names.{direction_at, other}
@@ -23,17 +23,20 @@ use Rattle.strm_laws.specs.LdtermWeights.{IgnoresMapping}
 use Rattle.strm_laws.specs.Places.{weight_gone, weight_made, weight_sent}
 use Rattle.strm_laws.specs.Restorable.{GoodMessage, GoodModule}
 use Rattle.strm_laws.specs.Spares.{module_packs, packet_most}
-use Rattle.strm_laws.specs.Stacked.{IsAtRest, Module, OfLdterm, OfPckt, OfPtem, Standing, kind_weight, map_kind, map_module, module_asks, module_line, module_name, module_puts, module_rests, module_serves, module_weight, without_kind_line}
+use Rattle.strm_laws.specs.Stacked.{IsAtRest, Module, OfLdterm, Standing, kind_weight, map_kind, map_module, module_asks, module_line, module_name, module_puts, module_rests, module_serves, module_weight, without_kind_line, KindRests}
+use Rattle.strm_laws.specs.Based.{number_kind, number}
+use Rattle.strm_laws.specs.TurnCalls.{discipline_of}
 use Rattle.strm_types.specs.Service.{Serving}
+use Rattle.strm_types.specs.LdtermCalls.{Ends, Begins}
 use Rattle.strm_laws.proofs.GoodDeliveries.{AreGood}
 use Rattle.strm_laws.proofs.LdtermReady.{IsReady}
 use Rattle.strm_laws.proofs.TurnOrder.{TurnOrder}
+use Rattle.strm_laws.proofs.LdtermStops.{GoesOn}
 
 -- What a call of its service procedure wants of it, where so many bytes are left of the turn; of one without a turn of its own it wants nothing.
 abbrev pub IsReadyWith : {C : Type 0} → Bool → Way → ℕ → Option (QueuePair C) → Module C → Type 0
 IsReadyWith again way left queues (OfLdterm l) = IsReady again way left (disciplined l queues)
-IsReadyWith again way left queues (OfPtem p) = Unit {0}
-IsReadyWith again way left queues (OfPckt p) = Unit {0}
+IsReadyWith again way left queues part = Unit {0}
 
 abbrev pub IsReadyAt : {C : Type 0} → Bool → Way → ℕ → Standing C → Type 0
 IsReadyAt again way left x = IsReadyWith again way left x.queues x.part
@@ -101,3 +104,25 @@ module _ {C : Type 0} (x : Standing C) where
     pub ready : (way : Way) (left : ℕ) → IsAtRest x → IsReadyAt false way left x
     pub put : (cells : Cells C) (made : ℕ) (here : Spot) (m : Message C) → LawfulPut cells made here m
     pub call : (cells : Cells C) (here : Spot) (made : ℕ) (again : Bool) → LawfulCall cells here made again
+
+-- what it owes besides over plain bytes, as a store has them
+pub record IsPlain (x : Standing ℕ) : Type 0 where
+  -- whatever was made before, a put and a call do the same; and a put leaves what is under way
+  pub put_same : (a b : ℕ) (here : Spot) (m : Message ℕ) → module_puts plain a here m x ≡ module_puts plain b here m x
+  pub put_stays : (made : ℕ) (here : Spot) (m : Message ℕ) → let q = discipline_of (module_puts plain made here m x).state in
+      (q.stage ≡ (discipline_of x).stage) × (q.in_work ≡ (discipline_of x).in_work)
+  pub call_same : (here : Spot) (again : Bool) (stop : Option ℕ) (made : ℕ)
+      → module_serves plain here made again stop x ≡ module_serves plain here 0 again stop x
+  -- a call that goes as far as it may asks for another one, or has come to an end; it does the same where no more bytes may be treated than it treats
+  pub goes : (here : Spot) (again : Bool) → Begins here.way again (discipline_of x) → let t = module_serves plain here 0 again None x in
+      t.again ≡ true → GoesOn here.way again (discipline_of x) t.bytes (discipline_of t.acted.state)
+  pub alike : (here : Spot) (again : Bool) → let t = module_serves plain here 0 again None x in
+      t.again ≡ true → (left made : ℕ) → stages_done (discipline_of t.acted.state).stage + 3 * t.bytes ≤ 3 * left
+      → module_serves plain here made again (Some left) x ≡ t
+  pub ends : (here : Spot) (again : Bool) → Begins here.way again (discipline_of x) → let t = module_serves plain here 0 again None x in
+      t.again ≡ false → Ends here.way again (discipline_of x) t.bytes × ((made : ℕ) → module_serves plain here made again (Some t.bytes) x ≡ t)
+  -- numbered from so many on, as at the base of a journal, it has the cells of its line, and is as it was where nothing of a turn is under way
+  pub counted : (p : Dir → Tagged → Bool) (side : Side) (up : ℕ) → let into = direction_at Up side in
+      kind_weight p side (number_kind side up x.part) ≡ count_by (p into) (number into up (module_line x))
+  pub numbered : (side : Side) (up : ℕ) → IsAtRest x → KindRests (number_kind side up x.part)
+  pub forgets : (side : Side) (up : ℕ) → IsAtRest x → map_kind (λ c. c.byte) (number_kind side up x.part) ≡ x.part

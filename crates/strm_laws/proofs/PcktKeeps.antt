@@ -11,7 +11,7 @@ use Rattle.strm_types.specs.declared.names.Way.TheVariants.{Up, Down}
 use Rattle.strm_types.specs.declared.spots.Spot.{Spot}
 use Rattle.strm_types.specs.Cells.{AreCells, Cells, cells_made, plain}
 use Rattle.strm_types.specs.Costs.{packs_on_way}
-use Rattle.strm_types.specs.Deliver.{Acted, toward}
+use Rattle.strm_types.specs.Deliver.{Acted, toward, onward, Comes}
 use Rattle.strm_types.specs.Flushing.{asked_by, flush_bytes}
 use Rattle.strm_types.specs.Input.{made_of}
 use Rattle.strm_types.specs.Kinds.{kind_number}
@@ -25,7 +25,7 @@ use Rattle.strm_laws.specs.Places.{direction_to, weight_gone, weight_made, weigh
 use Rattle.strm_laws.specs.Spares.{packet_most}
 use Rattle.strm_laws.proofs.Forgetting.{cells-forget}
 use Rattle.strm_laws.proofs.LdtermKeeps.{onward-weighs}
-use Rattle.strm_types.proofs.MadeCells.{made-forget}
+use Rattle.strm_types.proofs.MadeCells.{made-forget, made-same}
 use Rattle.strm_types.proofs.PcktPuts.{passed_made, packs-make, packs_made, puts-each}
 use Rattle.strm_types.proofs.PcktWithin.{pckt-makes}
 use Rattle.strm_laws.proofs.PutForgets.{parts-forget}
@@ -158,3 +158,29 @@ module _ {C : Type 0} (cells : Cells C) (made : ℕ) (here : Spot) (m : Message 
 
   pub puts-make : made_of (pckt_puts cells made here m).gone ≤ (pckt_does here.way (shape_of m)).makes * packet_most
   puts-make = subst (λ (n : ℕ). made_of (pckt_puts cells made here m).gone ≤ n * packet_most) (sym (pckt-makes here m)) packs-fit
+
+-- over plain bytes it is the same whatever was made before
+module _ (a b : ℕ) (here : Spot) (m : Message ℕ) where
+  packs-same : pckt_packs plain a here m ≡ pckt_packs plain b here m
+  packs-same = ap packed (made-same (direction_at Up here.side) (suc a) (suc b) (plain_packed m))
+    where
+      packed : List ℕ → Acted ℕ Pckt
+      packed made = record {
+        state = record {};
+        notes = [];
+        sent = onward Up here (record {
+          kind = Proto;
+          band = band_of m;
+          control = Some (kind_made plain a here m ∷ []);
+          body = cond (is_bare_packet m) None (Some (cells_of m ++ made));
+          plain = [];
+        }) ∷ flush_passed here m.kind m.plain;
+        gone = Comes (direction_at Up here.side) (kind_made plain a here m ∷ made) ∷ [];
+      }
+
+  pub puts-same : pckt_puts plain a here m ≡ pckt_puts plain b here m
+  puts-same = at here.way
+    where
+      at : (way : Way) → pckt_on_way plain a here way m ≡ pckt_on_way plain b here way m
+      at Up = ap (λ t. cond (is_packed m.kind) t (pckt_passes here m)) packs-same
+      at Down = refl

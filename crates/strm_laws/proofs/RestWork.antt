@@ -24,7 +24,7 @@ use Rattle.strm_laws.specs.ModuleTurns.{module_turned, named_from, place_named, 
 use Rattle.strm_laws.specs.Rest.{EchoesOnce, NoLdterm, count_enabled, echoes, is_pckt, moves, packs_below, queue_names, work}
 use Rattle.strm_laws.specs.Restorable.{is_ldterm}
 use Rattle.strm_laws.specs.StackCosts.{Stands, stands_of, stands_on}
-use Rattle.strm_laws.specs.Stacked.{Standing, OfLdterm, OfPtem, OfPckt, module_name, kind_name, Module}
+use Rattle.strm_laws.specs.Stacked.{Standing, module_name}
 use Rattle.strm_laws.specs.State.{State, stream}
 use Rattle.strm_laws.specs.Step.{IsTurn}
 use Rattle.strm_laws.specs.Turns.{turned, turned_at}
@@ -184,13 +184,13 @@ module _ {C : Type 0} where
   named-none : (place : Place) (n from : ℕ) (ps : List (Standing C)) → list_any is_ldterm (map module_name ps) ≡ false → named_from place from (places_of (take n ps)) ≡ None
   named-none place zero from ps none = refl
   named-none place (suc n) from [] none = refl
-  named-none place (suc n) from (p ∷ ps) none = by p.part none (λ rest. named-none place n (suc from) ps rest)
+  named-none place (suc n) from (p ∷ ps) none = by (module_name p) none (λ rest. named-none place n (suc from) ps rest)
     where
-      by : (q : Module C) → (is_ldterm (kind_name q) || list_any is_ldterm (map module_name ps)) ≡ false
-          → (list_any is_ldterm (map module_name ps) ≡ false → named_from place (suc from) (places_of (take n ps)) ≡ None) → named_from place from (place_of (kind_name q) ∷ places_of (take n ps)) ≡ None
-      by (OfLdterm l) none rest = absurd (cc)
-      by (OfPtem q) none rest = rest none
-      by (OfPckt q) none rest = rest none
+      by : (name : ModuleName) → (is_ldterm name || list_any is_ldterm (map module_name ps)) ≡ false
+          → (list_any is_ldterm (map module_name ps) ≡ false → named_from place (suc from) (places_of (take n ps)) ≡ None)
+          → named_from place from (place_of name ∷ places_of (take n ps)) ≡ None
+      by names.Ldterm none rest = absurd (cc)
+      by name none rest = rest none
 
   module _ (cells : Cells C) (name : QueueName) (turn : Turn) where
     -- a turn of a module's queue

@@ -1,5 +1,5 @@
 -- An ldterm where it stands, and the line discipline that it is with its queues.
-use Rattle.std.proofs.Common.{◌≡◌, Bool, List, [], ◌∷◌, map, refl, ap, ◌∙◌, arith}
+use Rattle.std.proofs.Common.{◌≡◌, Bool, List, [], ◌∷◌, map, refl, ap, ◌∙◌, arith, suc, ℕ}
 use Rattle.std.specs.Prelude.{Option, None, Some, is_some, option_map}
 use Rattle.strm_types.specs.declared.names.Dir.{Dir}
 use Rattle.strm_types.specs.declared.names.Side.{Side}
@@ -7,14 +7,17 @@ use Rattle.strm_types.specs.declared.names.Way.{Way}
 use Rattle.strm_types.specs.declared.names.Way.TheVariants.{Up, Down}
 use Rattle.strm_types.specs.Asking.{asked_by, asked_first, ldterm_asks}
 use Rattle.strm_types.specs.LdtermStands.{disciplined}
-use Rattle.strm_types.specs.Ldterms.{Answered, Begun, Between, Discipline, Ldterm, Stage, is_between, queue_at}
+use Rattle.strm_types.specs.Ldterms.{Answered, Begun, Between, Discipline, Ldterm, Stage, is_between, queue_at, Rests}
 use Rattle.strm_types.specs.Message.{Message, map_message}
 use Rattle.strm_types.specs.Queue.{is_none_left, map_messages}
 use Rattle.strm_types.specs.Standings.{QueuePair, map_pair, messages_on, stood}
+use Rattle.strm_types.specs.Cells.{Tagged}
+use Rattle.strm_types.specs.Names.{direction_at}
 use Rattle.strm_laws.specs.LdtermOrigins.{map_ldterm, map_own, map_stage}
 use Rattle.strm_laws.specs.LdtermTurns.{ldterm_rests}
 use Rattle.strm_laws.specs.LdtermWeights.{ldterm_weight}
 use Rattle.strm_laws.specs.Stacked.{OfLdterm, ldterm_stands, module_weight}
+use Rattle.strm_laws.specs.Based.{number, number_ldterm}
 use Rattle.strm_laws.proofs.Forgetting.{kind-forgets, named_band-forgets}
 
 -- what it holds is what both hold
@@ -65,3 +68,11 @@ module _ {C D : Type 0} (f : C → D) where
 
   pub rests-same : (l : Ldterm C) → ldterm_rests (map_own f l) ≡ ldterm_rests l
   rests-same l = rw (work-same l.in_work, gathered-same l.gathered, between-same l.stage) refl
+
+-- and where its line is numbered and nothing of a turn is under way it is the same
+pub number-forgets : (dir : Dir) (n : ℕ) (bytes : List ℕ) → map (λ (c : Tagged). c.byte) (number dir n bytes) ≡ bytes
+number-forgets dir n [] = refl
+number-forgets dir n (b ∷ bytes) = ap (λ xs. b ∷ xs) (number-forgets dir (suc n) bytes)
+
+pub numbered-forgets : (side : Side) (up : ℕ) (l : Ldterm ℕ) → Rests l → map_own (λ c. c.byte) (number_ldterm side up l) ≡ l
+numbered-forgets side up l idle = rw (number-forgets (direction_at Up side) up l.line, idle.0, idle.1, idle.3) refl
