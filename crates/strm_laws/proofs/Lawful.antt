@@ -26,8 +26,10 @@ use Rattle.strm_laws.specs.Spares.{module_packs, packet_most}
 use Rattle.strm_laws.specs.Stacked.{IsAtRest, Module, OfLdterm, Standing, kind_weight, map_kind, map_module, module_asks, module_line, module_name, module_puts, module_rests, module_serves, module_weight, without_kind_line, KindRests}
 use Rattle.strm_laws.specs.Based.{number_kind, number}
 use Rattle.strm_laws.specs.TurnCalls.{discipline_of}
+use Rattle.strm_laws.specs.Pushes.{module_named}
 use Rattle.strm_types.specs.Service.{Serving}
 use Rattle.strm_types.specs.LdtermCalls.{Ends, Begins}
+use Rattle.strm_types.specs.declared.names.ModuleName.{ModuleName}
 use Rattle.strm_laws.proofs.GoodDeliveries.{AreGood}
 use Rattle.strm_laws.proofs.LdtermReady.{IsReady}
 use Rattle.strm_laws.proofs.TurnOrder.{TurnOrder}
@@ -126,3 +128,10 @@ pub record IsPlain (x : Standing ℕ) : Type 0 where
       kind_weight p side (number_kind side up x.part) ≡ count_by (p into) (number into up (module_line x))
   pub numbered : (side : Side) (up : ℕ) → IsAtRest x → KindRests (number_kind side up x.part)
   pub forgets : (side : Side) (up : ℕ) → IsAtRest x → map_kind (λ c. c.byte) (number_kind side up x.part) ≡ x.part
+
+-- A module as its name is pushed has no cell, can be in an image, and rests.
+pub record IsNew (C : Type 0) (name : ModuleName) : Type 1 where
+  pub forgets : {D : Type 0} (f : C → D) → module_named name ≡ map_module f (module_named name)
+  pub weighs : (p : Dir → C → Bool) (side : Side) → module_weight p side (module_named name) ≡ 0
+  pub rests : IsAtRest (module_named {C = C} name)
+  pub good : GoodModule (module_named {C = C} name)

@@ -20,6 +20,8 @@ use Rattle.strm_types.specs.declared.spots.Spot.{Spot}
 use Rattle.strm_types.specs.declared.names.Dir.{Dir}
 use Rattle.strm_types.specs.declared.names.Side.{Side}
 use Rattle.strm_types.specs.declared.names.Way.{Way}
+use Rattle.strm_types.specs.declared.names.ModuleName.{ModuleName}
+use Rattle.strm_types.specs.declared.names.ModuleName.TheVariants as names
 use Rattle.strm_laws.specs.LdtermWeights.{weight_begun, weight_in_work}
 use Rattle.strm_laws.specs.Places.{weight_gone, weight_made}
 use Rattle.strm_laws.specs.Stacked.{Module, OfLdterm, OfPckt, OfPtem, Standing, ldterm_stands, module_puts, KindRests, kind_weight, kind_line}
@@ -32,7 +34,7 @@ use Rattle.strm_types.proofs.PtemWithin.{ptem-within}
 use Rattle.strm_laws.proofs.GoodLdtermTurns.{serves-good}
 use Rattle.strm_laws.proofs.GoodLdterms.{good-stands, good-with, ldterm-good}
 use Rattle.strm_laws.proofs.GoodPtems.{pckt-good, ptem-good}
-use Rattle.strm_laws.proofs.Lawful.{IsLawful, IsPlain, LawfulCall, LawfulImage, LawfulPut, IsReadyAt}
+use Rattle.strm_laws.proofs.Lawful.{IsLawful, IsPlain, LawfulCall, LawfulImage, LawfulPut, IsReadyAt, IsNew}
 use Rattle.strm_laws.proofs.LdtermKeeps.{ldterm-none, puts-hold}
 use Rattle.strm_laws.proofs.LdtermPutForgets.{puts-forget}
 use Rattle.strm_laws.proofs.LdtermReady.{goes-at, keeps-at, puts-ready, rests-at}
@@ -42,6 +44,7 @@ use Rattle.strm_laws.proofs.PcktKeeps.{puts-forget as pckt-forgets, puts-keep as
 use Rattle.strm_laws.proofs.PtemPuts.{puts-forget as ptem-forgets, puts-sent}
 use Rattle.strm_laws.proofs.StandingLdterms.{asks-same, at-forgets, numbered-forgets, rests-same, weigh, weigh-stands}
 use Rattle.strm_laws.proofs.TurnOrder.{TurnOrder, all_made, made-all, order-next, order-none, serves-order}
+use Rattle.strm_laws.proofs.GoodQueues.{new-good}
 
 module _ {C : Type 0} where
   image : {D : Type 0} (f : C → D) (part : Module C) (queues : Option (QueuePair C)) → LawfulImage (stood part queues) f
@@ -189,3 +192,18 @@ plainly x = by x.part
       numbered = λ side up idle. tt;
       forgets = λ side up idle. refl;
     }
+
+-- and as it is pushed
+pub new : {C : Type 0} (name : ModuleName) → IsNew C name
+new names.Ldterm = record {
+  forgets = λ f. refl;
+  weighs = λ p side. refl;
+  rests = (refl, refl, refl, refl);
+  good = record {
+    kind = record { termios = refl; column = omega arith; line = omega arith; work = tt };
+    queues = (new-good _ 512 128 (omega arith) (omega arith) (omega arith), new-good _ 512 128 (omega arith) (omega arith) (omega arith));
+    has = refl;
+  };
+}
+new names.Ptem = record { forgets = λ f. refl; weighs = λ p side. refl; rests = tt; good = record { kind = refl; queues = tt; has = refl } }
+new names.Pckt = record { forgets = λ f. refl; weighs = λ p side. refl; rests = tt; good = record { kind = tt; queues = tt; has = refl } }

@@ -4,7 +4,6 @@ use Rattle.std.specs.Prelude.{◌||◌, not, flat_map, Option, None, Some, optio
 use Rattle.std.proofs.lemmas.List.{map-append}
 use Rattle.strm_types.specs.declared.modes.ReadMode.{ReadMode}
 use Rattle.strm_types.specs.declared.names.ModuleName.{ModuleName}
-use Rattle.strm_types.specs.declared.names.ModuleName.TheVariants as names
 use Rattle.strm_types.specs.declared.names.Place.{Place}
 use Rattle.strm_types.specs.declared.names.Place.TheVariants.{Head, Ldterm, Driver}
 use Rattle.strm_types.specs.declared.names.QueueName.{QueueName}
@@ -40,7 +39,7 @@ use Rattle.strm_laws.proofs.Forgetting.{kind-forgets, none-forgets}
 use Rattle.strm_laws.proofs.LdtermPutForgets.{line_gone-forgets}
 use Rattle.strm_laws.proofs.PutForgets.{mode-forgets, bytes-forget, parts-forget}
 use Rattle.strm_laws.proofs.PutsForget.{head-forgets, notes-forget}
-use Rattle.strm_laws.proofs.LawfulKinds.{lawful}
+use Rattle.strm_laws.proofs.LawfulKinds.{lawful, new}
 
 -- a module that is let go, from what its queues let go and its line
 abbrev joined : {E : Type 0} → Module E → Acted E (Option (QueuePair E)) → List (Fate E) → Acted E (Option (QueuePair E)) → Acted E (Standing E)
@@ -189,9 +188,7 @@ module _ {C D : Type 0} (f : C → D) where
 
   pub named_by-forgets : (name : Option ModuleName) → named_by name ≡ option_map (map_module f) (named_by name)
   named_by-forgets None = refl
-  named_by-forgets (Some names.Ldterm) = refl
-  named_by-forgets (Some names.Ptem) = refl
-  named_by-forgets (Some names.Pckt) = refl
+  named_by-forgets (Some name) = ap (λ p. Some p) ((new name).forgets f)
 
   of_named-forgets : (side : Side) (p : Option (Standing C)) (s : State C) → pushed_named side (option_map (map_module f) p) (map_state f s) ≡ image (pushed_named side p s)
   of_named-forgets side None s = refl

@@ -5,7 +5,6 @@ use Rattle.std.specs.List.{AllByRecursion}
 use Rattle.std.proofs.lemmas.List.Sums.{sum_by-cons}
 use Rattle.strm_types.specs.declared.modes.ReadMode.{ReadMode}
 use Rattle.strm_types.specs.declared.names.ModuleName.{ModuleName}
-use Rattle.strm_types.specs.declared.names.ModuleName.TheVariants as names
 use Rattle.strm_types.specs.declared.names.Side.{Side}
 use Rattle.strm_types.specs.declared.names.Side.TheVariants.{Master, Slave}
 use Rattle.strm_types.specs.declared.names.Way.{Way}
@@ -33,7 +32,7 @@ use Rattle.strm_laws.proofs.EmptiedKeeps.{behind-all, behind-keeps}
 use Rattle.strm_laws.proofs.LdtermKeeps.{lost-gone, lost-made}
 use Rattle.strm_laws.proofs.PushForgets.{clears}
 use Rattle.strm_laws.proofs.PutWeights.{weight-mode}
-use Rattle.strm_laws.proofs.LawfulKinds.{lawful}
+use Rattle.strm_laws.proofs.LawfulKinds.{lawful, new}
 
 module _ {C : Type 0} (p : Dir → C → Bool) where
   -- what a pair comes to that had so many cells
@@ -143,14 +142,9 @@ module _ {C : Type 0} (p : Dir → C → Bool) where
       let apart = modules-weigh side (l ∷ (stream side s).modules) s in
       omega arith
 
-  new-weight : (side : Side) (name : ModuleName) → module_weight p side (module_named {C = C} name) ≡ 0
-  new-weight side names.Ldterm = refl
-  new-weight side names.Ptem = refl
-  new-weight side names.Pckt = refl
-
   pub push-keeps : (side : Side) (name : Option ModuleName) (s : State C) → Keeps (pushed_named side (named_by name) s) (state_weight p s)
   push-keeps side None s = refl
-  push-keeps side (Some name) s = let made = new-weight side name in let all = pushed-keeps side (module_named name) s in omega arith
+  push-keeps side (Some name) s = omega (arith, (new name).weighs p side, pushed-keeps side (module_named name) s)
 
   -- a pop
   off-keeps : (side : Side) (s : State C) → AllByRecursion (λ l. IsAtRest l) (stream side s).modules → Keeps (taken_off side s) (state_weight p s)
