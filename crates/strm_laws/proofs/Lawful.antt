@@ -3,37 +3,37 @@
 use Rattle.std.proofs.Common.{ℕ, ◌≡◌, ◌≤◌, ◌+◌, ◌-◌, ◌*◌, Bool, true, false, length, map}
 use Rattle.std.specs.Prelude.{Option, Some, count_by, None}
 use Rattle.strm_types.specs.declared.names.Dir.{Dir}
+use Rattle.strm_types.specs.declared.names.ModuleName.{ModuleName}
 use Rattle.strm_types.specs.declared.names.Side.{Side}
 use Rattle.strm_types.specs.declared.names.Way.{Way}
 use Rattle.strm_types.specs.declared.names.Way.TheVariants.{Up}
 use Rattle.strm_types.specs.declared.spots.Spot.{Spot}
-use Rattle.strm_types.specs.Budgets.{Within, emits_at}
+use Rattle.strm_types.specs.Budgets.{emits_at, Within}
 use Rattle.strm_types.specs.Cells.{AreCells, Cells, plain, Tagged}
 use Rattle.strm_types.specs.Deliver.{Acted}
 use Rattle.strm_types.specs.Input.{made_of, stages_done}
+use Rattle.strm_types.specs.LdtermCalls.{Begins, Ends}
 use Rattle.strm_types.specs.LdtermStands.{disciplined}
-use Rattle.strm_types.specs.Message.{Message, map_message, weight_of}
+use Rattle.strm_types.specs.Message.{map_message, Message, weight_of}
 use Rattle.strm_types.specs.Names.{direction_at, other}
 use Rattle.strm_types.specs.Origins.{map_acted}
+use Rattle.strm_types.specs.Service.{Serving}
 use Rattle.strm_types.specs.Shapes.{shape_of}
 use Rattle.strm_types.specs.Standings.{QueuePair}
 use Rattle.strm_types.specs.Tables.{name_does}
+use Rattle.strm_laws.specs.Based.{number, number_kind}
 use Rattle.strm_laws.specs.LdtermOrigins.{map_serving}
 use Rattle.strm_laws.specs.LdtermWeights.{IgnoresMapping}
 use Rattle.strm_laws.specs.Places.{weight_gone, weight_made, weight_sent}
+use Rattle.strm_laws.specs.Pushes.{module_named}
 use Rattle.strm_laws.specs.Restorable.{GoodMessage, GoodModule}
 use Rattle.strm_laws.specs.Spares.{module_packs, packet_most}
-use Rattle.strm_laws.specs.Stacked.{IsAtRest, Module, OfLdterm, Standing, kind_weight, map_kind, map_module, module_asks, module_line, module_name, module_puts, module_rests, module_serves, module_weight, without_kind_line, KindRests}
-use Rattle.strm_laws.specs.Based.{number_kind, number}
+use Rattle.strm_laws.specs.Stacked.{IsAtRest, kind_weight, KindRests, map_kind, map_module, Module, module_asks, module_line, module_name, module_puts, module_rests, module_serves, module_weight, OfLdterm, Standing, without_kind_line}
 use Rattle.strm_laws.specs.TurnCalls.{discipline_of}
-use Rattle.strm_laws.specs.Pushes.{module_named}
-use Rattle.strm_types.specs.Service.{Serving}
-use Rattle.strm_types.specs.LdtermCalls.{Ends, Begins}
-use Rattle.strm_types.specs.declared.names.ModuleName.{ModuleName}
 use Rattle.strm_laws.proofs.GoodDeliveries.{AreGood}
 use Rattle.strm_laws.proofs.LdtermReady.{IsReady}
-use Rattle.strm_laws.proofs.TurnOrder.{TurnOrder}
 use Rattle.strm_laws.proofs.LdtermStops.{GoesOn}
+use Rattle.strm_laws.proofs.TurnOrder.{TurnOrder}
 
 -- What a call of its service procedure wants of it, where so many bytes are left of the turn; of one without a turn of its own it wants nothing.
 abbrev pub IsReadyWith : {C : Type 0} → Bool → Way → ℕ → Option (QueuePair C) → Module C → Type 0

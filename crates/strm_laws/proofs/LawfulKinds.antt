@@ -2,9 +2,15 @@
 use Rattle.std.proofs.Common.{ℕ, ◌≡◌, true, [], ◌∷◌, refl, ap, ◌∙◌, arith, Bool, false}
 use Rattle.std.specs.Prelude.{Option, Some, count_by, option_map}
 use Rattle.std.proofs.lemmas.Bool.{false≢true}
+use Rattle.strm_types.specs.declared.names.Dir.{Dir}
+use Rattle.strm_types.specs.declared.names.ModuleName.{ModuleName}
+use Rattle.strm_types.specs.declared.names.ModuleName.TheVariants as names
+use Rattle.strm_types.specs.declared.names.Side.{Side}
+use Rattle.strm_types.specs.declared.names.Way.{Way}
 use Rattle.strm_types.specs.declared.names.Way.TheVariants.{Up}
+use Rattle.strm_types.specs.declared.spots.Spot.{Spot}
 use Rattle.strm_types.specs.Asking.{ldterm_asks}
-use Rattle.strm_types.specs.Cells.{plain, Cells}
+use Rattle.strm_types.specs.Cells.{Cells, plain}
 use Rattle.strm_types.specs.Input.{made_of}
 use Rattle.strm_types.specs.Kinds.{kind_number}
 use Rattle.strm_types.specs.LdtermPuts.{ldterm_puts}
@@ -15,16 +21,10 @@ use Rattle.strm_types.specs.Names.{direction_at, other}
 use Rattle.strm_types.specs.Pckts.{Pckt, plain_packed}
 use Rattle.strm_types.specs.Ptems.{Ptem, ptem_puts}
 use Rattle.strm_types.specs.Service.{done_by, served_by}
-use Rattle.strm_types.specs.Standings.{QueuePair, map_pair, stood}
-use Rattle.strm_types.specs.declared.spots.Spot.{Spot}
-use Rattle.strm_types.specs.declared.names.Dir.{Dir}
-use Rattle.strm_types.specs.declared.names.Side.{Side}
-use Rattle.strm_types.specs.declared.names.Way.{Way}
-use Rattle.strm_types.specs.declared.names.ModuleName.{ModuleName}
-use Rattle.strm_types.specs.declared.names.ModuleName.TheVariants as names
+use Rattle.strm_types.specs.Standings.{map_pair, QueuePair, stood}
 use Rattle.strm_laws.specs.LdtermWeights.{weight_begun, weight_in_work}
 use Rattle.strm_laws.specs.Places.{weight_gone, weight_made}
-use Rattle.strm_laws.specs.Stacked.{Module, OfLdterm, OfPckt, OfPtem, Standing, ldterm_stands, module_puts, KindRests, kind_weight, kind_line}
+use Rattle.strm_laws.specs.Stacked.{kind_line, kind_weight, KindRests, ldterm_stands, Module, module_puts, OfLdterm, OfPckt, OfPtem, Standing}
 use Rattle.strm_types.proofs.LdtermPutStays.{idle-stays, puts-stay}
 use Rattle.strm_types.proofs.LdtermWithin.{ldterm-within}
 use Rattle.strm_types.proofs.PcktPuts.{puts-each}
@@ -34,7 +34,8 @@ use Rattle.strm_types.proofs.PtemWithin.{ptem-within}
 use Rattle.strm_laws.proofs.GoodLdtermTurns.{serves-good}
 use Rattle.strm_laws.proofs.GoodLdterms.{good-stands, good-with, ldterm-good}
 use Rattle.strm_laws.proofs.GoodPtems.{pckt-good, ptem-good}
-use Rattle.strm_laws.proofs.Lawful.{IsLawful, IsPlain, LawfulCall, LawfulImage, LawfulPut, IsReadyAt, IsNew}
+use Rattle.strm_laws.proofs.GoodQueues.{new-good}
+use Rattle.strm_laws.proofs.Lawful.{IsLawful, IsNew, IsPlain, IsReadyAt, LawfulCall, LawfulImage, LawfulPut}
 use Rattle.strm_laws.proofs.LdtermKeeps.{ldterm-none, puts-hold}
 use Rattle.strm_laws.proofs.LdtermPutForgets.{puts-forget}
 use Rattle.strm_laws.proofs.LdtermReady.{goes-at, keeps-at, puts-ready, rests-at}
@@ -43,8 +44,7 @@ use Rattle.strm_laws.proofs.LdtermStops.{serves-alike, serves-ends, serves-goes,
 use Rattle.strm_laws.proofs.PcktKeeps.{puts-forget as pckt-forgets, puts-keep as pckt-keeps, puts-make, puts-same}
 use Rattle.strm_laws.proofs.PtemPuts.{puts-forget as ptem-forgets, puts-sent}
 use Rattle.strm_laws.proofs.StandingLdterms.{asks-same, at-forgets, numbered-forgets, rests-same, weigh, weigh-stands}
-use Rattle.strm_laws.proofs.TurnOrder.{TurnOrder, all_made, made-all, order-next, order-none, serves-order}
-use Rattle.strm_laws.proofs.GoodQueues.{new-good}
+use Rattle.strm_laws.proofs.TurnOrder.{all_made, made-all, order-next, order-none, serves-order, TurnOrder}
 
 module _ {C : Type 0} where
   image : {D : Type 0} (f : C → D) (part : Module C) (queues : Option (QueuePair C)) → LawfulImage (stood part queues) f

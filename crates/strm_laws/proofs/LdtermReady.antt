@@ -3,23 +3,23 @@
 use Rattle.std.proofs.Common.{ℕ, ◌≡◌, ◌≤◌, ◌-◌, ◌*◌, Bool, true, false, cond, List, [], ◌∷◌, refl, sym, subst, ◌∙◌}
 use Rattle.std.specs.Prelude.{Option, None, Some, is_some}
 use Rattle.std.proofs.lemmas.Bool.{false≢true}
-use Rattle.strm_types.specs.declared.names.Way.{Way}
-use Rattle.strm_types.specs.declared.names.Way.TheVariants.{Up, Down}
-use Rattle.strm_types.specs.declared.spots.Spot.{Spot}
 use Rattle.strm_types.specs.declared.names.Dir.{Dir}
+use Rattle.strm_types.specs.declared.names.Way.{Way}
+use Rattle.strm_types.specs.declared.names.Way.TheVariants.{Down, Up}
+use Rattle.strm_types.specs.declared.spots.Spot.{Spot}
 use Rattle.strm_types.specs.Cells.{Cells}
 use Rattle.strm_types.specs.Input.{input_begins, is_data, passes, stages_done, treats}
 use Rattle.strm_types.specs.LdtermPuts.{ldterm_puts}
 use Rattle.strm_types.specs.LdtermServes.{ldterm_serves}
-use Rattle.strm_laws.specs.LdtermTurns.{IsItsTurn, IsOrderly}
-use Rattle.strm_laws.specs.LdtermWeights.{ActedKeeps, IgnoresMapping, MayServe, ldterm_weight}
-use Rattle.strm_types.specs.Ldterms.{IsIdle, Discipline}
+use Rattle.strm_types.specs.Ldterms.{Discipline, IsIdle}
 use Rattle.strm_types.specs.Message.{Message}
 use Rattle.strm_types.specs.OutputTurns.{output_serves}
 use Rattle.strm_types.specs.Queue.{left_with}
+use Rattle.strm_laws.specs.LdtermTurns.{IsItsTurn, IsOrderly}
+use Rattle.strm_laws.specs.LdtermWeights.{ActedKeeps, IgnoresMapping, ldterm_weight, MayServe}
+use Rattle.strm_types.proofs.LdtermPutStays.{idle-stays, puts-stay}
 use Rattle.strm_laws.proofs.LdtermOrderly.{orderly-echo, puts-orderly, serves-orderly}
 use Rattle.strm_laws.proofs.LdtermProgress.{serves-leaves}
-use Rattle.strm_types.proofs.LdtermPutStays.{idle-stays, puts-stay}
 use Rattle.strm_laws.proofs.LdtermServes.{serves-keep}
 
 -- What a call wants, by its way, where so many bytes are left of the turn: nothing of a turn is under way, or the turn of the

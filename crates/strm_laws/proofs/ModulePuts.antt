@@ -1,16 +1,16 @@
 -- A put at one of the modules of a stream: it loses no cell, makes none but those that it tells, and does the same where the origins of cells are forgotten.
 use Rattle.std.proofs.Common.{ℕ, zero, suc, ◌≡◌, ◌<◌, ◌+◌, Bool, List, [], ◌∷◌, length, map, refl, ap, arith}
 use Rattle.std.proofs.lemmas.List.Sums.{sum_by-cons}
-use Rattle.strm_types.specs.declared.spots.Spot.{Spot}
 use Rattle.strm_types.specs.declared.names.Dir.{Dir}
-use Rattle.strm_types.specs.Names.{direction_at}
+use Rattle.strm_types.specs.declared.spots.Spot.{Spot}
 use Rattle.strm_types.specs.Cells.{AreCells, Cells, plain}
 use Rattle.strm_types.specs.Deliver.{Acted}
-use Rattle.strm_types.specs.Message.{Message, map_message, weight_of}
-use Rattle.strm_types.specs.Modules.{put_among}
+use Rattle.strm_types.specs.Message.{map_message, Message, weight_of}
+use Rattle.strm_types.specs.Modules.{act_among, put_among}
+use Rattle.strm_types.specs.Names.{direction_at}
 use Rattle.strm_types.specs.Origins.{map_acted}
 use Rattle.strm_laws.specs.Places.{weight_gone, weight_made, weight_sent}
-use Rattle.strm_laws.specs.Stacked.{Standing, map_module, module_puts, module_weight, modules_weight}
+use Rattle.strm_laws.specs.Stacked.{map_module, module_puts, module_weight, modules_weight, Standing}
 use Rattle.strm_laws.proofs.LawfulKinds.{lawful}
 
 module _ {C : Type 0} (p : Dir → C → Bool) (cells : Cells C) (made : ℕ) where
@@ -29,17 +29,21 @@ module _ {C : Type 0} (p : Dir → C → Bool) (cells : Cells C) (made : ℕ) wh
       let t = put_among (module_puts cells made) i here m ls in
       omega (arith, among-keeps i here m ls (omega arith), sum_by-cons weigh l ls, sum_by-cons weigh l t.state)
 
-module _ {C : Type 0} (cells : Cells C) (are : AreCells cells) (made : ℕ) where
-  abbrev f : C → ℕ
-  f = cells.byte
+-- where several modules act, one of them, and the origins of cells are forgotten
+module _ {C D : Type 0} (f : C → D) (acts : Standing C → Acted C (Standing C)) (acts' : Standing D → Acted D (Standing D)) where
+  pub acts-forget : ((p : Standing C) → acts' (map_module f p) ≡ map_acted f (map_module f) (acts p)) → (i : ℕ) (ps : List (Standing C))
+      → act_among acts' i (map (map_module f) ps) ≡ map_acted f (map (map_module f)) (act_among acts i ps)
+  acts-forget same i [] = refl
+  acts-forget same zero (p ∷ ps) =
+      ap (λ (t : Acted D (Standing D)). record { state = t.state ∷ map (map_module f) ps; notes = t.notes; sent = t.sent; gone = t.gone }) (same p)
+  acts-forget same (suc i) (p ∷ ps) =
+      ap (λ (t : Acted D (List (Standing D))). record { state = map_module f p ∷ t.state; notes = t.notes; sent = t.sent; gone = t.gone })
+      (acts-forget same i ps)
 
-  abbrev image : Acted C (List (Standing C)) → Acted ℕ (List (Standing ℕ))
-  image t = map_acted f (map (map_module f)) t
-
-  pub among-forgets : (i : ℕ) (here : Spot) (m : Message C) (ps : List (Standing C))
-      → put_among (module_puts plain made) i here (map_message f m) (map (map_module f) ps) ≡ image (put_among (module_puts cells made) i here m ps)
-  among-forgets i here m [] = refl
-  among-forgets zero here m (l ∷ ls) =
-      ap (λ (t : Acted ℕ (Standing ℕ)). record { state = t.state ∷ map (map_module f) ls; notes = t.notes; sent = t.sent; gone = t.gone })
-      (((lawful l).put cells made here m).forgets are)
-  among-forgets (suc i) here m (l ∷ ls) = ap (λ (t : Acted ℕ (List (Standing ℕ))). record { state = map_module f l ∷ t.state; notes = t.notes; sent = t.sent; gone = t.gone }) (among-forgets i here m ls)
+pub among-forgets : {C : Type 0} (cells : Cells C) → AreCells cells → (made i : ℕ) (here : Spot) (m : Message C) (ps : List (Standing C))
+    → let f = cells.byte in
+    put_among (module_puts plain made) i here (map_message f m) (map (map_module f) ps)
+    ≡ map_acted f (map (map_module f)) (put_among (module_puts cells made) i here m ps)
+among-forgets cells are made i here m ps =
+    acts-forget cells.byte (module_puts cells made here m) (module_puts plain made here (map_message cells.byte m))
+    (λ p. ((lawful p).put cells made here m).forgets are) i ps

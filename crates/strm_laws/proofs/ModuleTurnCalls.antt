@@ -42,7 +42,8 @@ module _ {P : Type 0} (d : P) where
   index-map f e zero (p ∷ ps) low = refl
   index-map f e (suc i) (p ∷ ps) low = index-map f e i ps (omega (arith, low))
 
-  act-alike : (f g : P → Acted ℕ P) (i : ℕ) (ps : List P) → f (slice_index_or ps i d) ≡ g (slice_index_or ps i d) → act_among f i ps ≡ act_among g i ps
+  pub act-alike : (f g : P → Acted ℕ P) (i : ℕ) (ps : List P)
+      → f (slice_index_or ps i d) ≡ g (slice_index_or ps i d) → act_among f i ps ≡ act_among g i ps
   act-alike f g i [] same = refl
   act-alike f g zero (p ∷ ps) same = ap (λ (t : Acted ℕ P). record { state = t.state ∷ ps; notes = t.notes; sent = t.sent; gone = t.gone }) same
   act-alike f g (suc i) (p ∷ ps) same = ap (λ (t : Acted ℕ (List P)). record { state = p ∷ t.state; notes = t.notes; sent = t.sent; gone = t.gone }) (act-alike f g i ps same)

@@ -13,13 +13,13 @@ use Rattle.strm_types.specs.declared.spots.Asks.{Asks}
 use Rattle.strm_types.specs.declared.spots.Asks.TheVariants as asked
 use Rattle.strm_types.specs.declared.spots.Spot.{Spot}
 use Rattle.strm_types.specs.Cells.{Cells, AreCells, plain}
-use Rattle.strm_types.specs.Deliver.{Acted, Carried, Took, carried, in_turn}
+use Rattle.strm_types.specs.Deliver.{Carried, Took, carried, in_turn}
 use Rattle.strm_laws.specs.Earlier.{places_of}
 use Rattle.strm_types.specs.Message.{Message, map_message}
 use Rattle.strm_types.specs.ModuleQueues.{at_place}
 use Rattle.strm_types.specs.Standings.{QueuePair, map_pair, messages_at, messages_on, pair_changed, queue_changed, stood}
 use Rattle.strm_laws.specs.ModuleTurns.{Calls, again_at, asked_turn, bytes_at, call_at, calls, made_below, module_called, module_turn_ended, module_turned, moved_by, moved_on, moved_within, named_from, place_named, queue_ended, stayed_at, turned_named, turned_there, waits_there}
-use Rattle.strm_types.specs.Modules.{act_among, change_among}
+use Rattle.strm_types.specs.Modules.{change_among}
 use Rattle.strm_types.specs.Names.{enable_if, enable_some}
 use Rattle.strm_types.specs.Origins.{map_acted, map_carried, map_fate, map_parcel, map_took}
 use Rattle.strm_laws.specs.Past.{has_room_past, writer_waits}
@@ -36,6 +36,7 @@ use Rattle.strm_laws.proofs.Forgetting.{none-forgets, relieved-forgets, relieves
 use Rattle.strm_laws.proofs.Past.{room-forgets, with_stream-same, writer_waits-forgets}
 use Rattle.strm_laws.proofs.PutsForget.{acted-same, puts-forget}
 use Rattle.strm_laws.proofs.LawfulKinds.{lawful}
+use Rattle.strm_laws.proofs.ModulePuts.{acts-forget}
 
 module _ {C D : Type 0} (f : C → D) where
   abbrev images : List (Standing C) → List (Standing D)
@@ -128,14 +129,7 @@ module _ {C D : Type 0} (f : C → D) where
       ∙ ap (λ e. with_enabled (names more goes e) ended) (before_at-forgets f here.side here.way here.at s)
       ∙ ap (λ x. with_enabled (names more goes earlier) x) (ended_at-same here took s)
 
-  -- how many were made
-  -- one of several acts
-  among-same : (acts : Standing C → Acted C (Standing C)) (acts' : Standing D → Acted D (Standing D)) → ((p : Standing C) → acts' (map_module f p) ≡ map_acted f (map_module f) (acts p)) → (i : ℕ) (ps : List (Standing C))
-      → act_among acts' i (images ps) ≡ map_acted f (map (map_module f)) (act_among acts i ps)
-  among-same acts acts' same i [] = refl
-  among-same acts acts' same zero (p ∷ ps) = ap (λ (t : Acted D (Standing D)). record { state = t.state ∷ images ps; notes = t.notes; sent = t.sent; gone = t.gone }) (same p)
-  among-same acts acts' same (suc i) (p ∷ ps) = ap (λ (t : Acted D (List (Standing D))). record { state = map_module f p ∷ t.state; notes = t.notes; sent = t.sent; gone = t.gone }) (among-same acts acts' same i ps)
-
+  -- several calls
   abbrev map_calls : Calls C → Calls D
   map_calls t = record { state = map_state f t.state; gone = map (map_fate f) t.gone; bytes = t.bytes; ended = t.ended }
 
@@ -174,7 +168,8 @@ module _ {C : Type 0} (cells : Cells C) (are : AreCells cells) where
       let made = made_below here.side s in
       ap (λ (t : Stream ℕ). module_acted here (call_at plain here (made_below here.side (map_state f s)) again left t.modules) (map_state f s)) (stream-forgets f here.side s)
       ∙ ap (λ t. module_acted here t (map_state f s))
-      (among-same f (λ p. (module_serves cells here made again (Some left) p).acted) (λ p. (module_serves plain here made again (Some left) p).acted) (acts-same here made again left) (here.at - 1) ps)
+      (acts-forget f (λ p. (module_serves cells here made again (Some left) p).acted) (λ p. (module_serves plain here made again (Some left) p).acted)
+          (acts-same here made again left) (here.at - 1) ps)
       ∙ acted-same f here (call_at cells here made again left ps) s
 
   sent-same : (t : Took C (State C)) → in_turn (carried (put_in plain) HOPS) (map (map_parcel f) t.sent) (map_state f t.state) ≡ map_carried f (map_state f) (in_turn (carried (put_in cells) HOPS) t.sent t.state)

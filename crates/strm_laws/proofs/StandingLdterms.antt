@@ -4,20 +4,20 @@ use Rattle.std.specs.Prelude.{Option, None, Some, is_some, option_map}
 use Rattle.strm_types.specs.declared.names.Dir.{Dir}
 use Rattle.strm_types.specs.declared.names.Side.{Side}
 use Rattle.strm_types.specs.declared.names.Way.{Way}
-use Rattle.strm_types.specs.declared.names.Way.TheVariants.{Up, Down}
+use Rattle.strm_types.specs.declared.names.Way.TheVariants.{Down, Up}
 use Rattle.strm_types.specs.Asking.{asked_by, asked_first, ldterm_asks}
-use Rattle.strm_types.specs.LdtermStands.{disciplined}
-use Rattle.strm_types.specs.Ldterms.{Answered, Begun, Between, Discipline, Ldterm, Stage, is_between, queue_at, Rests}
-use Rattle.strm_types.specs.Message.{Message, map_message}
-use Rattle.strm_types.specs.Queue.{is_none_left, map_messages}
-use Rattle.strm_types.specs.Standings.{QueuePair, map_pair, messages_on, stood}
 use Rattle.strm_types.specs.Cells.{Tagged}
+use Rattle.strm_types.specs.LdtermStands.{disciplined}
+use Rattle.strm_types.specs.Ldterms.{Answered, Begun, Between, Discipline, is_between, Ldterm, queue_at, Rests, Stage}
+use Rattle.strm_types.specs.Message.{map_message, Message}
 use Rattle.strm_types.specs.Names.{direction_at}
+use Rattle.strm_types.specs.Queue.{is_none_left, map_messages}
+use Rattle.strm_types.specs.Standings.{map_pair, messages_on, QueuePair, stood}
+use Rattle.strm_laws.specs.Based.{number, number_ldterm}
 use Rattle.strm_laws.specs.LdtermOrigins.{map_ldterm, map_own, map_stage}
 use Rattle.strm_laws.specs.LdtermTurns.{ldterm_rests}
 use Rattle.strm_laws.specs.LdtermWeights.{ldterm_weight}
-use Rattle.strm_laws.specs.Stacked.{OfLdterm, ldterm_stands, module_weight}
-use Rattle.strm_laws.specs.Based.{number, number_ldterm}
+use Rattle.strm_laws.specs.Stacked.{ldterm_stands, module_weight, OfLdterm}
 use Rattle.strm_laws.proofs.Forgetting.{kind-forgets, named_band-forgets}
 
 -- what it holds is what both hold
