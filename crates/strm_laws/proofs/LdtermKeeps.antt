@@ -269,38 +269,29 @@ module _ {C : Type 0} (p : Dir → C → Bool) where
   both-none t next first second = let all = made-append p t.gone (next t.state).gone in omega arith
 
   line-none : (here : Spot) (band : Option Band) (l : Discipline C) → MakesNone (line_flushed here band l)
-  line-none here band l =
-      either MakesNone (takes_band_0 band) (record (sends [] (without_line l)) { gone = line_gone here.side Flushed l.line }) (sends [] l)
-      (lost-made p here.side Flushed l.line) refl
+  line-none here band l = grind (arith, lost-made p here.side Flushed l.line)
 
   read-none : (here : Spot) (asked : FlushAsked) (l : Discipline C) → MakesNone (read_flushed here asked l)
-  read-none here asked l = either MakesNone asked.for_read (both (queue_flushed Up here asked.band l) (line_flushed here asked.band)) (sends [] l)
-      (both-none (queue_flushed Up here asked.band l) (line_flushed here asked.band) refl
-          (line-none here asked.band (queue_flushed Up here asked.band l).state))
-      refl
+  read-none here asked l =
+      let queue = queue_flushed Up here asked.band l in
+      grind (arith, both-none queue (line_flushed here asked.band) refl (line-none here asked.band queue.state))
 
   write-none : (here : Spot) (asked : FlushAsked) (l : Discipline C) → MakesNone (write_flushed here asked l)
-  write-none here asked l = at asked.for_write
-    where
-      at : (b : Bool)
-          → MakesNone (cond b (queue_flushed Down here asked.band (record l { echoing = l.echoing && not (takes_band_0 asked.band) })) (sends [] l))
-      at true = refl
-      at false = refl
+  write-none here asked l = grind arith
 
   flush-none : (here : Spot) (m : Message C) (l : Discipline C) → MakesNone (flush_passes here m l)
   flush-none here m l =
       let asked = asked_by m.plain in
       let first = read_flushed here asked l in
-      let behind = both first (write_flushed here asked) in
-      both-none behind (sends (onward here.way here m ∷ []))
+      both-none (both first (write_flushed here asked)) (sends (onward here.way here m ∷ []))
       (both-none first (write_flushed here asked) (read-none here asked l) (write-none here asked first.state)) refl
 
   taken-none : (here : Spot) (command : ℕ) (t : Termios) (m : Message C) (l : Discipline C) → MakesNone (taken_up here command t m l)
   taken-none here command t m l =
-      let read = read_flushed here up_alone l in
       let told : Discipline C → Acted C (Discipline C) = sends (onward Up here (flush_message (read_flush None)) ∷ []) in
-      both-none (input_flushed here command l) (termios_taken here t m)
-      (either MakesNone (command == TCSETSF) (both read told) (sends [] l) (both-none read told (read-none here up_alone l) refl) refl) refl
+      let read = both-none (read_flushed here up_alone l) told (read-none here up_alone l) refl in
+      let input : MakesNone (input_flushed here command l) = grind (arith, read) in
+      both-none (input_flushed here command l) (termios_taken here t m) input refl
 
   pub ldterm-none : (here : Spot) (m : Message C) (l : Discipline C) → MakesNone (ldterm_puts here m l)
   ldterm-none here m l = puts-each here m l MakesNone (record {

@@ -139,21 +139,13 @@ module _ {C : Type 0} (cells : Cells C) (are : AreCells cells) (made : ℕ) (her
 -- how much it makes
 module _ {C : Type 0} (cells : Cells C) (made : ℕ) (here : Spot) (m : Message C) (small : length m.plain ≤ 16777216) where
   plain-few : length (plain_packed m) ≤ 16777216
-  plain-few = at (is_bare_packet m)
-    where
-      at : (bare : Bool) → length (cond bare [] m.plain) ≤ 16777216
-      at true = omega arith
-      at false = small
+  plain-few = grind (arith, small)
 
   packs-fit : made_of (pckt_puts cells made here m).gone ≤ packs_on_way here.way m * packet_most
   packs-fit = at here.way
     where
-      up : (packed : Bool) → made_of (cond packed (pckt_packs cells made here m) (pckt_passes here m)).gone ≤ cond packed 1 0 * packet_most
-      up true = omega (arith, packs-make cells made here m, plain-few)
-      up false = omega arith
-
       at : (way : Way) → made_of (pckt_on_way cells made here way m).gone ≤ packs_on_way way m * packet_most
-      at Up = up (is_packed m.kind)
+      at Up = grind (arith, packs-make cells made here m, plain-few)
       at Down = omega arith
 
   pub puts-make : made_of (pckt_puts cells made here m).gone ≤ (pckt_does here.way (shape_of m)).makes * packet_most
