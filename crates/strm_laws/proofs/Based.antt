@@ -1,5 +1,5 @@
 -- What stands in a state with the origins of a base: how often a test is passed there by bytes that are numbered, and that the bytes are the base's.
-use Rattle.std.proofs.Common.{ℕ, suc, ◌≡◌, ◌+◌, Bool, true, false, List, [], ◌∷◌, ◌++◌, length, map, refl, ap, ◌∙◌, arith}
+use Rattle.std.proofs.Common.{ℕ, ◌≡◌, ◌+◌, Bool, true, false, List, [], ◌∷◌, ◌++◌, length, map, refl, ap, ◌∙◌, arith}
 use Rattle.std.specs.Prelude.{count_by, flat_map, sum_by, option_map, Option, None, Some}
 use Rattle.std.specs.List.{AllByRecursion}
 use Rattle.std.proofs.lemmas.List.Sums.{sum_by-cons}
@@ -14,13 +14,15 @@ use Rattle.strm_types.specs.Message.{Message, cells_of, map_message, part, weigh
 use Rattle.strm_types.specs.Standings.{QueuePair, map_pair, messages_at, messages_on, stood}
 use Rattle.strm_types.specs.Names.{direction_at, is_open}
 use Rattle.strm_types.specs.Queue.{Queue, map_messages, map_queue, weight}
-use Rattle.strm_laws.specs.Based.{based, cells_in, held_by, held_in, number, number_kind, number_message, number_messages, number_module, number_modules, number_pair, number_queue, number_stream}
+use Rattle.strm_laws.specs.Based.{based, cells_in, held_by, held_in, number, number_message, number_messages, number_module, number_modules, number_pair, number_queue, number_stream}
 use Rattle.strm_laws.specs.Kept.{AreIdle, NothingUnread, state_weight, stream_weight}
 use Rattle.strm_laws.specs.Ledgers.{base_count, inline, queued}
-use Rattle.strm_laws.specs.Stacked.{Module, OfLdterm, OfPtem, OfPckt, Standing, IsAtRest, KindRests, kind_line, kind_weight, map_kind, map_module, module_line, module_weight, modules_weight, queues_weight}
+use Rattle.strm_laws.specs.Stacked.{Module, Standing, IsAtRest, map_module, module_line, module_weight, modules_weight, queues_weight}
 use Rattle.strm_laws.specs.State.{State, Stream, map_state, map_stream}
 use Rattle.strm_types.proofs.BySide.{each-side}
 use Rattle.strm_types.proofs.Weights.{count-join, weight-take}
+use Rattle.strm_laws.proofs.LawfulKinds.{plainly}
+use Rattle.strm_laws.proofs.StandingLdterms.{number-forgets}
 
 -- how much stands in a direction
 module _ {C : Type 0} where
@@ -128,11 +130,6 @@ module _ (p : Dir → Tagged → Bool) (numbered : NumberedBase p) where
     stays : (up down : ℕ) → before up down ≡ before (up + 0) (down + 0)
     stays up down = same-before up (up + 0) down (down + 0) (omega arith) (omega arith)
 
-    kind-counted : (up : ℕ) (q : Module ℕ) → kind_weight p side (number_kind side up q) + numbered.upto into up ≡ numbered.upto into (up + length (kind_line q))
-    kind-counted up (OfPtem q) = omega (arith, same-upto into up (up + 0) (omega arith))
-    kind-counted up (OfPckt q) = omega (arith, same-upto into up (up + 0) (omega arith))
-    kind-counted up (OfLdterm l) = omega (arith, numbered.counted into up l.line)
-
     queues-counted : (up down : ℕ) (queues : Option (QueuePair ℕ)) → queues_weight p side (option_map (number_pair side up down) queues) + before up down
         ≡ before (up + cells_in (messages_on Up queues)) (down + cells_in (messages_on Down queues))
     queues-counted up down None = omega (arith, stays up down)
@@ -143,7 +140,8 @@ module _ (p : Dir → Tagged → Bool) (numbered : NumberedBase p) where
         let line = length (module_line q) in
         omega (
           arith,
-          kind-counted up q.part,
+          (plainly q).counted p side up,
+          numbered.counted into up (module_line q),
           queues-counted (up + line) down q.queues,
           same-upto into (up + line + cells_in (messages_at Up q)) (up + held_by Up q) (omega arith),
         )
@@ -200,10 +198,6 @@ module _ (p : Dir → Tagged → Bool) (numbered : NumberedBase p) where
 abbrev byte : Tagged → ℕ
 byte c = c.byte
 
-number-forgets : (dir : Dir) (n : ℕ) (bytes : List ℕ) → map byte (number dir n bytes) ≡ bytes
-number-forgets dir n [] = refl
-number-forgets dir n (b ∷ bytes) = ap (λ xs. b ∷ xs) (number-forgets dir (suc n) bytes)
-
 part-forgets : (dir : Dir) (n : ℕ) (o : Option (List ℕ)) → option_map (map byte) (option_map (number dir n) o) ≡ o
 part-forgets dir n None = refl
 part-forgets dir n (Some bytes) = ap (λ xs. Some xs) (number-forgets dir n bytes)
@@ -224,11 +218,6 @@ queue-forgets : (dir : Dir) (n : ℕ) (q : Queue ℕ) → map_queue byte (number
 queue-forgets dir n q = ap (λ ms. record q { messages = ms }) (messages-forget dir n q.messages)
 
 module _ (side : Side) where
-  kind-forgets : (up : ℕ) (q : Module ℕ) → KindRests q → map_kind byte (number_kind side up q) ≡ q
-  kind-forgets up (OfPtem q) idle = refl
-  kind-forgets up (OfPckt q) idle = refl
-  kind-forgets up (OfLdterm l) idle = rw (number-forgets (direction_at Up side) up l.line, idle.0, idle.1, idle.3) refl
-
   queues-forget : (up down : ℕ) (queues : Option (QueuePair ℕ)) → option_map (map_pair byte) (option_map (number_pair side up down) queues) ≡ queues
   queues-forget up down None = refl
   queues-forget up down (Some pair) = rw (queue-forgets (direction_at Up side) up pair.read, queue-forgets (direction_at Down side) down pair.write) refl
@@ -236,7 +225,8 @@ module _ (side : Side) where
   module-forgets : (up down : ℕ) (q : Standing ℕ) → IsAtRest q → map_module byte (number_module side up down q) ≡ q
   module-forgets up down q idle =
       let line = length (module_line q) in
-      ap (λ (part : Module ℕ). stood part (option_map (map_pair byte) (option_map (number_pair side (up + line) down) q.queues))) (kind-forgets up q.part idle)
+      ap (λ (part : Module ℕ). stood part (option_map (map_pair byte) (option_map (number_pair side (up + line) down) q.queues)))
+          ((plainly q).forgets side up idle)
       ∙ ap (λ queues. stood q.part queues) (queues-forget (up + line) down q.queues)
 
   modules-forget : (up down : ℕ) (ps : List (Standing ℕ)) → AllByRecursion (λ q. IsAtRest q) ps → map (map_module byte) (number_modules side up down ps) ≡ ps
@@ -255,14 +245,9 @@ module _ (side : Side) where
       ) refl
 
   -- nothing of a turn is under way in what is numbered
-  kind-rests : (up : ℕ) (q : Module ℕ) → KindRests q → KindRests (number_kind side up q)
-  kind-rests up (OfPtem q) idle = tt
-  kind-rests up (OfPckt q) idle = tt
-  kind-rests up (OfLdterm l) idle = (refl, refl, idle.2, refl)
-
   modules-rest : (up down : ℕ) (ps : List (Standing ℕ)) → AllByRecursion (λ q. IsAtRest q) ps → AllByRecursion (λ q. IsAtRest q) (number_modules side up down ps)
   modules-rest up down [] idle = tt
-  modules-rest up down (q ∷ ps) idle = (kind-rests up q.part idle.0, modules-rest (up + held_by Up q) (down + held_by Down q) ps idle.1)
+  modules-rest up down (q ∷ ps) idle = ((plainly q).numbered side up idle.0, modules-rest (up + held_by Up q) (down + held_by Down q) ps idle.1)
 
 pub based-forgets : (s : State ℕ) → AreIdle s → map_state tagged.byte (based s) ≡ s
 based-forgets s idle =

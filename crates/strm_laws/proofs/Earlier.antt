@@ -12,8 +12,9 @@ use Rattle.strm_laws.specs.Earlier.{NoModules, before_among, before_at, before_d
 use Rattle.strm_types.specs.ModuleQueues.{first_place, last_place, place_before, place_past}
 use Rattle.strm_types.specs.Standings.{has_queues, QueuePair, map_pair}
 use Rattle.strm_types.specs.Names.{place_of}
-use Rattle.strm_laws.specs.Stacked.{Standing, OfLdterm, OfPtem, OfPckt, map_module, module_name, kind_name, map_kind, Module}
+use Rattle.strm_laws.specs.Stacked.{Standing, map_module, module_name}
 use Rattle.strm_laws.specs.State.{State, stream, map_state}
+use Rattle.strm_laws.proofs.LawfulKinds.{lawful}
 
 module _ {C D : Type 0} (f : C → D) where
   abbrev images : List (Standing C) → List (Standing D)
@@ -26,13 +27,8 @@ module _ {C D : Type 0} (f : C → D) where
   pub queue-forgets : (p : Standing C) → has_queues (map_module f p) ≡ has_queues p
   queue-forgets p = some-forgets p.queues
 
-  kind-forgets : (p : Module C) → kind_name (map_kind f p) ≡ kind_name p
-  kind-forgets (OfLdterm l) = refl
-  kind-forgets (OfPtem p) = refl
-  kind-forgets (OfPckt p) = refl
-
   pub name-forgets : (p : Standing C) → module_name (map_module f p) ≡ module_name p
-  name-forgets p = kind-forgets p.part
+  name-forgets p = ((lawful p).image f).name
 
   first-forgets : (place : ℕ) (ps : List (Standing C)) → first_place place (images ps) ≡ first_place place ps
   first-forgets place [] = refl

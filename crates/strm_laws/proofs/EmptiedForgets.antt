@@ -1,4 +1,4 @@
--- Forgetting the origins of cells commutes with flushes and closes.
+-- Forgetting the origins of cells commutes with what is taken off a queue.
 use Rattle.std.proofs.Common.{ℕ, ◌≡◌, Bool, true, false, cond, List, [], ◌∷◌, ◌++◌, map, refl, sym, ap, ◌∙◌, arith}
 use Rattle.std.specs.Prelude.{not}
 use Rattle.std.proofs.lemmas.List.{map-append}
@@ -6,16 +6,11 @@ use Rattle.std.proofs.lemmas.List.Sums.{sum_by-cons}
 use Rattle.strm_types.specs.declared.kinds.MsgKind.{MsgKind}
 use Rattle.strm_types.specs.declared.names.Side.{Side}
 use Rattle.strm_types.specs.declared.names.Side.TheVariants.{Master, Slave}
-use Rattle.strm_types.specs.declared.rules.Rule.{Rule}
-use Rattle.strm_laws.specs.Closes.{head_emptied, driver_emptied}
 use Rattle.strm_types.specs.Emptied.{Choice, stayed, cells_gone, emptied, none_goes, queue_behind, writer_goes}
 use Rattle.strm_types.specs.Message.{Message, cells_of, size_of, map_message}
-use Rattle.strm_types.specs.Origins.{map_carried}
 use Rattle.strm_types.specs.Queue.{Queue, bytes_of, relieved, relieves, map_messages, map_queue}
-use Rattle.strm_laws.specs.State.{State, stream, with_head_queue, with_driver_queue, map_stream, map_state}
-use Rattle.strm_laws.proofs.Earlier.{before_driver-forgets, before_head-forgets}
+use Rattle.strm_laws.specs.State.{State, stream, map_stream, map_state}
 use Rattle.strm_laws.proofs.Forgetting.{kind-forgets, named_band-forgets, cells-forget, size-forgets, none-forgets, relieved-forgets, relieves_from-forgets}
-use Rattle.strm_types.proofs.BySide.{map-set}
 
 module _ {C D : Type 0} (f : C → D) where
   -- over one queue
@@ -72,16 +67,3 @@ module _ {C D : Type 0} (f : C → D) where
   pub stream-forgets : (side : Side) (s : State C) → stream side (map_state f s) ≡ map_stream f (stream side s)
   stream-forgets Master s = refl
   stream-forgets Slave s = refl
-
-  -- over a side's head and its driver
-  pub head_emptied-forgets : (rule : Rule) (chosen : Choice) (side : Side) (s : State C) → head_emptied rule chosen side (map_state f s) ≡ map_carried f (map_state f) (head_emptied rule chosen side s)
-  head_emptied-forgets rule chosen side s =
-      let t = stream side s in
-      let q = t.head.queue in
-      rw (before_head-forgets f side s, stream-forgets side s, queue_behind-forgets chosen q, writer_goes-forgets chosen q, gone-forgets chosen q.messages, map-set (map_stream f) side (with_head_queue (queue_behind chosen q) t) s.ends) refl
-
-  pub driver_emptied-forgets : (rule : Rule) (chosen : Choice) (side : Side) (s : State C) → driver_emptied rule chosen side (map_state f s) ≡ map_carried f (map_state f) (driver_emptied rule chosen side s)
-  driver_emptied-forgets rule chosen side s =
-      let t = stream side s in
-      let q = t.driver.queue in
-      rw (before_driver-forgets f side s, stream-forgets side s, queue_behind-forgets chosen q, writer_goes-forgets chosen q, gone-forgets chosen q.messages, map-set (map_stream f) side (with_driver_queue (queue_behind chosen q) t) s.ends) refl

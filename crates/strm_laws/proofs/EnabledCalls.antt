@@ -1,5 +1,5 @@
 -- Over a call enabled queues exist, and none is enabled twice: those of a module that is taken off go with it (streamio(7I): I_PUSH, I_POP; close(2)).
-use Rattle.std.proofs.Common.{ℕ, ◌≡◌, Bool, true, false, cond, List, [], ◌∷◌, map, refl, sym, subst}
+use Rattle.std.proofs.Common.{ℕ, ◌≡◌, Bool, true, false, cond, List, [], ◌∷◌, map, refl, sym, subst, ap, ◌∙◌}
 use Rattle.std.proofs.lemmas.Bool.{false≢true}
 use Rattle.std.specs.Prelude.{◌&&◌, ◌||◌, not, min, slice_index_or, Option, None, Some}
 use Rattle.std.specs.List.{AllByRecursion, list_any}
@@ -33,7 +33,7 @@ use Rattle.strm_types.specs.Heads.{new_head}
 use Rattle.strm_types.specs.Ioctls.{asking, ioctl_message}
 use Rattle.strm_types.specs.JobControl.{asks_group, group_behind}
 use Rattle.strm_types.specs.Message.{Message}
-use Rattle.strm_types.specs.Standings.{has_queues, stood}
+use Rattle.strm_types.specs.Standings.{has_queues}
 use Rattle.strm_types.specs.Modules.{without_module}
 use Rattle.strm_types.specs.Names.{direction_from, driver_of, enable_some, is_open, place_of, same_place, same_queue, same_side, same_way, without}
 use Rattle.strm_types.specs.Options.{mode_message}
@@ -47,7 +47,7 @@ use Rattle.strm_laws.specs.Pushes.{all_taken, enable_waiting, head_above, let_co
 use Rattle.strm_laws.specs.Puts.{delivered, earlier_at, noted}
 use Rattle.strm_laws.specs.Restorable.{AreEnabled, IsThere, is_ldterm, is_there_among}
 use Rattle.strm_laws.specs.StackCosts.{Stands, stands_of, stands_on}
-use Rattle.strm_laws.specs.Stacked.{Module, OfLdterm, OfPtem, OfPckt, Standing, kind_name, module_name}
+use Rattle.strm_laws.specs.Stacked.{Standing, module_name}
 use Rattle.strm_laws.specs.State.{State, Stream, book, stream, with_driver_queue, with_head_queue, with_ioctl, with_stream}
 use Rattle.strm_types.proofs.EnabledNames.{once-without}
 use Rattle.strm_laws.proofs.EnabledExist.{MayBe, any-noted, before-there, if-there, index-there, more-among, noted-there, some-there}
@@ -156,10 +156,15 @@ module _ {C : Type 0} where
       at Slave Slave Ldterm Down is up down = absurd (false≢true (sym down))
 
   left-named : (side : Side) (p : Standing C) (ps : List (Standing C)) (s : State C) → (stream side s).modules ≡ p ∷ ps → (ns : List QueueName) → AreEnabled (stands_of s) ns → AreEnabled (left side ps s) (without_module side (module_name p) ns)
-  left-named side p ps s top ns are = by p.part top
+  left-named side p ps s top ns are = by (module_name p) refl
     where
-      by : (part : Module C) → (stream side s).modules ≡ stood part p.queues ∷ ps → AreEnabled (left side ps s) (without_module side (kind_name part) ns)
-      by (OfLdterm l) top =
+      bare : (name : ModuleName) → is_ldterm name ≡ false → module_name p ≡ name → AreEnabled (left side ps s) ns
+      bare name none is =
+          let fewer = bare-left side p ps s (bare-names (module_name p) (map module_name ps) (ap is_ldterm is ∙ none)) top in
+          record { once = are.once; there = each-more (stands_of s) (left side ps s) fewer ns are.there }
+
+      by : (name : ModuleName) → module_name p ≡ name → AreEnabled (left side ps s) (without_module side name ns)
+      by names.Ldterm is =
           let up = queue_of side Up in
           let down = queue_of side Down in
           record {
@@ -167,12 +172,7 @@ module _ {C : Type 0} where
             there = all-but (λ n. IsThere (stands_of s) n × (same_queue n up ≡ false)) (λ n. IsThere (left side ps s) n) down (λ n is not_down. ldterm-left side ps s n is.0 is.1 not_down) (without up ns)
                 (all-but (λ n. IsThere (stands_of s) n) (λ n. IsThere (stands_of s) n × (same_queue n up ≡ false)) up (λ n is not_up. (is, not_up)) ns are.there);
           }
-      by (OfPtem q) top =
-          let fewer = bare-left side (stood (OfPtem q) p.queues) ps s (bare-names names.Ptem (map module_name ps) refl) top in
-          record { once = are.once; there = each-more (stands_of s) (left side ps s) fewer ns are.there }
-      by (OfPckt q) top =
-          let fewer = bare-left side (stood (OfPckt q) p.queues) ps s (bare-names names.Pckt (map module_name ps) refl) top in
-          record { once = are.once; there = each-more (stands_of s) (left side ps s) fewer ns are.there }
+      by name is = bare name refl is
 
   taken-named : (rule : Rule) (side : Side) (ps : List (Standing C)) (s : State C) → (stream side s).modules ≡ ps → Named s → Named (top_taken rule side ps s).state
   taken-named rule side [] s top are = are

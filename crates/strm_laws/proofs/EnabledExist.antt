@@ -4,6 +4,7 @@ use Rattle.std.proofs.Common.{ℕ, zero, suc, ◌≡◌, ◌-◌, Bool, true, fa
 use Rattle.std.specs.Prelude.{◌||◌, not, min, nat_le, slice_index_or, length, Option, None, Some}
 use Rattle.std.specs.List.{AllByRecursion, list_any}
 use Rattle.strm_types.specs.declared.names.ModuleName.{ModuleName}
+use Rattle.strm_types.specs.declared.names.ModuleName.TheVariants as names
 use Rattle.strm_types.specs.declared.names.Place.{Place}
 use Rattle.strm_types.specs.declared.names.Place.TheVariants.{Head, Ldterm, Driver}
 use Rattle.strm_types.specs.declared.names.QueueName.{QueueName}
@@ -20,7 +21,7 @@ use Rattle.strm_laws.specs.Earlier.{before_at, before_by, before_modules, places
 use Rattle.strm_laws.specs.Puts.{noted}
 use Rattle.strm_laws.specs.Restorable.{AreEnabled, IsThere, is_ldterm, is_there_among}
 use Rattle.strm_laws.specs.StackCosts.{Stands, stands_of, stands_on}
-use Rattle.strm_laws.specs.Stacked.{Standing, OfLdterm, OfPtem, OfPckt, module_name, kind_name, Module}
+use Rattle.strm_laws.specs.Stacked.{Standing, module_name}
 use Rattle.strm_laws.specs.State.{State, stream}
 use Rattle.strm_types.proofs.EnabledNames.{once-added, once-without, same_queue-sound}
 
@@ -116,15 +117,14 @@ named-there : (all : Stands) (side : Side) (way : Way) (place : Option Place) �
 named-there all side way None is = tt
 named-there all side way (Some place) is = is way
 
+own : (name : ModuleName) (ns : List ModuleName) → PlaceAmong (place_of name) (name ∷ ns)
+own names.Ldterm ns = λ way. refl
+own name ns = tt
+
 module _ {C : Type 0} where
   index-among : (ps : List (Standing C)) (i : ℕ) → PlaceAmong (slice_index_or (places_of ps) i None) (map module_name ps)
   index-among [] i = tt
-  index-among (p ∷ ps) zero = by p.part
-    where
-      by : (q : Module C) → PlaceAmong (place_of (kind_name q)) (kind_name q ∷ map module_name ps)
-      by (OfLdterm l) = λ way. refl
-      by (OfPtem p) = tt
-      by (OfPckt p) = tt
+  index-among (p ∷ ps) zero = own (module_name p) (map module_name ps)
   index-among (p ∷ ps) (suc i) = one-more (slice_index_or (places_of ps) i None) (module_name p) (map module_name ps) (index-among ps i)
 
   on-side : (all : Stands) (s : State C) → stands_of s ≡ all → (side : Side) → map module_name (stream side s).modules ≡ stands_on side all

@@ -11,7 +11,6 @@ use Rattle.strm_types.specs.declared.modes.Mode.TheVariants as chosen
 use Rattle.strm_types.specs.declared.modes.Prio.{Prio}
 use Rattle.strm_types.specs.declared.modes.Prio.TheVariants as prios
 use Rattle.strm_types.specs.declared.names.ModuleName.{ModuleName}
-use Rattle.strm_types.specs.declared.names.ModuleName.TheVariants as names
 use Rattle.strm_types.specs.declared.names.Openness.TheVariants.{Open, Closed}
 use Rattle.strm_types.specs.declared.names.QueueName.{QueueName}
 use Rattle.strm_types.specs.declared.names.Side.{Side}
@@ -47,7 +46,7 @@ use Rattle.strm_laws.specs.Closes.{closed_at, driver_emptied, ended, head_emptie
 use Rattle.strm_laws.specs.Pushes.{all_taken, head_above, may_stand, module_named, named_by, pushed_named, top_taken, with_modules}
 use Rattle.strm_laws.specs.Puts.{delivered, put_at_head}
 use Rattle.strm_laws.specs.Refusals.{goes_down, is_numbered, refused_at_once, unfit}
-use Rattle.strm_laws.specs.Restorable.{GoodHead, GoodMessage, GoodModule, GoodModules, GoodStream, IsBanded, IsWithinCall, stands_below}
+use Rattle.strm_laws.specs.Restorable.{GoodHead, GoodMessage, GoodModules, GoodStream, IsBanded, IsWithinCall, stands_below}
 use Rattle.strm_laws.specs.Stacked.{Standing, module_name}
 use Rattle.strm_laws.specs.State.{State, Stream, book, opening, stream, with_driver_queue, with_head_queue, with_ioctl, with_stream}
 use Rattle.strm_laws.specs.Writes.{Wrote, below_head, chunks_sent, is_full_below}
@@ -62,6 +61,7 @@ use Rattle.strm_laws.proofs.PutParts.{either-holds}
 use Rattle.strm_laws.proofs.Replay.{fitting-met, or_else-none, unless-none}
 use Rattle.strm_laws.proofs.StackOnce.{none-once, pop-once, push-once}
 use Rattle.strm_laws.proofs.WriteSteps.{went}
+use Rattle.strm_laws.proofs.LawfulKinds.{new}
 
 under : (a b : ℕ) → nat_lt a b ≡ true → suc a ≤ b
 under a b is = grind (arith, nat_tests)
@@ -116,18 +116,9 @@ module _ {C : Type 0} where
   }
 
   -- pushes and pops
-  named-good : (name : ModuleName) (ps : List (Standing C)) → GoodModule (module_named {C = C} name)
-  named-good names.Ldterm ps = record {
-    kind = record { termios = refl; column = omega arith; line = omega arith; work = tt };
-    queues = (new-good _ 512 128 (omega arith) (omega arith) (omega arith), new-good _ 512 128 (omega arith) (omega arith) (omega arith));
-    has = refl;
-  }
-  named-good names.Ptem ps = record { kind = refl; queues = tt; has = refl }
-  named-good names.Pckt ps = record { kind = tt; queues = tt; has = refl }
-
   one-more : (name : ModuleName) (ps : List (Standing C)) → may_stand (Some (module_named name)) ps ≡ true → GoodModules ps → GoodModules (module_named name ∷ ps)
   one-more name ps may good = record {
-    each = (named-good name ps, good.each);
+    each = ((new name).good, good.each);
     few = under (length ps) MODULES (and_parts (nat_lt (length ps) MODULES) (not (stands module_name (module_name (module_named {C = C} name)) ps)) may).0;
     once = push-once (module_named name) ps may good.once;
   }

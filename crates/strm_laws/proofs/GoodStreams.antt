@@ -2,7 +2,7 @@
 use Rattle.std.proofs.Common.{ℕ, zero, suc, ◌≡◌, ◌≤◌, ◌-◌, Bool, true, false, cond, List, [], ◌∷◌, length, map, refl, sym, ap, subst, ◌∙◌, arith}
 use Rattle.std.proofs.lemmas.Bool.{false≢true}
 use Rattle.std.proofs.lemmas.List.{length-map}
-use Rattle.std.specs.Prelude.{Some, is_some}
+use Rattle.std.specs.Prelude.{Some}
 use Rattle.std.specs.List.{AllByRecursion}
 use Rattle.strm_types.specs.declared.limits.TheConstants.{IOCTL_END}
 use Rattle.strm_types.specs.declared.names.Dir.{Dir}
@@ -19,27 +19,24 @@ use Rattle.strm_types.specs.Cells.{Cells}
 use Rattle.strm_types.specs.Deliver.{Acted, Goes, Took}
 use Rattle.strm_types.specs.Drivers.{driver_put}
 use Rattle.strm_types.specs.Heads.{Head, head_put}
-use Rattle.strm_types.specs.LdtermPuts.{ldterm_puts}
-use Rattle.strm_types.specs.LdtermStands.{disciplined}
 use Rattle.strm_types.specs.Message.{Message, cells_of}
 use Rattle.strm_types.specs.Modules.{act_among, change_among, put_among}
-use Rattle.strm_types.specs.Names.{direction_at, is_open, place_of}
+use Rattle.strm_types.specs.Names.{direction_at, is_open}
 use Rattle.strm_types.specs.Queue.{Queue}
-use Rattle.strm_types.specs.Standings.{stood}
 use Rattle.strm_laws.specs.Earlier.{driver_place}
 use Rattle.strm_laws.specs.Puts.{across_of, earlier_at, made_above, module_acted, noted, put_at_driver, put_at_head, put_at_module}
-use Rattle.strm_laws.specs.Restorable.{GoodHead, GoodKind, GoodMessage, GoodModule, GoodModules, GoodQueue, GoodStream, stands_below}
+use Rattle.strm_laws.specs.Restorable.{GoodHead, GoodMessage, GoodModule, GoodModules, GoodQueue, GoodStream, stands_below}
 use Rattle.strm_laws.specs.StackCosts.{EachOnce}
-use Rattle.strm_laws.specs.Stacked.{Module, OfLdterm, OfPtem, OfPckt, Standing, kind_name, module_name, module_puts}
+use Rattle.strm_laws.specs.Stacked.{Standing, module_name, module_puts}
 use Rattle.strm_laws.specs.State.{State, Stream, book, stream, with_book, with_driver_queue, with_stream}
 use Rattle.strm_types.proofs.BySide.{set-all}
 use Rattle.strm_laws.proofs.GoodDeliveries.{AreGood, GoodParts, GoodTook}
 use Rattle.strm_laws.proofs.GoodDrivers.{driver-good}
 use Rattle.strm_laws.proofs.GoodHeads.{head-good}
-use Rattle.strm_laws.proofs.GoodLdterms.{good-stands, good-with, ldterm-good}
-use Rattle.strm_laws.proofs.GoodPtems.{pckt-good, ptem-good}
 use Rattle.strm_laws.proofs.PutParts.{acted-holds}
 use Rattle.strm_laws.proofs.StackStays.{keep-names}
+use Rattle.strm_laws.proofs.Lawful.{GoodActed}
+use Rattle.strm_laws.proofs.LawfulKinds.{lawful}
 
 module _ {C : Type 0} where
   -- both streams are good, and the next ioctl has a number
@@ -86,10 +83,6 @@ module _ {C : Type 0} where
     pub state : AllByRecursion GoodModule t.state
     pub sent : AreGood GoodMessage t.sent
 
-  pub record GoodActed (t : Acted C (Standing C)) : Type 0 where
-    pub state : GoodModule t.state
-    pub sent : AreGood GoodMessage t.sent
-
   pub acts-good : (acts : Standing C → Acted C (Standing C)) → ((p : Standing C) → GoodModule p → GoodActed (acts p)) → (i : ℕ) (ps : List (Standing C)) → AllByRecursion GoodModule ps → GoodActs (act_among acts i ps)
   acts-good acts each i [] all = record { state = tt; sent = tt }
   acts-good acts each zero (p ∷ ps) all = let t = each p all.0 in record { state = (t.state, all.1); sent = t.sent }
@@ -125,16 +118,6 @@ module _ {C : Type 0} where
       record { state = streams-with side (with_driver_queue t.state below) s (driver-queue-good side t.state below put.state (all.0 side)) all; sent = put.sent }
 
   module _ (cells : Cells C) where
-    puts-at : (made : ℕ) (here : Spot) (m : Message C) → GoodMessage m → (p : Standing C) → GoodModule p → GoodActed (module_puts cells made here m p)
-    puts-at made here m fits p good = by p.part good.kind good.has
-      where
-        by : (part : Module C) → GoodKind part → is_some p.queues ≡ is_some (place_of (kind_name part)) → GoodActed (module_puts cells made here m (stood part p.queues))
-        by (OfLdterm l) own has =
-            let t = ldterm-good here m fits (disciplined l p.queues) (good-with l p.queues own good.queues) in
-            record { state = good-stands (ldterm_puts here m (disciplined l p.queues)).state t.state; sent = t.sent }
-        by (OfPtem q) own has = let t = ptem-good here m q fits own in record { state = record { kind = t.state; queues = good.queues; has = has }; sent = t.sent }
-        by (OfPckt q) own has = record { state = record { kind = tt; queues = good.queues; has = has }; sent = pckt-good cells made here m fits }
-
     names-hold : (names : List QueueName) (s : State C) → AreStreams s → AreStreams (record s { enabled = names })
     names-hold names s all = all
 
@@ -155,7 +138,7 @@ module _ {C : Type 0} where
         let made = made_above here.side s in
         let i = here.at - 1 in
         acted-good here (put_among (module_puts cells made) i here m ps) s (keep-names cells made i here m ps)
-        (acts-good (module_puts cells made here m) (puts-at made here m fits) i ps (all.0 here.side).modules.each) all
+        (acts-good (module_puts cells made here m) (λ p. ((lawful p).put cells made here m).good fits) i ps (all.0 here.side).modules.each) all
 
     pub stream-parts : GoodParts GoodMessage AreStreams cells
     stream-parts = record { head = head-puts; stack = stack-puts; driver = driver-puts }

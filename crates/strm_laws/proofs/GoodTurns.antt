@@ -18,8 +18,6 @@ use Rattle.strm_types.specs.Cells.{Cells}
 use Rattle.strm_types.specs.Deliver.{carried, in_turn}
 use Rattle.strm_types.specs.Message.{Message, band_of, size_of}
 use Rattle.strm_types.specs.ModuleQueues.{at_place, place_past, with_waiting}
-use Rattle.strm_types.specs.LdtermServes.{ldterm_serves}
-use Rattle.strm_types.specs.LdtermStands.{disciplined}
 use Rattle.strm_types.specs.Ldterms.{waits_there}
 use Rattle.strm_types.specs.Standings.{QueuePair, pair_changed, queue_changed, stood}
 use Rattle.strm_types.specs.Modules.{change_among}
@@ -30,18 +28,17 @@ use Rattle.strm_laws.specs.Earlier.{driver_place}
 use Rattle.strm_laws.specs.ModuleTurns.{Calls, again_at, asked_turn, bytes_at, call_at, calls, made_below, module_called, moved_on, moved_within, place_named, queue_ended, turned_named, turned_there, waits_there as writers_wait}
 use Rattle.strm_laws.specs.Past.{has_room_past, waits_on, writer_waits}
 use Rattle.strm_laws.specs.Puts.{delivered, put_in}
-use Rattle.strm_laws.specs.Restorable.{GoodKind, GoodMessage, GoodModule, GoodPair, GoodQueue, GoodStream, StandsOn, goes_out, stands_below}
-use Rattle.strm_laws.specs.Stacked.{Module, OfLdterm, OfPtem, OfPckt, Standing, kind_name, module_asks, module_name, module_rests, module_serves}
+use Rattle.strm_laws.specs.Restorable.{GoodMessage, GoodModule, GoodPair, GoodQueue, GoodStream, StandsOn, goes_out, stands_below}
+use Rattle.strm_laws.specs.Stacked.{Standing, module_asks, module_name, module_rests, module_serves}
 use Rattle.strm_laws.specs.State.{State, Stream, stream, with_driver_queue, with_head_queue, with_stream}
 use Rattle.strm_laws.specs.TurnOutcomes.{TurnOutcome}
 use Rattle.strm_laws.specs.Turns.{driver_serves, held_back, is_stopped_across, moved_across, turned, turned_at, turned_queue, up_across, with_driver, turn_ended as driver_turn_ended}
 use Rattle.strm_laws.proofs.GoodDeliveries.{delivered-good, sent-good}
-use Rattle.strm_laws.proofs.GoodLdterms.{good-stands, good-with}
-use Rattle.strm_laws.proofs.GoodLdtermTurns.{serves-good}
 use Rattle.strm_laws.proofs.GoodQueues.{ended-good, relieved-good, waiting-good}
-use Rattle.strm_laws.proofs.GoodStreams.{AreStreams, GoodActed, acted-good, acts-good, changes-good, driver-queue-good, modules-good, stream-parts, streams-with}
+use Rattle.strm_laws.proofs.GoodStreams.{AreStreams, acted-good, acts-good, changes-good, driver-queue-good, modules-good, stream-parts, streams-with}
 use Rattle.strm_laws.proofs.StackStays.{queue-names, serve-names}
 use Rattle.strm_laws.proofs.TurnHolds.{any-holds}
+use Rattle.strm_laws.proofs.LawfulKinds.{lawful}
 
 -- what holds of both holds of the one that is chosen
 module _ {C : Type 0} (P : State C → Type 0) where
@@ -105,17 +102,6 @@ module _ {C : Type 0} (cells : Cells C) where
   delivered-streams to m s fits all = delivered-good GoodMessage AreStreams cells (stream-parts cells) to m s fits all
 
   module _ (here : Spot) where
-    serves-acted : (again : Bool) (made : ℕ) (stop : Option ℕ) (p : Standing C) → GoodModule p → GoodActed (module_serves cells here made again stop p).acted
-    serves-acted again made stop p good = by p.part good.kind good.has
-      where
-        by : (part : Module C) → GoodKind part → is_some p.queues ≡ is_some (place_of (kind_name part)) → GoodActed (module_serves cells here made again stop (stood part p.queues)).acted
-        by (OfLdterm l) own has =
-            let d = disciplined l p.queues in
-            let t = serves-good cells here made again stop d (good-with l p.queues own good.queues) in
-            record { state = good-stands (ldterm_serves cells here made again stop d).acted.state t.state; sent = t.sent }
-        by (OfPtem q) own has = record { state = record { kind = own; queues = good.queues; has = has }; sent = tt }
-        by (OfPckt q) own has = record { state = record { kind = tt; queues = good.queues; has = has }; sent = tt }
-
     -- a call, and the delivery of what it sent
     pub call-good : (again : Bool) (left : ℕ) (s : State C) → AreStreams s → let t = module_called cells here again left s in AreStreams (in_turn (carried (put_in cells) HOPS) t.sent t.state).state
     call-good again left s all =
@@ -124,7 +110,10 @@ module _ {C : Type 0} (cells : Cells C) where
         let i = here.at - 1 in
         let t = module_called cells here again left s in
         let acted = call_at cells here made again left ps in
-        let took = acted-good cells here acted s (serve-names cells here made again (Some left) i ps) (acts-good (λ p. (module_serves cells here made again (Some left) p).acted) (serves-acted again made (Some left)) i ps (all.0 here.side).modules.each) all in
+        let good =
+            acts-good (λ p. (module_serves cells here made again (Some left) p).acted) (λ p. ((lawful p).call cells here made again).good (Some left))
+            i ps (all.0 here.side).modules.each in
+        let took = acted-good cells here acted s (serve-names cells here made again (Some left) i ps) good all in
         sent-good GoodMessage AreStreams cells (stream-parts cells) t.sent t.state took.sent took.state
 
     calls-good : (n : ℕ) (again : Bool) (left : ℕ) (s : State C) → AreStreams s → AreStreams (calls cells here n again left s).state

@@ -258,3 +258,45 @@ module _ {C : Type 0} (p : Dir → C → Bool) (cells : Cells C) (here : Spot) w
       at true echoing stands = omega arith
       at false true stands = omega (arith, grown-keeps new l.write_queue.messages (stands refl))
       at false false stands = omega (arith, weight-put down (data_message new) l.write_queue.messages, weight-data down new)
+
+-- and a put makes none
+module _ {C : Type 0} (p : Dir → C → Bool) where
+  abbrev MakesNone : Acted C (Discipline C) → Type 0
+  MakesNone t = weight_made p t.gone ≡ 0
+
+  both-none : (t : Acted C (Discipline C)) (next : Discipline C → Acted C (Discipline C)) → MakesNone t → MakesNone (next t.state)
+      → MakesNone (both t next)
+  both-none t next first second = let all = made-append p t.gone (next t.state).gone in omega arith
+
+  line-none : (here : Spot) (band : Option Band) (l : Discipline C) → MakesNone (line_flushed here band l)
+  line-none here band l = grind (arith, lost-made p here.side Flushed l.line)
+
+  read-none : (here : Spot) (asked : FlushAsked) (l : Discipline C) → MakesNone (read_flushed here asked l)
+  read-none here asked l =
+      let queue = queue_flushed Up here asked.band l in
+      grind (arith, both-none queue (line_flushed here asked.band) refl (line-none here asked.band queue.state))
+
+  write-none : (here : Spot) (asked : FlushAsked) (l : Discipline C) → MakesNone (write_flushed here asked l)
+  write-none here asked l = grind arith
+
+  flush-none : (here : Spot) (m : Message C) (l : Discipline C) → MakesNone (flush_passes here m l)
+  flush-none here m l =
+      let asked = asked_by m.plain in
+      let first = read_flushed here asked l in
+      both-none (both first (write_flushed here asked)) (sends (onward here.way here m ∷ []))
+      (both-none first (write_flushed here asked) (read-none here asked l) (write-none here asked first.state)) refl
+
+  taken-none : (here : Spot) (command : ℕ) (t : Termios) (m : Message C) (l : Discipline C) → MakesNone (taken_up here command t m l)
+  taken-none here command t m l =
+      let told : Discipline C → Acted C (Discipline C) = sends (onward Up here (flush_message (read_flush None)) ∷ []) in
+      let read = both-none (read_flushed here up_alone l) told (read-none here up_alone l) refl in
+      let input : MakesNone (input_flushed here command l) = grind (arith, read) in
+      both-none (input_flushed here command l) (termios_taken here t m) input refl
+
+  pub ldterm-none : (here : Spot) (m : Message C) (l : Discipline C) → MakesNone (ldterm_puts here m l)
+  ldterm-none here m l = puts-each here m l MakesNone (record {
+    waits = λ is. refl;
+    flushes = λ is. flush-none here m l;
+    passes = refl;
+    taken = λ way is ioc t. taken-none here ioc.command t m l;
+  })

@@ -19,20 +19,20 @@ use Rattle.strm_types.specs.Journal.{PlainEntry}
 use Rattle.strm_laws.specs.Based.{cells_in, held_by}
 use Rattle.strm_laws.specs.Kept.{AreIdle, NothingUnread, gone, state_weight, told_by}
 use Rattle.strm_laws.specs.Ledgers.{Balanced, all_gone, inline, queued}
-use Rattle.strm_laws.specs.LdtermWeights.{weight_begun, weight_in_work}
 use Rattle.strm_types.specs.Message.{Message, cells_of, weight_of}
 use Rattle.strm_types.specs.Names.{direction_at}
 use Rattle.strm_laws.specs.Places.{weight_gone}
 use Rattle.strm_types.specs.Queue.{weight}
 use Rattle.strm_types.specs.Standings.{QueuePair, messages_on}
 use Rattle.strm_types.specs.Rules.{counted_more, fates_of, made_more, number_of, told_more}
-use Rattle.strm_laws.specs.Stacked.{Module, OfLdterm, OfPtem, OfPckt, Standing, IsAtRest, KindRests, kind_line, kind_weight, module_line, module_weight, modules_weight, queues_weight}
+use Rattle.strm_laws.specs.Stacked.{Standing, IsAtRest, module_line, module_weight, modules_weight, queues_weight}
 use Rattle.strm_laws.specs.State.{State, book}
 use Rattle.strm_laws.specs.Step.{IsLegal, after, replay}
 use Rattle.strm_laws.proofs.Based.{all-counted, held-there, none-counted}
 use Rattle.strm_laws.proofs.JournalPlaces.{balanced, of_dir}
 use Rattle.strm_laws.proofs.StepsIdle.{idle-behind}
 use Rattle.strm_types.proofs.Weights.{weight-take}
+use Rattle.strm_laws.proofs.LawfulKinds.{lawful}
 
 -- what stands in a direction
 module _ {C : Type 0} where
@@ -50,14 +50,7 @@ module _ {C : Type 0} where
   none-weighs [] = refl
   none-weighs (m ∷ ms) = omega (arith, weight-take none m ms, none-of m, none-weighs ms)
 
-  -- a module of which nothing of a turn is under way has nothing itself but its line, which comes up
-  kind-weighs : (p : Dir → C → Bool) (side : Side) (q : Module C) → KindRests q → kind_weight p side q ≡ count_by (p (direction_at Up side)) (kind_line q)
-  kind-weighs p side (OfPtem q) idle = refl
-  kind-weighs p side (OfPckt q) idle = refl
-  kind-weighs p side (OfLdterm l) idle =
-      omega (arith, ap (λ x. weight_begun p side x) idle.3, ap (λ x. weight_in_work (p (direction_at Up side)) x) idle.0, ap (λ xs. count_by (p (direction_at Up side)) xs) idle.1)
-
-  -- and its queues, by what is tested of what comes up and of what goes down
+  -- what a module has on its queues, by what is tested of what comes up and of what goes down
   queues-down : (p : Dir → C → Bool) (side : Side) → p (direction_at Up side) ≡ none → p (direction_at Down side) ≡ all → (queues : Option (QueuePair C))
       → queues_weight p side queues ≡ cells_in (messages_on Down queues)
   queues-down p side up down None = refl
@@ -79,7 +72,7 @@ module _ {C : Type 0} where
         sum_by-cons (module_weight p side) q ps,
         sum_by-cons (held_by Down) q ps,
         modules-down p side up down ps idle.1,
-        kind-weighs p side q.part idle.0,
+        (lawful q).weighs p side idle.0,
         ap (λ t. count_by t (module_line q)) up ∙ none-counted (module_line q),
         queues-down p side up down q.queues,
       )
@@ -93,7 +86,7 @@ module _ {C : Type 0} where
         sum_by-cons (module_weight p side) q ps,
         sum_by-cons (held_by Up) q ps,
         modules-up p side up down ps idle.1,
-        kind-weighs p side q.part idle.0,
+        (lawful q).weighs p side idle.0,
         ap (λ t. count_by t (module_line q)) up ∙ all-counted (module_line q),
         queues-up p side up down q.queues,
       )

@@ -2,7 +2,6 @@
 -- before that. What all of them treated is how far the turn went.
 use Rattle.std.proofs.Common.{ℕ, zero, suc, ◌≡◌, ◌≤◌, ◌<◌, ◌+◌, ◌-◌, ◌*◌, Bool, true, false, cond, List, [], ◌∷◌, ◌++◌, length, map, refl, sym, ap, subst, ◌∙◌, arith}
 use Rattle.std.specs.Prelude.{◌==◌, not, max, min, slice_index_or, Option, None, Some, is_some}
-use Rattle.std.proofs.lemmas.Bool.{false≢true}
 use Rattle.std.proofs.lemmas.List.{append_assoc, length-map}
 use Rattle.strm_types.specs.declared.answers.Turn.TheVariants.{Moved, Blocked}
 use Rattle.strm_types.specs.declared.limits.TheConstants.{HOPS}
@@ -15,28 +14,26 @@ use Rattle.strm_types.specs.Books.{with_made}
 use Rattle.strm_types.specs.Cells.{plain}
 use Rattle.strm_types.specs.Deliver.{Acted, Fate, Goes, Comes, Parcel, carried, in_turn}
 use Rattle.strm_types.specs.Input.{stages_done, to_treat}
-use Rattle.strm_types.specs.LdtermPuts.{ldterm_puts}
-use Rattle.strm_types.specs.LdtermStands.{disciplined}
 use Rattle.strm_types.specs.Ldterms.{Stage}
 use Rattle.strm_types.specs.Message.{Message}
 use Rattle.strm_types.specs.ModuleQueues.{at_place}
-use Rattle.strm_types.specs.Standings.{messages_at, stood}
+use Rattle.strm_types.specs.Standings.{messages_at}
 use Rattle.strm_laws.specs.ModuleTurns.{Calls, again_at, bytes_at, call_at, calls, made_below, module_turn_ended, moved_on, moved_within}
 use Rattle.strm_types.specs.Modules.{act_among, put_among}
 use Rattle.strm_laws.specs.Puts.{booked, module_acted, put_in}
-use Rattle.strm_types.specs.Service.{Serving, served_by}
-use Rattle.strm_laws.specs.Stacked.{Module, OfLdterm, OfPtem, OfPckt, Standing, ldterm_stands, module_puts, module_serves}
+use Rattle.strm_types.specs.Service.{Serving}
+use Rattle.strm_laws.specs.Stacked.{Standing, module_puts, module_serves}
 use Rattle.strm_laws.specs.State.{State, book, stream, with_book, with_stream, Stream}
 use Rattle.strm_types.specs.LdtermCalls.{Begins, Ends, bytes_left}
 use Rattle.strm_laws.specs.TurnCalls.{Stopped, asks_on, called, discipline_of, ldterm_of, led, module_at, none_there, treated}
 use Rattle.strm_laws.specs.TurnOutcomes.{TurnOutcome, stayed_put}
 use Rattle.strm_types.specs.Queue.{first_size}
 use Rattle.strm_types.proofs.DeliveryHolds.{carried-holds, in_turn-holds}
-use Rattle.strm_types.proofs.LdtermPutStays.{puts-stay}
-use Rattle.strm_laws.proofs.LdtermStops.{GoesOn, serves-alike, serves-ends, serves-goes, serves-made}
+use Rattle.strm_laws.proofs.LdtermStops.{GoesOn}
 use Rattle.strm_laws.proofs.ModulesHold.{OnBoth, puts-good}
 use Rattle.strm_laws.proofs.StandingLdterms.{stands-at}
 use Rattle.strm_types.proofs.BySide.{get-set-same}
+use Rattle.strm_laws.proofs.LawfulKinds.{plainly}
 
 -- one of several, and what is said of it
 module _ {P : Type 0} (d : P) where
@@ -45,7 +42,8 @@ module _ {P : Type 0} (d : P) where
   index-map f e zero (p ∷ ps) low = refl
   index-map f e (suc i) (p ∷ ps) low = index-map f e i ps (omega (arith, low))
 
-  act-alike : (f g : P → Acted ℕ P) (i : ℕ) (ps : List P) → f (slice_index_or ps i d) ≡ g (slice_index_or ps i d) → act_among f i ps ≡ act_among g i ps
+  pub act-alike : (f g : P → Acted ℕ P) (i : ℕ) (ps : List P)
+      → f (slice_index_or ps i d) ≡ g (slice_index_or ps i d) → act_among f i ps ≡ act_among g i ps
   act-alike f g i [] same = refl
   act-alike f g zero (p ∷ ps) same = ap (λ (t : Acted ℕ P). record { state = t.state ∷ ps; notes = t.notes; sent = t.sent; gone = t.gone }) same
   act-alike f g (suc i) (p ∷ ps) same = ap (λ (t : Acted ℕ (List P)). record { state = p ∷ t.state; notes = t.notes; sent = t.sent; gone = t.gone }) (act-alike f g i ps same)
@@ -70,60 +68,22 @@ under_way p = let l = discipline_of p in record { stage = l.stage; in_work = l.i
 
 -- what is known of calls of ldterm's service procedure is so of any module's
 module _ (here : Spot) (again : Bool) where
-  pub module-goes : (p : Standing ℕ) → Begins here.way again (discipline_of p) → let t = module_serves plain here 0 again None p in t.again ≡ true → GoesOn here.way again (discipline_of p) t.bytes (discipline_of t.acted.state)
-  module-goes p begins works = by p.part begins works
-    where
-      by : (part : Module ℕ) → let q = stood part p.queues in Begins here.way again (discipline_of q) → let t = module_serves plain here 0 again None q in t.again ≡ true
-          → GoesOn here.way again (discipline_of q) t.bytes (discipline_of t.acted.state)
-      by (OfLdterm l) begins works = serves-goes here again (disciplined l p.queues) begins works
-      by (OfPtem q) begins works = absurd (false≢true works)
-      by (OfPckt q) begins works = absurd (false≢true works)
+  pub module-goes : (p : Standing ℕ) → Begins here.way again (discipline_of p) → let t = module_serves plain here 0 again None p in
+      t.again ≡ true → GoesOn here.way again (discipline_of p) t.bytes (discipline_of t.acted.state)
+  module-goes p begins works = (plainly p).goes here again begins works
 
-  module-alike : (p : Standing ℕ) → let t = module_serves plain here 0 again None p in t.again ≡ true → (left made : ℕ) → stages_done (discipline_of t.acted.state).stage + 3 * t.bytes ≤ 3 * left → module_serves plain here made again (Some left) p ≡ t
-  module-alike p works left made fits = by p.part works fits
-    where
-      by : (part : Module ℕ) → let t = module_serves plain here 0 again None (stood part p.queues) in t.again ≡ true → stages_done (discipline_of t.acted.state).stage + 3 * t.bytes ≤ 3 * left
-          → module_serves plain here made again (Some left) (stood part p.queues) ≡ t
-      by (OfLdterm l) works fits = ap (served_by ldterm_stands) (serves-alike here again (disciplined l p.queues) works left made fits)
-      by (OfPtem q) works fits = refl
-      by (OfPckt q) works fits = refl
-
-  pub module-ends : (p : Standing ℕ) → Begins here.way again (discipline_of p) → let t = module_serves plain here 0 again None p in t.again ≡ false
-      → Ends here.way again (discipline_of p) t.bytes × ((made : ℕ) → module_serves plain here made again (Some t.bytes) p ≡ t)
-  module-ends p begins over = by p.part begins over
-    where
-      by : (part : Module ℕ) → let q = stood part p.queues in Begins here.way again (discipline_of q) → let t = module_serves plain here 0 again None q in t.again ≡ false
-          → Ends here.way again (discipline_of q) t.bytes × ((made : ℕ) → module_serves plain here made again (Some t.bytes) q ≡ t)
-      by (OfLdterm l) begins over = let e = serves-ends here again (disciplined l p.queues) begins over in (e.0, λ made. ap (served_by ldterm_stands) (e.1 made))
-      by (OfPtem q) begins over = (record { treat = omega arith; done = omega arith }, λ made. refl)
-      by (OfPckt q) begins over = (record { treat = omega arith; done = omega arith }, λ made. refl)
-
-  module-made : (stop : Option ℕ) (p : Standing ℕ) (made : ℕ) → module_serves plain here made again stop p ≡ module_serves plain here 0 again stop p
-  module-made stop p made = by p.part
-    where
-      by : (part : Module ℕ) → let q = stood part p.queues in module_serves plain here made again stop q ≡ module_serves plain here 0 again stop q
-      by (OfLdterm l) = ap (served_by ldterm_stands) (serves-made here again stop (disciplined l p.queues) made)
-      by (OfPtem q) = refl
-      by (OfPckt q) = refl
+  pub module-ends : (p : Standing ℕ) → Begins here.way again (discipline_of p) → let t = module_serves plain here 0 again None p in
+      t.again ≡ false → Ends here.way again (discipline_of p) t.bytes × ((made : ℕ) → module_serves plain here made again (Some t.bytes) p ≡ t)
+  module-ends p begins over = (plainly p).ends here again begins over
 
 ways : (a b : Stage ℕ) (c d : Option (Message ℕ)) → a ≡ b → c ≡ d → (let x : UnderWay = record { stage = a; in_work = c } in let y : UnderWay = record { stage = b; in_work = d } in x ≡ y)
 ways a b c d same work = ap (λ (x : Stage ℕ). let v : UnderWay = record { stage = x; in_work = c } in v) same ∙ ap (λ (x : Option (Message ℕ)). let v : UnderWay = record { stage = b; in_work = x } in v) work
 
-put-stays-at : (made : ℕ) (to : Spot) (m : Message ℕ) (p : Standing ℕ) → under_way (module_puts plain made to m p).state ≡ under_way p
-put-stays-at made to m p = by p.part
-  where
-    by : (part : Module ℕ) → under_way (module_puts plain made to m (stood part p.queues)).state ≡ under_way (stood part p.queues)
-    by (OfPtem q) = refl
-    by (OfPckt q) = refl
-    by (OfLdterm l) =
-        let d = disciplined l p.queues in
-        let q = (ldterm_puts to m d).state in
-        let same = puts-stay to m d in
-        ways q.stage d.stage q.in_work d.in_work same.stage same.work
-
 put-stays : (made j : ℕ) (to : Spot) (m : Message ℕ) (ps : List (Standing ℕ)) → map under_way (put_among (module_puts plain made) j to m ps).state ≡ map under_way ps
 put-stays made j to m [] = refl
-put-stays made zero to m (l ∷ ls) = ap (λ x. x ∷ map under_way ls) (put-stays-at made to m l)
+put-stays made zero to m (l ∷ ls) =
+    let stays = (plainly l).put_stays made to m in
+    ap (λ x. x ∷ map under_way ls) (ways _ _ _ _ stays.0 stays.1)
 put-stays made (suc j) to m (l ∷ ls) = ap (λ xs. under_way l ∷ xs) (put-stays made j to m ls)
 
 -- so it does in deliveries
@@ -293,7 +253,8 @@ module _ (here : Spot) where
             ap (λ n. calls plain here n false (bytes + b + left) s0) (let e : suc r.made + more ≡ r.made + suc more = omega arith in e)
             ∙ ap (λ n. calls plain here (r.made + suc more) false n s0) (let e : bytes + b + left ≡ bytes + (b + left) = omega arith in e)
             ∙ r.goes (b + left) (suc more) (omega (arith, g.done, bytes_is, done, fits))
-            ∙ ap (behind gone bytes) (call-same more (b + left) again None s r.inside (λ made. module-alike here again l works (b + left) made (omega (arith, bytes_is, done, fits))))
+            ∙ ap (behind gone bytes) (call-same more (b + left) again None s r.inside
+                (λ made. (plainly l).alike here again works (b + left) made (omega (arith, bytes_is, done, fits))))
             ∙ ap (λ x. behind gone bytes (next_of more (b + left) (called here again None ps) b x s)) asks
             ∙ ap (λ n. let v = calls plain here more true n u.state in behind gone bytes (record { state = v.state; gone = w.gone ++ u.gone ++ v.gone; bytes = b + v.bytes; ended = v.ended })) (let e : b + left - b ≡ left = omega arith in e)
             ∙ both-behind gone w.gone u.gone bytes b v
@@ -324,7 +285,10 @@ module _ (here : Spot) where
           (record { treat = let a = e.0.treat in omega (arith, bytes_is); done = let a = e.0.done in omega (arith, bytes_is) }, λ made. ap (λ n. module_serves plain here made again (Some n) l) bytes_is ∙ e.1 made)
       last-is (Some n) over is =
           let l = module_at here s in
-          (subst (λ b. Ends here.way again (discipline_of l) b) is.0 is.1, λ made. ap (λ b. module_serves plain here made again (Some b) l) (sym is.0) ∙ module-made here again (Some n) l made)
+          (
+            subst (λ b. Ends here.way again (discipline_of l) b) is.0 is.1,
+            λ made. ap (λ b. module_serves plain here made again (Some b) l) (sym is.0) ∙ (plainly l).call_same here again (Some n) made,
+          )
 
       last-moves : (stop : Option ℕ) → asks_on here again stop (stream here.side s).modules ≡ false → IsLast stop → moved_on plain here name (all stop) s0 ≡ ended stop
       last-moves stop over is =

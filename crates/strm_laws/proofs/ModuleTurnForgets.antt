@@ -1,6 +1,6 @@
 -- Forgetting the origins of cells commutes with turns of the queues of modules.
 use Rattle.std.proofs.Common.{ℕ, zero, suc, ◌≡◌, ◌+◌, ◌-◌, Bool, true, false, cond, List, [], ◌∷◌, ◌++◌, map, take, refl, sym, ap, ◌∙◌}
-use Rattle.std.specs.Prelude.{◌==◌, ◌*◌, ◌&&◌, not, min, slice_index_or, is_some, Option, None, Some, option_map}
+use Rattle.std.specs.Prelude.{◌==◌, ◌*◌, ◌&&◌, not, min, slice_index_or, Option, None, Some, option_map}
 use Rattle.std.proofs.lemmas.List.{take-map}
 use Rattle.strm_types.specs.declared.answers.Turn.{Turn}
 use Rattle.strm_types.specs.declared.answers.Turn.TheVariants.{Moved, Blocked, Idle}
@@ -12,36 +12,31 @@ use Rattle.strm_types.specs.declared.names.Way.TheVariants.{Up, Down}
 use Rattle.strm_types.specs.declared.spots.Asks.{Asks}
 use Rattle.strm_types.specs.declared.spots.Asks.TheVariants as asked
 use Rattle.strm_types.specs.declared.spots.Spot.{Spot}
-use Rattle.strm_types.specs.Asking.{asked_by, asked_first, ldterm_asks}
 use Rattle.strm_types.specs.Cells.{Cells, AreCells, plain}
-use Rattle.strm_types.specs.Deliver.{Acted, Carried, Took, carried, in_turn}
+use Rattle.strm_types.specs.Deliver.{Carried, Took, carried, in_turn}
 use Rattle.strm_laws.specs.Earlier.{places_of}
-use Rattle.strm_laws.specs.LdtermOrigins.{map_ldterm, map_serving, map_stage}
-use Rattle.strm_types.specs.LdtermServes.{ldterm_serves}
-use Rattle.strm_types.specs.LdtermStands.{disciplined}
-use Rattle.strm_types.specs.Ldterms.{Discipline, is_between, Between, Begun, Answered, Stage}
 use Rattle.strm_types.specs.Message.{Message, map_message}
 use Rattle.strm_types.specs.ModuleQueues.{at_place}
 use Rattle.strm_types.specs.Standings.{QueuePair, map_pair, messages_at, messages_on, pair_changed, queue_changed, stood}
 use Rattle.strm_laws.specs.ModuleTurns.{Calls, again_at, asked_turn, bytes_at, call_at, calls, made_below, module_called, module_turn_ended, module_turned, moved_by, moved_on, moved_within, named_from, place_named, queue_ended, stayed_at, turned_named, turned_there, waits_there}
-use Rattle.strm_types.specs.Modules.{act_among, change_among}
+use Rattle.strm_types.specs.Modules.{change_among}
 use Rattle.strm_types.specs.Names.{enable_if, enable_some}
 use Rattle.strm_types.specs.Origins.{map_acted, map_carried, map_fate, map_parcel, map_took}
 use Rattle.strm_laws.specs.Past.{has_room_past, writer_waits}
 use Rattle.strm_laws.specs.Puts.{earlier_at, module_acted, put_in}
 use Rattle.strm_types.specs.Queue.{Queue, is_none_left, map_messages, map_queue, relieved, first_size}
-use Rattle.strm_types.specs.Service.{Serving, end_relieves, has_more, turn_ended, turn_relieves, served_by}
-use Rattle.strm_laws.specs.Stacked.{Module, OfLdterm, OfPtem, OfPckt, Standing, kind_rests, ldterm_stands, map_kind, map_module, module_asks, module_rests, module_serves}
+use Rattle.strm_types.specs.Service.{Serving, end_relieves, has_more, turn_ended, turn_relieves}
+use Rattle.strm_laws.specs.Stacked.{Standing, map_kind, map_module, module_asks, module_rests, module_serves}
 use Rattle.strm_laws.specs.State.{State, Stream, stream, with_stream, map_state, map_stream}
 use Rattle.strm_laws.specs.TurnOutcomes.{TurnOutcome, map_turn_outcome, stayed_put}
 use Rattle.strm_laws.proofs.DeliveryForgets.{carried-agrees, in_turn-agrees, map-join}
 use Rattle.strm_laws.proofs.Earlier.{before_at-forgets, places-forget}
 use Rattle.strm_laws.proofs.EmptiedForgets.{stream-forgets}
-use Rattle.strm_laws.proofs.Forgetting.{kind-forgets, named_band-forgets, none-forgets, relieved-forgets, relieves_from-forgets, size-forgets}
-use Rattle.strm_laws.proofs.LdtermServes.{serves-forget}
+use Rattle.strm_laws.proofs.Forgetting.{none-forgets, relieved-forgets, relieves_from-forgets, size-forgets}
 use Rattle.strm_laws.proofs.Past.{room-forgets, with_stream-same, writer_waits-forgets}
 use Rattle.strm_laws.proofs.PutsForget.{acted-same, puts-forget}
-use Rattle.strm_laws.proofs.StandingLdterms.{at-forgets}
+use Rattle.strm_laws.proofs.LawfulKinds.{lawful}
+use Rattle.strm_laws.proofs.ModulePuts.{acts-forget}
 
 module _ {C D : Type 0} (f : C → D) where
   abbrev images : List (Standing C) → List (Standing D)
@@ -63,49 +58,11 @@ module _ {C D : Type 0} (f : C → D) where
   change-same change change' same zero (p ∷ ps) = ap (λ q. q ∷ images ps) (same p)
   change-same change change' same (suc i) (p ∷ ps) = ap (λ qs. map_module f p ∷ qs) (change-same change change' same i ps)
 
-  -- what a module's queue asks, and whether it rests
-  asked-same : (way : Way) (stopped : Bool) (ms : List (Message C)) → asked_first way stopped (map_messages f ms) ≡ asked_first way stopped ms
-  asked-same way stopped [] = refl
-  asked-same way stopped (m ∷ ms) = ap (λ kind. asked_by way stopped kind (map_message f m).band) (kind-forgets f m) ∙ ap (λ band. asked_by way stopped m.kind band) (named_band-forgets f m)
-
+  -- what stands on a module's queue
   on-same : (way : Way) (queues : Option (QueuePair C)) → messages_on way (option_map (map_pair f) queues) ≡ map_messages f (messages_on way queues)
   on-same way None = refl
   on-same Up (Some pair) = refl
   on-same Down (Some pair) = refl
-
-  ldterm-asks : (way : Way) (d : Discipline C) → ldterm_asks way (map_ldterm f d) ≡ ldterm_asks way d
-  ldterm-asks Up d = asked-same Up d.stopped d.read_queue.messages
-  ldterm-asks Down d = asked-same Down d.stopped d.write_queue.messages
-
-  asks-same : (way : Way) (p : Standing C) → module_asks way (map_module f p) ≡ module_asks way p
-  asks-same way p = by p.part
-    where
-      by : (part : Module C) → module_asks way (map_module f (stood part p.queues)) ≡ module_asks way (stood part p.queues)
-      by (OfLdterm l) = ap (λ d. ldterm_asks way d) (at-forgets f l p.queues) ∙ ldterm-asks way (disciplined l p.queues)
-      by (OfPtem q) = refl
-      by (OfPckt q) = refl
-
-  between-same : (x : Stage C) → is_between (map_stage f x) ≡ is_between x
-  between-same Between = refl
-  between-same (Begun started c) = refl
-  between-same (Answered echo) = refl
-
-  work-same : (o : Option (Message C)) → is_some (option_map (map_message f) o) ≡ is_some o
-  work-same None = refl
-  work-same (Some m) = refl
-
-  gathered-same : (xs : List C) → is_none_left (map f xs) ≡ is_none_left xs
-  gathered-same [] = refl
-  gathered-same (x ∷ xs) = refl
-
-  rests-same : (p : Standing C) → module_rests (map_module f p) ≡ module_rests p
-  rests-same p = by p.part
-    where
-      by : (part : Module C) → kind_rests (map_kind f part) ≡ kind_rests part
-      by (OfPtem q) = refl
-      by (OfPckt q) = refl
-      by (OfLdterm l) =
-          rw (work-same l.in_work, gathered-same l.gathered, between-same l.stage) refl
 
   first-same : (ms : List (Message C)) → first_size (map_messages f ms) ≡ first_size ms
   first-same [] = refl
@@ -172,14 +129,7 @@ module _ {C D : Type 0} (f : C → D) where
       ∙ ap (λ e. with_enabled (names more goes e) ended) (before_at-forgets f here.side here.way here.at s)
       ∙ ap (λ x. with_enabled (names more goes earlier) x) (ended_at-same here took s)
 
-  -- how many were made
-  -- one of several acts
-  among-same : (acts : Standing C → Acted C (Standing C)) (acts' : Standing D → Acted D (Standing D)) → ((p : Standing C) → acts' (map_module f p) ≡ map_acted f (map_module f) (acts p)) → (i : ℕ) (ps : List (Standing C))
-      → act_among acts' i (images ps) ≡ map_acted f (map (map_module f)) (act_among acts i ps)
-  among-same acts acts' same i [] = refl
-  among-same acts acts' same zero (p ∷ ps) = ap (λ (t : Acted D (Standing D)). record { state = t.state ∷ images ps; notes = t.notes; sent = t.sent; gone = t.gone }) (same p)
-  among-same acts acts' same (suc i) (p ∷ ps) = ap (λ (t : Acted D (List (Standing D))). record { state = map_module f p ∷ t.state; notes = t.notes; sent = t.sent; gone = t.gone }) (among-same acts acts' same i ps)
-
+  -- several calls
   abbrev map_calls : Calls C → Calls D
   map_calls t = record { state = map_state f t.state; gone = map (map_fate f) t.gone; bytes = t.bytes; ended = t.ended }
 
@@ -202,24 +152,14 @@ module _ {C : Type 0} (cells : Cells C) (are : AreCells cells) where
   abbrev f : C → ℕ
   f = cells.byte
 
-  module-serves : (here : Spot) (made : ℕ) (again : Bool) (left : ℕ) (p : Standing C) → module_serves plain here made again (Some left) (map_module f p) ≡ map_serving f (map_module f) (module_serves cells here made again (Some left) p)
-  module-serves here made again left p = by p.part
-    where
-      by : (part : Module C) → module_serves plain here made again (Some left) (map_module f (stood part p.queues)) ≡ map_serving f (map_module f) (module_serves cells here made again (Some left) (stood part p.queues))
-      by (OfLdterm l) =
-          ap (λ (d : Discipline ℕ). served_by ldterm_stands (ldterm_serves plain here made again (Some left) d)) (at-forgets f l p.queues)
-          ∙ ap (served_by ldterm_stands) (serves-forget cells are here made again (Some left) (disciplined l p.queues))
-      by (OfPtem q) = refl
-      by (OfPckt q) = refl
-
   acts-same : (here : Spot) (made : ℕ) (again : Bool) (left : ℕ) (p : Standing C) → (module_serves plain here made again (Some left) (map_module f p)).acted ≡ map_acted f (map_module f) (module_serves cells here made again (Some left) p).acted
-  acts-same here made again left p = ap (λ (t : Serving ℕ (Standing ℕ)). t.acted) (module-serves here made again left p)
+  acts-same here made again left p = ap (λ (t : Serving ℕ (Standing ℕ)). t.acted) (((lawful p).call cells here made again).forgets are left)
 
   bytes-same : (here : Spot) (made : ℕ) (again : Bool) (left : ℕ) (p : Standing C) → (module_serves plain here made again (Some left) (map_module f p)).bytes ≡ (module_serves cells here made again (Some left) p).bytes
-  bytes-same here made again left p = ap (λ (t : Serving ℕ (Standing ℕ)). t.bytes) (module-serves here made again left p)
+  bytes-same here made again left p = ap (λ (t : Serving ℕ (Standing ℕ)). t.bytes) (((lawful p).call cells here made again).forgets are left)
 
   again-same : (here : Spot) (made : ℕ) (again : Bool) (left : ℕ) (p : Standing C) → (module_serves plain here made again (Some left) (map_module f p)).again ≡ (module_serves cells here made again (Some left) p).again
-  again-same here made again left p = ap (λ (t : Serving ℕ (Standing ℕ)). t.again) (module-serves here made again left p)
+  again-same here made again left p = ap (λ (t : Serving ℕ (Standing ℕ)). t.again) (((lawful p).call cells here made again).forgets are left)
 
   -- one call, and what it sent
   called-same : (here : Spot) (again : Bool) (left : ℕ) (s : State C) → module_called plain here again left (map_state f s) ≡ map_took f (map_state f) (module_called cells here again left s)
@@ -228,7 +168,8 @@ module _ {C : Type 0} (cells : Cells C) (are : AreCells cells) where
       let made = made_below here.side s in
       ap (λ (t : Stream ℕ). module_acted here (call_at plain here (made_below here.side (map_state f s)) again left t.modules) (map_state f s)) (stream-forgets f here.side s)
       ∙ ap (λ t. module_acted here t (map_state f s))
-      (among-same f (λ p. (module_serves cells here made again (Some left) p).acted) (λ p. (module_serves plain here made again (Some left) p).acted) (acts-same here made again left) (here.at - 1) ps)
+      (acts-forget f (λ p. (module_serves cells here made again (Some left) p).acted) (λ p. (module_serves plain here made again (Some left) p).acted)
+          (acts-same here made again left) (here.at - 1) ps)
       ∙ acted-same f here (call_at cells here made again left ps) s
 
   sent-same : (t : Took C (State C)) → in_turn (carried (put_in plain) HOPS) (map (map_parcel f) t.sent) (map_state f t.state) ≡ map_carried f (map_state f) (in_turn (carried (put_in cells) HOPS) t.sent t.state)
@@ -304,7 +245,11 @@ module _ {C : Type 0} (cells : Cells C) (are : AreCells cells) where
       let rests = at_place module_rests false here.at ps in
       let asks = at_place (module_asks here.way) asked.Empty here.at ps in
       let image = map_state f s in
-      rw (stream-forgets f here.side s, at_place-same f module_rests module_rests (rests-same f) false here.at ps, at_place-same f (module_asks here.way) (module_asks here.way) (asks-same f here.way) asked.Empty here.at ps)
+      rw (
+        stream-forgets f here.side s,
+        at_place-same f module_rests module_rests (λ p. ((lawful p).image f).rests) false here.at ps,
+        at_place-same f (module_asks here.way) (module_asks here.way) (λ p. ((lawful p).image f).asks here.way) asked.Empty here.at ps,
+      )
       (either-same f rests (asked_turn cells here asks name turn s) (stayed_put Blocked s) _ _ (asked-turn-same here asks name turn s) refl)
 
   turned_named-same : (name : QueueName) (turn : Turn) (s : State C) (at : Option ℕ) → turned_named plain name turn (map_state f s) at ≡ map_turn_outcome f (turned_named cells name turn s at)

@@ -34,7 +34,9 @@ use Rattle.strm_types.proofs.DeliveryHolds.{carried-holds, in_turn-holds}
 use Rattle.strm_laws.proofs.Deliveries.{delivered-keeps}
 use Rattle.strm_laws.proofs.DeliveryKeeps.{gone-append, in_turn-keeps, made-append}
 use Rattle.strm_types.proofs.LdtermPuts.{either}
-use Rattle.strm_laws.proofs.ModuleCalls.{IsReadyAt, OneIs, among-goes, among-keeps, among-rests, first-ready, one-of-idle, one-puts, puts-ready}
+use Rattle.strm_laws.proofs.Lawful.{IsReadyAt}
+use Rattle.strm_laws.proofs.LawfulKinds.{lawful}
+use Rattle.strm_laws.proofs.ModuleCalls.{OneIs, among-goes, among-keeps, among-rests, one-of-idle, one-puts}
 use Rattle.strm_laws.proofs.ModulesHold.{OnBoth, books-good, puts-good}
 use Rattle.strm_laws.proofs.ModulesIdle.{AllIdle, among-idle}
 use Rattle.strm_laws.proofs.Past.{waits-idle, waits-keeps}
@@ -120,7 +122,9 @@ module _ {C : Type 0} (cells : Cells C) (here : Spot) where
   HasCall again left ps = OneIs (λ l. IsReadyAt again here.way left l) (here.at - 1) ps
 
   call-stays : (again : Bool) (left : ℕ) → PutsStay cells (HasCall again left)
-  call-stays again left made i to m ps one = one-puts cells made (λ l. IsReadyAt again here.way left l) (puts-ready cells made again here.way left) (here.at - 1) i to m ps one
+  call-stays again left made i to m ps one =
+      one-puts cells made (λ l. IsReadyAt again here.way left l) (λ to m l. ((lawful l).put cells made to m).ready again here.way left)
+      (here.at - 1) i to m ps one
 
   -- what a call leads to, with what it sent
   abbrev called_out : Bool → ℕ → State C → Carried C (State C)
@@ -154,7 +158,9 @@ module _ {C : Type 0} (cells : Cells C) (here : Spot) where
 
   -- where nothing of a turn is under way, one may begin
   begun : (left : ℕ) (s : State C) → AreIdle s → InTurn here.side (HasCall false left) s
-  begun left s idle = turn-of-idle here.side (HasCall false left) s (one-of-idle (λ l. IsReadyAt false here.way left l) (first-ready here.way left) (here.at - 1) (stream here.side s).modules) idle
+  begun left s idle =
+      turn-of-idle here.side (HasCall false left) s
+      (one-of-idle (λ l. IsReadyAt false here.way left l) (λ l. (lawful l).ready here.way left) (here.at - 1) (stream here.side s).modules) idle
 
   -- calls, up to the end of the turn
   calls-rest : (n : ℕ) (again : Bool) (left : ℕ) (s : State C) → InTurn here.side (HasCall again left) s → let v = calls cells here n again left s in v.ended ≡ true → InTurn here.side AllIdle v.state

@@ -6,33 +6,22 @@ use Rattle.strm_types.specs.declared.names.Side.{Side}
 use Rattle.strm_types.specs.declared.spots.Spot.{Spot}
 use Rattle.strm_types.specs.Cells.{Cells}
 use Rattle.strm_laws.specs.Kept.{AreIdle}
-use Rattle.strm_types.specs.LdtermPuts.{ldterm_puts}
 use Rattle.strm_types.specs.Message.{Message}
 use Rattle.strm_types.specs.Modules.{put_among}
-use Rattle.strm_types.specs.Standings.{stood}
-use Rattle.strm_types.specs.LdtermStands.{disciplined}
 use Rattle.strm_laws.specs.Puts.{delivered, put_in}
-use Rattle.strm_laws.specs.Stacked.{Standing, OfLdterm, OfPtem, OfPckt, IsAtRest, module_puts, KindRests, Module}
+use Rattle.strm_laws.specs.Stacked.{Standing, IsAtRest, module_puts}
 use Rattle.strm_laws.specs.State.{State}
 use Rattle.strm_types.proofs.DeliveryHolds.{PutHolds, carried-holds}
-use Rattle.strm_types.proofs.LdtermPutStays.{idle-stays, puts-stay}
 use Rattle.strm_laws.proofs.ModulesHold.{puts-good}
+use Rattle.strm_laws.proofs.LawfulKinds.{lawful}
 
 module _ {C : Type 0} where
-  pub puts-idle : (cells : Cells C) (made : ℕ) (here : Spot) (m : Message C) (q : Standing C) → IsAtRest q → IsAtRest (module_puts cells made here m q).state
-  puts-idle cells made here m q idle = by q.part idle
-    where
-      by : (p : Module C) → KindRests p → IsAtRest (module_puts cells made here m (stood p q.queues)).state
-      by (OfLdterm l) rests = let d = disciplined l q.queues in idle-stays d (ldterm_puts here m d).state (puts-stay here m d) rests
-      by (OfPtem p) rests = tt
-      by (OfPckt p) rests = tt
-
   abbrev pub AllIdle : List (Standing C) → Type 0
   AllIdle ps = AllByRecursion (λ p. IsAtRest p) ps
 
   pub among-idle : (cells : Cells C) (made i : ℕ) (here : Spot) (m : Message C) (ps : List (Standing C)) → AllIdle ps → AllIdle (put_among (module_puts cells made) i here m ps).state
   among-idle cells made i here m [] idle = tt
-  among-idle cells made zero here m (l ∷ ls) idle = (puts-idle cells made here m l idle.0, idle.1)
+  among-idle cells made zero here m (l ∷ ls) idle = (((lawful l).put cells made here m).rests idle.0, idle.1)
   among-idle cells made (suc i) here m (l ∷ ls) idle = (idle.0, among-idle cells made i here m ls idle.1)
 
   abbrev AllOn : Side → List (Standing C) → Type 0

@@ -1,5 +1,6 @@
--- A put at pckt loses no cell and makes none but those that it tells, and does the same where the origins of cells are forgotten.
-use Rattle.std.proofs.Common.{ℕ, suc, ◌≡◌, ◌+◌, Bool, true, false, cond, List, [], ◌∷◌, ◌++◌, map, refl, sym, ap, ◌∙◌, arith}
+-- A put at pckt loses no cell, makes none but those that it tells, as many as its table says, and does the same where the origins of cells are
+-- forgotten.
+use Rattle.std.proofs.Common.{ℕ, suc, ◌≡◌, ◌≤◌, ◌+◌, ◌*◌, Bool, true, false, cond, List, [], ◌∷◌, ◌++◌, length, map, refl, sym, ap, subst, ◌∙◌, arith}
 use Rattle.std.proofs.lemmas.List.{map-append}
 use Rattle.std.specs.Prelude.{◌&&◌, not, None, Some, option_map, count_by}
 use Rattle.strm_types.specs.declared.kinds.MsgKind.{MsgKind}
@@ -9,18 +10,24 @@ use Rattle.strm_types.specs.declared.names.Way.{Way}
 use Rattle.strm_types.specs.declared.names.Way.TheVariants.{Up, Down}
 use Rattle.strm_types.specs.declared.spots.Spot.{Spot}
 use Rattle.strm_types.specs.Cells.{AreCells, Cells, cells_made, plain}
-use Rattle.strm_types.specs.Deliver.{Acted, toward}
+use Rattle.strm_types.specs.Costs.{packs_on_way}
+use Rattle.strm_types.specs.Deliver.{Acted, toward, onward, Comes}
 use Rattle.strm_types.specs.Flushing.{asked_by, flush_bytes}
+use Rattle.strm_types.specs.Input.{made_of}
 use Rattle.strm_types.specs.Kinds.{kind_number}
 use Rattle.strm_types.specs.Message.{Message, band_of, cells_of, has_parts, map_message, weight_of}
 use Rattle.strm_types.specs.Names.{direction_at}
 use Rattle.strm_types.specs.Origins.{map_acted, map_parcel}
 use Rattle.strm_types.specs.Pckts.{Pckt, flush_passed, is_bare_packet, is_flush_passed, is_packed, is_stop_or_start, kind_made, packet, pckt_dir, pckt_on_way, pckt_packs, pckt_passes, pckt_puts, plain_made, plain_packed}
+use Rattle.strm_types.specs.Shapes.{shape_of}
+use Rattle.strm_types.specs.Tables.{pckt_does}
 use Rattle.strm_laws.specs.Places.{direction_to, weight_gone, weight_made, weight_sent}
+use Rattle.strm_laws.specs.Spares.{packet_most}
 use Rattle.strm_laws.proofs.Forgetting.{cells-forget}
 use Rattle.strm_laws.proofs.LdtermKeeps.{onward-weighs}
-use Rattle.strm_types.proofs.MadeCells.{made-forget}
-use Rattle.strm_types.proofs.PcktPuts.{passed_made, packs_made, puts-each}
+use Rattle.strm_types.proofs.MadeCells.{made-forget, made-same}
+use Rattle.strm_types.proofs.PcktPuts.{passed_made, packs-make, packs_made, puts-each}
+use Rattle.strm_types.proofs.PcktWithin.{pckt-makes}
 use Rattle.strm_laws.proofs.PutForgets.{parts-forget}
 use Rattle.strm_laws.proofs.PutWeights.{no-parts, weight-flush}
 use Rattle.strm_types.proofs.Weights.{count-join, weight-whole}
@@ -127,4 +134,45 @@ module _ {C : Type 0} (cells : Cells C) (are : AreCells cells) (made : ℕ) (her
 
       at : (way : Way) → pckt_on_way plain made here way (map_message f m) ≡ image f (pckt_on_way cells made here way m)
       at Up = kinds (is_packed m.kind)
+      at Down = refl
+
+-- how much it makes
+module _ {C : Type 0} (cells : Cells C) (made : ℕ) (here : Spot) (m : Message C) (small : length m.plain ≤ 16777216) where
+  plain-few : length (plain_packed m) ≤ 16777216
+  plain-few = grind (arith, small)
+
+  packs-fit : made_of (pckt_puts cells made here m).gone ≤ packs_on_way here.way m * packet_most
+  packs-fit = at here.way
+    where
+      at : (way : Way) → made_of (pckt_on_way cells made here way m).gone ≤ packs_on_way way m * packet_most
+      at Up = grind (arith, packs-make cells made here m, plain-few)
+      at Down = omega arith
+
+  pub puts-make : made_of (pckt_puts cells made here m).gone ≤ (pckt_does here.way (shape_of m)).makes * packet_most
+  puts-make = subst (λ (n : ℕ). made_of (pckt_puts cells made here m).gone ≤ n * packet_most) (sym (pckt-makes here m)) packs-fit
+
+-- over plain bytes it is the same whatever was made before
+module _ (a b : ℕ) (here : Spot) (m : Message ℕ) where
+  packs-same : pckt_packs plain a here m ≡ pckt_packs plain b here m
+  packs-same = ap packed (made-same (direction_at Up here.side) (suc a) (suc b) (plain_packed m))
+    where
+      packed : List ℕ → Acted ℕ Pckt
+      packed made = record {
+        state = record {};
+        notes = [];
+        sent = onward Up here (record {
+          kind = Proto;
+          band = band_of m;
+          control = Some (kind_made plain a here m ∷ []);
+          body = cond (is_bare_packet m) None (Some (cells_of m ++ made));
+          plain = [];
+        }) ∷ flush_passed here m.kind m.plain;
+        gone = Comes (direction_at Up here.side) (kind_made plain a here m ∷ made) ∷ [];
+      }
+
+  pub puts-same : pckt_puts plain a here m ≡ pckt_puts plain b here m
+  puts-same = at here.way
+    where
+      at : (way : Way) → pckt_on_way plain a here way m ≡ pckt_on_way plain b here way m
+      at Up = ap (λ t. cond (is_packed m.kind) t (pckt_passes here m)) packs-same
       at Down = refl

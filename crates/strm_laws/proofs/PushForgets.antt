@@ -4,7 +4,6 @@ use Rattle.std.specs.Prelude.{◌||◌, not, flat_map, Option, None, Some, optio
 use Rattle.std.proofs.lemmas.List.{map-append}
 use Rattle.strm_types.specs.declared.modes.ReadMode.{ReadMode}
 use Rattle.strm_types.specs.declared.names.ModuleName.{ModuleName}
-use Rattle.strm_types.specs.declared.names.ModuleName.TheVariants as names
 use Rattle.strm_types.specs.declared.names.Place.{Place}
 use Rattle.strm_types.specs.declared.names.Place.TheVariants.{Head, Ldterm, Driver}
 use Rattle.strm_types.specs.declared.names.QueueName.{QueueName}
@@ -32,7 +31,7 @@ use Rattle.strm_laws.specs.Puts.{earlier_at, noted, put_at_head}
 use Rattle.strm_types.specs.Queue.{is_none_left, map_messages}
 use Rattle.strm_types.specs.Slots.{PlainSlot}
 use Rattle.strm_types.specs.Service.{cleared, line_gone, queues_cleared}
-use Rattle.strm_laws.specs.Stacked.{Module, OfLdterm, OfPtem, OfPckt, Standing, kind_line, map_kind, map_module, module_name, without_kind_line}
+use Rattle.strm_laws.specs.Stacked.{Module, Standing, kind_line, map_kind, map_module, module_name, without_kind_line}
 use Rattle.strm_laws.specs.State.{State, Stream, stream, map_state, map_stream, with_ioctl}
 use Rattle.strm_laws.proofs.Earlier.{before_at-forgets, name-forgets, queue-forgets}
 use Rattle.strm_laws.proofs.EmptiedForgets.{gone-forgets, queue_behind-forgets, stream-forgets, writer_goes-forgets}
@@ -40,6 +39,7 @@ use Rattle.strm_laws.proofs.Forgetting.{kind-forgets, none-forgets}
 use Rattle.strm_laws.proofs.LdtermPutForgets.{line_gone-forgets}
 use Rattle.strm_laws.proofs.PutForgets.{mode-forgets, bytes-forget, parts-forget}
 use Rattle.strm_laws.proofs.PutsForget.{head-forgets, notes-forget}
+use Rattle.strm_laws.proofs.LawfulKinds.{lawful, new}
 
 -- a module that is let go, from what its queues let go and its line
 abbrev joined : {E : Type 0} → Module E → Acted E (Option (QueuePair E)) → List (Fate E) → Acted E (Option (QueuePair E)) → Acted E (Standing E)
@@ -74,16 +74,6 @@ module _ {C D : Type 0} (f : C → D) where
   queues-forget side rule Down (Some pair) =
       rw (queue_behind-forgets f of_all pair.write, writer_goes-forgets f of_all pair.write, gone-forgets f of_all pair.write.messages) refl
 
-  line-forgets : (part : Module C) → kind_line (map_kind f part) ≡ map f (kind_line part)
-  line-forgets (OfLdterm l) = refl
-  line-forgets (OfPtem q) = refl
-  line-forgets (OfPckt q) = refl
-
-  lineless-forgets : (part : Module C) → without_kind_line (map_kind f part) ≡ map_kind f (without_kind_line part)
-  lineless-forgets (OfLdterm l) = refl
-  lineless-forgets (OfPtem q) = refl
-  lineless-forgets (OfPckt q) = refl
-
   joined-forgets-all : (part : Module C) (above : Acted C (Option (QueuePair C))) (line : List (Fate C)) (below : Acted C (Option (QueuePair C)))
       → joined (map_kind f part) (map_acted f map_queues above) (map (map_fate f) line) (map_acted f map_queues below) ≡ map_acted f (map_module f) (joined part above line below)
   joined-forgets-all part above line below =
@@ -99,8 +89,10 @@ module _ {C D : Type 0} (f : C → D) where
       let up = map_acted f map_queues above in
       ap (λ (t : Acted D (Option (QueuePair D))). joined bare t lost (queues_cleared side rule Down t.state)) (queues-forget side rule Up p.queues)
       ∙ ap (λ (t : Acted D (Option (QueuePair D))). joined bare up lost t) (queues-forget side rule Down above.state)
-      ∙ ap (λ (line : List (Fate D)). joined bare up line (map_acted f map_queues below)) (ap (λ xs. line_gone side rule xs) (line-forgets p.part) ∙ line_gone-forgets f side rule (kind_line p.part))
-      ∙ ap (λ (part : Module D). joined part up (map (map_fate f) (line_gone side rule (kind_line p.part))) (map_acted f map_queues below)) (lineless-forgets p.part)
+      ∙ ap (λ (line : List (Fate D)). joined bare up line (map_acted f map_queues below))
+          (ap (λ xs. line_gone side rule xs) ((lawful p).image f).line ∙ line_gone-forgets f side rule (kind_line p.part))
+      ∙ ap (λ (part : Module D). joined part up (map (map_fate f) (line_gone side rule (kind_line p.part))) (map_acted f map_queues below))
+          ((lawful p).image f).lineless
       ∙ joined-forgets-all (without_kind_line p.part) above (line_gone side rule (kind_line p.part)) below
 
   -- the module on top, and all of them
@@ -196,9 +188,7 @@ module _ {C D : Type 0} (f : C → D) where
 
   pub named_by-forgets : (name : Option ModuleName) → named_by name ≡ option_map (map_module f) (named_by name)
   named_by-forgets None = refl
-  named_by-forgets (Some names.Ldterm) = refl
-  named_by-forgets (Some names.Ptem) = refl
-  named_by-forgets (Some names.Pckt) = refl
+  named_by-forgets (Some name) = ap (λ p. Some p) ((new name).forgets f)
 
   of_named-forgets : (side : Side) (p : Option (Standing C)) (s : State C) → pushed_named side (option_map (map_module f) p) (map_state f s) ≡ image (pushed_named side p s)
   of_named-forgets side None s = refl

@@ -5,7 +5,6 @@ use Rattle.std.specs.List.{AllByRecursion}
 use Rattle.std.proofs.lemmas.List.Sums.{sum_by-cons}
 use Rattle.strm_types.specs.declared.modes.ReadMode.{ReadMode}
 use Rattle.strm_types.specs.declared.names.ModuleName.{ModuleName}
-use Rattle.strm_types.specs.declared.names.ModuleName.TheVariants as names
 use Rattle.strm_types.specs.declared.names.Side.{Side}
 use Rattle.strm_types.specs.declared.names.Side.TheVariants.{Master, Slave}
 use Rattle.strm_types.specs.declared.names.Way.{Way}
@@ -16,7 +15,6 @@ use Rattle.strm_types.specs.declared.names.Dir.{Dir}
 use Rattle.strm_types.specs.Deliver.{Carried, Took}
 use Rattle.strm_types.specs.Emptied.{of_all, cells_gone}
 use Rattle.strm_laws.specs.Kept.{state_weight}
-use Rattle.strm_laws.specs.LdtermWeights.{weight_begun, weight_in_work}
 use Rattle.strm_types.specs.Message.{Message}
 use Rattle.strm_types.specs.Standings.{QueuePair, has_queues}
 use Rattle.strm_types.specs.Names.{direction_at, is_open}
@@ -26,7 +24,7 @@ use Rattle.strm_laws.specs.Pushes.{all_taken, below_top, head_above, ioctl_dropp
 use Rattle.strm_laws.specs.Puts.{put_at_head}
 use Rattle.strm_types.specs.Queue.{Queue, weight}
 use Rattle.strm_types.specs.Service.{line_gone, queues_cleared}
-use Rattle.strm_laws.specs.Stacked.{Module, OfLdterm, OfPtem, OfPckt, Standing, IsAtRest, KindRests, kind_line, kind_weight, module_line, module_name, module_weight, modules_weight, queues_weight}
+use Rattle.strm_laws.specs.Stacked.{Standing, IsAtRest, module_line, module_name, module_weight, modules_weight, queues_weight}
 use Rattle.strm_laws.specs.State.{State, stream}
 use Rattle.strm_laws.proofs.PutsKeep.{head-keeps}
 use Rattle.strm_laws.proofs.DeliveryKeeps.{gone-append, made-append}
@@ -34,6 +32,7 @@ use Rattle.strm_laws.proofs.EmptiedKeeps.{behind-all, behind-keeps}
 use Rattle.strm_laws.proofs.LdtermKeeps.{lost-gone, lost-made}
 use Rattle.strm_laws.proofs.PushForgets.{clears}
 use Rattle.strm_laws.proofs.PutWeights.{weight-mode}
+use Rattle.strm_laws.proofs.LawfulKinds.{lawful, new}
 
 module _ {C : Type 0} (p : Dir → C → Bool) where
   -- what a pair comes to that had so many cells
@@ -43,16 +42,6 @@ module _ {C : Type 0} (p : Dir → C → Bool) where
   -- a module of which nothing of a turn is under way lets go all that it has, and makes nothing
   all-goes : (t : C → Bool) (q : Queue C) → count_by t (cells_gone of_all q.messages) ≡ weight t q.messages
   all-goes t q = omega (arith, behind-keeps t of_all q, behind-all t q)
-
-  kind-goes : (side : Side) (rule : Rule) (q : Module C) → KindRests q → weight_gone p (line_gone side rule (kind_line q)) ≡ kind_weight p side q
-  kind-goes side rule (OfPtem q) idle = refl
-  kind-goes side rule (OfPckt q) idle = refl
-  kind-goes side rule (OfLdterm l) idle =
-      let line = lost-gone p side rule l.line in
-      let stage = ap (λ x. weight_begun p side x) idle.3 in
-      let work = ap (λ x. weight_in_work (p (direction_at Up side)) x) idle.0 in
-      let gathered = ap (λ xs. count_by (p (direction_at Up side)) xs) idle.1 in
-      omega arith
 
   queues-go : (side : Side) (rule : Rule) (queues : Option (QueuePair C)) → let t = queues_cleared side rule Up queues in
       weight_gone p t.gone + weight_gone p (queues_cleared side rule Down t.state).gone ≡ queues_weight p side queues
@@ -68,7 +57,14 @@ module _ {C : Type 0} (p : Dir → C → Bool) where
       let above = queues_cleared side rule Up q.queues in
       let line = line_gone side rule (module_line q) in
       let below = queues_cleared side rule Down above.state in
-      omega (arith, kind-goes side rule q.part idle, queues-go side rule q.queues, gone-append p line below.gone, gone-append p above.gone (line ++ below.gone))
+      omega (
+        arith,
+        (lawful q).weighs p side idle,
+        lost-gone p side rule (module_line q),
+        queues-go side rule q.queues,
+        gone-append p line below.gone,
+        gone-append p above.gone (line ++ below.gone),
+      )
 
   pub clears-make-none : (side : Side) (rule : Rule) (q : Standing C) → weight_made p (clears side rule q).gone ≡ 0
   clears-make-none side rule q =
@@ -146,14 +142,9 @@ module _ {C : Type 0} (p : Dir → C → Bool) where
       let apart = modules-weigh side (l ∷ (stream side s).modules) s in
       omega arith
 
-  new-weight : (side : Side) (name : ModuleName) → module_weight p side (module_named {C = C} name) ≡ 0
-  new-weight side names.Ldterm = refl
-  new-weight side names.Ptem = refl
-  new-weight side names.Pckt = refl
-
   pub push-keeps : (side : Side) (name : Option ModuleName) (s : State C) → Keeps (pushed_named side (named_by name) s) (state_weight p s)
   push-keeps side None s = refl
-  push-keeps side (Some name) s = let made = new-weight side name in let all = pushed-keeps side (module_named name) s in omega arith
+  push-keeps side (Some name) s = omega (arith, (new name).weighs p side, pushed-keeps side (module_named name) s)
 
   -- a pop
   off-keeps : (side : Side) (s : State C) → AllByRecursion (λ l. IsAtRest l) (stream side s).modules → Keeps (taken_off side s) (state_weight p s)

@@ -13,27 +13,21 @@ use Rattle.strm_types.specs.Books.{with_made}
 use Rattle.strm_types.specs.Cells.{Cells}
 use Rattle.strm_types.specs.Deliver.{Acted, Fate, Goes, Comes, Parcel, Took, carried, in_turn}
 use Rattle.strm_laws.specs.Earlier.{driver_place, modules_on}
-use Rattle.strm_types.specs.Kinds.{kind_number}
 use Rattle.strm_types.specs.Message.{Message}
 use Rattle.strm_types.specs.Modules.{put_among}
 use Rattle.strm_types.specs.Names.{direction_at, is_open, other, side_from}
-use Rattle.strm_types.specs.Pckts.{plain_packed}
 use Rattle.strm_laws.specs.Places.{weight_made}
 use Rattle.strm_laws.specs.Puts.{across_of, booked, delivered, made_above, module_acted, passed_up, put_at_driver, put_at_head, put_at_module, put_behind, put_below, put_in}
 use Rattle.strm_types.specs.Flushing.{is_bare_flush}
-use Rattle.strm_laws.specs.Stacked.{Standing, OfLdterm, OfPtem, OfPckt, module_puts, Module}
+use Rattle.strm_laws.specs.Stacked.{Standing, module_puts}
 use Rattle.strm_laws.specs.State.{State, book, stream, with_book}
 use Rattle.strm_laws.proofs.EndsMake.{driver_put-none, head_put-none}
 use Rattle.strm_laws.proofs.InOrder.{BooksMade, InOrder, books-none, carried-books, in_turn-books}
-use Rattle.strm_laws.proofs.ModulePuts.{ldterm-none}
-use Rattle.strm_types.proofs.PcktPuts.{puts-each}
-use Rattle.strm_types.proofs.PtemPuts.{puts-gone}
-use Rattle.strm_laws.proofs.TurnOrder.{TurnOrder, all_made, order-next, order-none}
+use Rattle.strm_laws.proofs.TurnOrder.{TurnOrder, all_made, order-none}
 use Rattle.strm_types.specs.declared.both.Both.{Both}
 use Rattle.strm_types.specs.declared.books.Book.{Book}
 use Rattle.strm_types.specs.Both.{get}
-use Rattle.strm_types.specs.Standings.{stood}
-use Rattle.strm_types.specs.LdtermStands.{disciplined}
+use Rattle.strm_laws.proofs.LawfulKinds.{lawful}
 
 module _ {C : Type 0} where
   -- the books of both directions stay
@@ -127,19 +121,9 @@ module _ {C : Type 0} (cells : Cells C) where
     abbrev Ordered : ℕ → List (Fate C) → Type 0
     Ordered made told = TurnOrder cells (other here.side) made told
 
-    module-order : (made : ℕ) (q : Standing C) → Ordered made (module_puts cells made here m q).gone
-    module-order made q = by q.part
-      where
-        by : (p : Module C) → Ordered made (module_puts cells made here m (stood p q.queues)).gone
-        by (OfLdterm l) = order-none cells (other here.side) made _ (ldterm-none (λ dir c. true) here m (disciplined l q.queues))
-        by (OfPtem p) = order-none cells (other here.side) made _ (ap all_made (puts-gone here m p))
-        by (OfPckt p) =
-            puts-each cells made here m (λ t. Ordered made t.gone) (order-none cells (other here.side) made [] refl)
-            (λ up is. order-next cells (other here.side) made (kind_number m.kind ∷ plain_packed m) [] refl)
-
     among-order : (made i : ℕ) (ps : List (Standing C)) → Ordered made (put_among (module_puts cells made) i here m ps).gone
     among-order made i [] = order-none cells (other here.side) made [] refl
-    among-order made zero (q ∷ ps) = module-order made q
+    among-order made zero (q ∷ ps) = ((lawful q).put cells made here m).order
     among-order made (suc i) (q ∷ ps) = among-order made i ps
 
   abbrev PutBooks : (Spot → Message C → State C → Took C (State C)) → Type 0

@@ -1,5 +1,5 @@
 -- What a put in a pair sends on is within what its tables say, at each place.
-use Rattle.std.proofs.Common.{ℕ, zero, suc, ◌≡◌, ◌<◌, ◌≤◌, ◌+◌, ◌-◌, Bool, true, false, cond, List, [], ◌∷◌, ◌++◌, length, map, refl, sym, ap, subst, ◌∙◌, arith}
+use Rattle.std.proofs.Common.{ℕ, zero, suc, ◌≡◌, ◌<◌, ◌≤◌, ◌-◌, Bool, true, false, cond, List, [], ◌∷◌, ◌++◌, length, map, refl, sym, ap, subst, ◌∙◌, arith}
 use Rattle.std.specs.Prelude.{◌==◌, ◌&&◌, ◌||◌, min, nat_le, sum_by, take, Option, None, Some}
 use Rattle.std.proofs.lemmas.Bool.Decides.{nat_tests}
 use Rattle.std.proofs.lemmas.List.{length-map, length-take}
@@ -28,21 +28,17 @@ use Rattle.strm_types.specs.Names.{is_master, is_open, other}
 use Rattle.strm_types.specs.Queue.{Queue}
 use Rattle.strm_types.specs.Shapes.{At, Shape, Asking, FlushR, FlushW, FlushRW, Passing, bare_shape, flush_shape, is_flushing, shape_by, shape_of}
 use Rattle.strm_types.specs.Tables.{ToDriver, ToReaders, driver_does, head_does, name_does}
-use Rattle.strm_types.specs.Standings.{stood}
-use Rattle.strm_types.specs.LdtermStands.{disciplined}
 use Rattle.strm_types.proofs.BySide.{get-map}
 use Rattle.strm_types.proofs.CostsOf.{both-cost, cost-one, none-few, one-few, sent-none}
-use Rattle.strm_types.proofs.LdtermWithin.{ldterm-within}
-use Rattle.strm_types.proofs.PcktWithin.{pckt-within}
 use Rattle.strm_types.proofs.ShapesOf.{reads-shape, same-flushing, writes-shape}
 use Rattle.strm_laws.specs.Earlier.{driver_place, modules_on}
 use Rattle.strm_laws.specs.Puts.{across_of, made_above, passed_up, put_at_driver, put_at_head, put_at_module, put_behind, put_below, put_in}
 use Rattle.strm_laws.specs.SideCosts.{SideCosts, both_costs, behind_costs, costs, crossed, does_among, front_on, fronts, place_costs, rises, side_does, side_drives, side_next, whole}
 use Rattle.strm_laws.specs.StackCosts.{stands_of, stands_on}
-use Rattle.strm_laws.specs.Stacked.{Standing, OfLdterm, OfPtem, OfPckt, module_name, module_puts, kind_name, Module}
+use Rattle.strm_laws.specs.Stacked.{Standing, module_name, module_puts}
 use Rattle.strm_laws.specs.State.{State, Stream, stream}
-use Rattle.strm_types.proofs.PtemWithin.{ptem-within}
 use Rattle.strm_laws.proofs.StackStays.{puts-stand}
+use Rattle.strm_laws.proofs.LawfulKinds.{lawful}
 
 module _ (cost : At → ℕ) where
   -- what a place of a side's stream may send costs so much, where what goes across comes behind so many modules
@@ -184,22 +180,14 @@ module _ (C : Type 0) (cost : At → ℕ) where
 
   -- at one of the modules
   module _ (cells : Cells C) (made : ℕ) (here : Spot) (m : Message C) where
-    module-fits : (p : Standing C) → cost_of cost (module_puts cells made here m p).sent ≤ sum_by cost (emits_at here (name_does (module_name p) here.way (shape_of m)))
-    module-fits x = by x.part
-      where
-        by : (p : Module C) → cost_of cost (module_puts cells made here m (stood p x.queues)).sent ≤ sum_by cost (emits_at here (name_does (kind_name p) here.way (shape_of m)))
-        by (OfLdterm l) = ldterm-within here m (disciplined l x.queues) cost
-        by (OfPtem p) = ptem-within here m p cost
-        by (OfPckt p) = pckt-within cells made here m cost
-
     among-fits : (i : ℕ) (ps : List (Standing C)) → cost_of cost (put_among (module_puts cells made) i here m ps).sent ≤ sum_by cost (emits_at here (does_among i (map module_name ps) here.way (shape_of m)))
     among-fits i [] = none-few C cost 0
-    among-fits zero (p ∷ ps) = module-fits p
+    among-fits zero (p ∷ ps) = ((lawful p).put cells made here m).within cost
     among-fits (suc i) (p ∷ ps) = among-fits i ps
 
 pub module-within : {C : Type 0} (cells : Cells C) (made : ℕ) (here : Spot) (m : Message C) (p : Standing C)
     → Within (module_puts cells made here m p).sent (emits_at here (name_does (module_name p) here.way (shape_of m)))
-module-within {C} cells made here m p cost = module-fits C cost cells made here m p
+module-within cells made here m p = ((lawful p).put cells made here m).within
 
 -- the first of several are the same among the first so many
 pub among-front : (k i : ℕ) (on : List ModuleName) (way : Way) (shape : Shape) → i < k → does_among i (take k on) way shape ≡ does_among i on way shape

@@ -34,7 +34,7 @@ use Rattle.strm_laws.specs.Puts.{delivered, put_in}
 use Rattle.strm_laws.specs.Rest.{echoes, ldterm_moves, module_moves, moves, moves_across, moves_in, moves_out, stream_moves}
 use Rattle.strm_laws.specs.Restorable.{GoodKind, GoodModule}
 use Rattle.strm_laws.specs.StackCosts.{Stands, stands_of}
-use Rattle.strm_laws.specs.Stacked.{Module, OfLdterm, OfPtem, OfPckt, Standing, kind_name, module_asks, module_name, module_rests, module_serves}
+use Rattle.strm_laws.specs.Stacked.{Module, OfLdterm, Standing, kind_name, module_asks, module_name, module_rests, module_serves}
 use Rattle.strm_laws.specs.State.{State, Stream, stream, with_driver_queue, with_stream}
 use Rattle.strm_laws.specs.TurnOutcomes.{TurnOutcome, stayed_put}
 use Rattle.strm_laws.specs.Turns.{driver_serves, held_back, is_stopped_across, moved_across, turned_queue, up_across, with_driver}
@@ -89,8 +89,7 @@ module _ {C : Type 0} (change : Queue C → Queue C) (same : (q : Queue C) → (
     where
       by : (part : Module C) → module_moves (queue_changed way change (stood part q.queues)) ≡ module_moves (stood part q.queues)
       by (OfLdterm l) = pair-moves way l q.queues
-      by (OfPtem p) = refl
-      by (OfPckt p) = refl
+      by part = refl
 
   changes-moves : (way : Way) (i : ℕ) (ps : List (Standing C)) → sum_by module_moves (change_among (queue_changed way change) i ps) ≡ sum_by module_moves ps
   changes-moves way i [] = refl
@@ -220,8 +219,7 @@ module _ {C : Type 0} (all : Stands) where
               let d = disciplined l q.queues in
               let size = subst (λ ms. Goes left (first_size ms)) (sym (stands-at here.way l q.queues)) ready.2 in
               first-fewer cells all posts here some fits.0 fits.1 fits.2 here.way made left d (rests-between l ready.0) (waits-some here.way d ready.1) size (good-with l q.queues own good.queues)
-          by (OfPtem p) fits own ready = absurd (cc (ready.1))
-          by (OfPckt p) fits own ready = absurd (cc (ready.1))
+          by part fits own ready = absurd (cc (ready.1))
 
       module-later : (made left : ℕ) (q : Standing C) → FitsName (echoes all here.side) (echoes all (other here.side)) (posts here.side) here.at (module_name q) → GoodModule q → here.way ≡ Up
           → let t = acts true made left q in module_moves t.state + tolls all posts t.sent ≤ module_moves q
@@ -231,8 +229,7 @@ module _ {C : Type 0} (all : Stands) where
               → let t = acts true made left (stood part q.queues) in module_moves t.state + tolls all posts t.sent ≤ module_moves (stood part q.queues)
           by (OfLdterm l) fits own =
               later-less cells all posts here some fits.0 fits.1 fits.2 here.way made left (disciplined l q.queues) up (good-with l q.queues own good.queues)
-          by (OfPtem p) fits own = omega arith
-          by (OfPckt p) fits own = omega arith
+          by part fits own = omega arith
 
       fits-at : (at : ℕ) (q : Standing C) → at ≡ here.at → FitsName (echoes all here.side) (echoes all (other here.side)) (posts here.side) at (module_name q) → FitsName (echoes all here.side) (echoes all (other here.side)) (posts here.side) here.at (module_name q)
       fits-at at q same fits = subst (λ n. FitsName (echoes all here.side) (echoes all (other here.side)) (posts here.side) n (module_name q)) same fits
@@ -312,8 +309,7 @@ module _ {C : Type 0} (all : Stands) where
               by : (way : Way) (part : Module C) → way ≡ Down → (module_serves cells (record here { way = way }) made again (Some left) (stood part q.queues)).again ≡ false
               by Down (OfLdterm l) down = let d = disciplined l q.queues in served d.write_queue.messages d (record here { way = Down })
               by Up (OfLdterm l) down = absurd (cc)
-              by way (OfPtem p) down = refl
-              by way (OfPckt p) down = refl
+              by way part down = refl
       down-once made left (suc i) again (q ∷ qs) down = down-once made left i again qs down
 
       calls-later : (n left : ℕ) (s : State C) → stands_of s ≡ all → AreStreams s → here.way ≡ Up → let v = calls cells here n true left s in (stands_of v.state ≡ all) × (moves all v.state ≤ moves all s)

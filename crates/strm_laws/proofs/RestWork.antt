@@ -24,7 +24,7 @@ use Rattle.strm_laws.specs.ModuleTurns.{module_turned, named_from, place_named, 
 use Rattle.strm_laws.specs.Rest.{EchoesOnce, NoLdterm, count_enabled, echoes, is_pckt, moves, packs_below, queue_names, work}
 use Rattle.strm_laws.specs.Restorable.{is_ldterm}
 use Rattle.strm_laws.specs.StackCosts.{Stands, stands_of, stands_on}
-use Rattle.strm_laws.specs.Stacked.{Standing, OfLdterm, OfPtem, OfPckt, module_name, kind_name, Module}
+use Rattle.strm_laws.specs.Stacked.{Standing, module_name}
 use Rattle.strm_laws.specs.State.{State, stream}
 use Rattle.strm_laws.specs.Step.{IsTurn}
 use Rattle.strm_laws.specs.Turns.{turned, turned_at}
@@ -112,16 +112,14 @@ fits-none (names.Pckt ∷ ns) echoed across post at none (inr free) = absurd (cc
 none-counted : (ns : List ModuleName) → count_by is_ldterm ns ≤ 0 → list_any is_ldterm ns ≡ false
 none-counted [] none = refl
 none-counted (names.Ldterm ∷ ns) none = absurd (omega (arith, none, sum_by-cons (λ n. cond (is_ldterm n) 1 0) names.Ldterm ns))
-none-counted (names.Ptem ∷ ns) none = none-counted ns (omega (arith, none, sum_by-cons (λ n. cond (is_ldterm n) 1 0) names.Ptem ns))
-none-counted (names.Pckt ∷ ns) none = none-counted ns (omega (arith, none, sum_by-cons (λ n. cond (is_ldterm n) 1 0) names.Pckt ns))
+none-counted (n ∷ ns) none = none-counted ns (omega (arith, none, sum_by-cons (λ n. cond (is_ldterm n) 1 0) n ns))
 
 -- it is at this place or behind it
 ldterm-from : (ns : List ModuleName) (at : ℕ) → list_any is_ldterm ns ≡ true → at ≤ ldterm_from at ns
 unfolding ldterm_from
 ldterm-from [] at is = absurd (cc)
 ldterm-from (names.Ldterm ∷ ns) at is = omega arith
-ldterm-from (names.Ptem ∷ ns) at is = let behind = ldterm-from ns (suc at) is in omega (arith, behind)
-ldterm-from (names.Pckt ∷ ns) at is = let behind = ldterm-from ns (suc at) is in omega (arith, behind)
+ldterm-from (n ∷ ns) at is = let behind = ldterm-from ns (suc at) is in omega (arith, behind)
 
 not-above : (echoed : Bool) (post at : ℕ) → 0 < at → at ≤ post → (echoed && nat_le post (at - 1)) ≡ false
 not-above false post at some less = refl
@@ -161,14 +159,12 @@ plain-once all none = record {
     few : (ns : List ModuleName) → list_any is_ldterm ns ≡ false → count_by is_ldterm ns ≤ 1
     few [] none = omega arith
     few (names.Ldterm ∷ ns) none = absurd (cc)
-    few (names.Ptem ∷ ns) none = omega (arith, few ns none, sum_by-cons (λ n. cond (is_ldterm n) 1 0) names.Ptem ns)
-    few (names.Pckt ∷ ns) none = omega (arith, few ns none, sum_by-cons (λ n. cond (is_ldterm n) 1 0) names.Pckt ns)
+    few (n ∷ ns) none = omega (arith, few ns none, sum_by-cons (λ n. cond (is_ldterm n) 1 0) n ns)
 
     packs : (ns : List ModuleName) → list_any is_ldterm ns ≡ false → packs_below ns ≡ false
     packs [] none = refl
     packs (names.Ldterm ∷ ns) none = absurd (cc)
-    packs (names.Ptem ∷ ns) none = packs ns none
-    packs (names.Pckt ∷ ns) none = packs ns none
+    packs (n ∷ ns) none = packs ns none
 
 -- a module's queue is at a place from 1 on, and where no ldterm stands there is none
 named-least : (place : Place) (from : ℕ) (places : List (Option Place)) (at : ℕ) → named_from place from places ≡ Some at → from ≤ at
@@ -184,13 +180,13 @@ module _ {C : Type 0} where
   named-none : (place : Place) (n from : ℕ) (ps : List (Standing C)) → list_any is_ldterm (map module_name ps) ≡ false → named_from place from (places_of (take n ps)) ≡ None
   named-none place zero from ps none = refl
   named-none place (suc n) from [] none = refl
-  named-none place (suc n) from (p ∷ ps) none = by p.part none (λ rest. named-none place n (suc from) ps rest)
+  named-none place (suc n) from (p ∷ ps) none = by (module_name p) none (λ rest. named-none place n (suc from) ps rest)
     where
-      by : (q : Module C) → (is_ldterm (kind_name q) || list_any is_ldterm (map module_name ps)) ≡ false
-          → (list_any is_ldterm (map module_name ps) ≡ false → named_from place (suc from) (places_of (take n ps)) ≡ None) → named_from place from (place_of (kind_name q) ∷ places_of (take n ps)) ≡ None
-      by (OfLdterm l) none rest = absurd (cc)
-      by (OfPtem q) none rest = rest none
-      by (OfPckt q) none rest = rest none
+      by : (name : ModuleName) → (is_ldterm name || list_any is_ldterm (map module_name ps)) ≡ false
+          → (list_any is_ldterm (map module_name ps) ≡ false → named_from place (suc from) (places_of (take n ps)) ≡ None)
+          → named_from place from (place_of name ∷ places_of (take n ps)) ≡ None
+      by names.Ldterm none rest = absurd (cc)
+      by name none rest = rest none
 
   module _ (cells : Cells C) (name : QueueName) (turn : Turn) where
     -- a turn of a module's queue

@@ -24,12 +24,7 @@ same-one : (a b : ModuleName) → same_module a b ≡ true → a ≡ b
 same-one names.Ldterm names.Ldterm is = refl
 same-one names.Ptem names.Ptem is = refl
 same-one names.Pckt names.Pckt is = refl
-same-one names.Ldterm names.Ptem is = absurd (cc)
-same-one names.Ldterm names.Pckt is = absurd (cc)
-same-one names.Ptem names.Ldterm is = absurd (cc)
-same-one names.Ptem names.Pckt is = absurd (cc)
-same-one names.Pckt names.Ldterm is = absurd (cc)
-same-one names.Pckt names.Ptem is = absurd (cc)
+same-one a b is = absurd (cc)
 
 neither : (a b : Bool) → (a || b) ≡ false → (a ≡ false) × (b ≡ false)
 neither false false is = (refl, refl)

@@ -1,5 +1,5 @@
 -- A put makes no more than what it takes of blocks says, so that the books have room for what it gives rise to.
-use Rattle.std.proofs.Common.{ℕ, zero, suc, ◌≡◌, ◌<◌, ◌≤◌, ◌+◌, ◌-◌, Bool, true, false, cond, List, [], ◌∷◌, length, map, refl, ap, subst, sym, arith}
+use Rattle.std.proofs.Common.{ℕ, zero, suc, ◌≡◌, ◌<◌, ◌≤◌, ◌+◌, ◌-◌, Bool, true, false, cond, List, [], ◌∷◌, length, map, refl, ap, arith}
 use Rattle.std.specs.Prelude.{min, ◌*◌, ◌^◌, ◌==◌, ◌&&◌, slice_index_or}
 use Rattle.std.specs.Bool.{OnTrue}
 use Rattle.strm_types.specs.declared.books.Book.{Book}
@@ -17,10 +17,7 @@ use Rattle.strm_laws.specs.Calls.{called, delivers}
 use Rattle.strm_types.specs.Cells.{Cells}
 use Rattle.strm_types.specs.Deliver.{Acted, Comes, Fate, Goes}
 use Rattle.strm_types.specs.Input.{made_of}
-use Rattle.strm_types.specs.LdtermPuts.{ldterm_puts}
 use Rattle.strm_types.specs.Message.{Message}
-use Rattle.strm_types.specs.Costs.{packs_on_way}
-use Rattle.strm_types.specs.Pckts.{is_bare_packet, is_packed, pckt_on_way, pckt_packs, pckt_passes, pckt_puts, plain_packed}
 use Rattle.strm_types.specs.Shapes.{shape_of}
 use Rattle.strm_types.specs.ModuleQueues.{at_place}
 use Rattle.strm_types.specs.Modules.{put_among}
@@ -28,18 +25,13 @@ use Rattle.strm_laws.specs.Puts.{booked, made_above, module_acted, passed_up, pu
 use Rattle.strm_types.specs.Flushing.{is_bare_flush}
 use Rattle.strm_laws.specs.Refusals.{in_range}
 use Rattle.strm_laws.specs.Spares.{module_packs, packet_most, spare, spare_behind}
-use Rattle.strm_laws.specs.Stacked.{Standing, OfLdterm, OfPtem, OfPckt, module_name, module_puts, Module}
+use Rattle.strm_laws.specs.Stacked.{Standing, module_name, module_puts}
 use Rattle.strm_laws.specs.State.{State, book, stream, with_book}
 use Rattle.strm_laws.proofs.Balances.{range-low, still-same}
-use Rattle.strm_laws.proofs.ModulePuts.{ldterm-none}
-use Rattle.strm_types.proofs.PcktPuts.{packs-make}
-use Rattle.strm_types.proofs.PcktWithin.{makes-one, pckt-makes}
-use Rattle.strm_types.proofs.PtemPuts.{puts-gone}
+use Rattle.strm_types.proofs.PcktWithin.{makes-one}
 use Rattle.strm_laws.proofs.PutsBook.{SameBooks, head-same}
-use Rattle.strm_laws.proofs.TurnOrder.{made-all}
 use Rattle.strm_types.specs.declared.both.Both.{Both}
-use Rattle.strm_types.specs.Standings.{stood}
-use Rattle.strm_types.specs.LdtermStands.{disciplined}
+use Rattle.strm_laws.proofs.LawfulKinds.{lawful}
 
 -- a packet takes one unit at most
 spare-falls : (made more : ℕ) → more ≤ packet_most → spare_behind made ≤ spare_behind (made + more) + 1
@@ -108,35 +100,9 @@ module _ {C : Type 0} where
     units-one : (q : Standing C) → module_packs here m q ≤ 1
     units-one q = makes-one (module_name q) here.way (shape_of m)
 
-    plain-few : length (plain_packed m) ≤ 16777216
-    plain-few = at (is_bare_packet m)
-      where
-        at : (bare : Bool) → length (cond bare [] m.plain) ≤ 16777216
-        at true = omega arith
-        at false = small
-
-    packs-fit : made_of (pckt_puts cells made here m).gone ≤ packs_on_way here.way m * packet_most
-    packs-fit = at here.way
-      where
-        up : (packed : Bool) → made_of (cond packed (pckt_packs cells made here m) (pckt_passes here m)).gone ≤ cond packed 1 0 * packet_most
-        up true = omega (arith, packs-make cells made here m, plain-few)
-        up false = omega arith
-
-        at : (way : Way) → made_of (pckt_on_way cells made here way m).gone ≤ packs_on_way way m * packet_most
-        at Up = up (is_packed m.kind)
-        at Down = omega arith
-
-    module-makes : (q : Standing C) → made_of (module_puts cells made here m q).gone ≤ module_packs here m q * packet_most
-    module-makes q = by q.part
-      where
-        by : (p : Module C) → made_of (module_puts cells made here m (stood p q.queues)).gone ≤ module_packs here m (stood p q.queues) * packet_most
-        by (OfLdterm l) = let d = disciplined l q.queues in omega (arith, made-all (ldterm_puts here m d).gone, ldterm-none (λ direction c. true) here m d)
-        by (OfPtem l) = omega (arith, ap made_of (puts-gone here m l))
-        by (OfPckt l) = subst (λ (n : ℕ). made_of (pckt_puts cells made here m).gone ≤ n * packet_most) (sym (pckt-makes here m)) packs-fit
-
     pub among-makes : (i : ℕ) (ps : List (Standing C)) → made_of (put_among (module_puts cells made) i here m ps).gone ≤ slice_index_or (map (module_packs here m) ps) i 0 * packet_most
     among-makes i [] = omega arith
-    among-makes zero (q ∷ ps) = module-makes q
+    among-makes zero (q ∷ ps) = ((lawful q).put cells made here m).makes small
     among-makes (suc i) (q ∷ ps) = among-makes i ps
 
     pub among-one : (i : ℕ) (ps : List (Standing C)) → slice_index_or (map (module_packs here m) ps) i 0 ≤ 1

@@ -12,16 +12,17 @@ use Rattle.strm_types.specs.Cells.{Cells}
 use Rattle.strm_types.specs.Deliver.{Acted}
 use Rattle.strm_types.specs.Message.{Message}
 use Rattle.strm_types.specs.ModuleQueues.{place_past, waits_at, waits_past, with_waiting}
-use Rattle.strm_types.specs.Standings.{queue_changed, stood}
+use Rattle.strm_types.specs.Standings.{queue_changed}
 use Rattle.strm_types.specs.Modules.{act_among, change_among, put_among}
 use Rattle.strm_types.specs.Names.{is_open}
 use Rattle.strm_laws.specs.Puts.{made_above, put_at_driver, put_at_head, put_at_module, put_in}
 use Rattle.strm_types.specs.Queue.{Queue}
 use Rattle.strm_laws.specs.StackCosts.{Stands, stands_of}
-use Rattle.strm_laws.specs.Stacked.{Standing, OfLdterm, OfPtem, OfPckt, module_name, module_puts, module_serves, kind_name, Module}
+use Rattle.strm_laws.specs.Stacked.{Standing, module_name, module_puts, module_serves}
 use Rattle.strm_laws.specs.State.{State, Stream, book, stream, with_book, with_stream, with_driver_queue}
 use Rattle.strm_types.proofs.DeliveryHolds.{PutHolds}
 use Rattle.strm_laws.proofs.PutParts.{acted-holds, either-holds, parts-hold}
+use Rattle.strm_laws.proofs.LawfulKinds.{lawful}
 
 module _ {C : Type 0} where
   -- where one module acts, or changes, and keeps its name, all keep theirs
@@ -38,28 +39,14 @@ module _ {C : Type 0} where
     act-names (suc i) (p ∷ ps) = ap (λ ns. module_name p ∷ ns) (act-names i ps)
 
   -- a put, and a call of a service procedure
-  keeps-name : (cells : Cells C) (made : ℕ) (here : Spot) (m : Message C) (p : Standing C) → module_name (module_puts cells made here m p).state ≡ module_name p
-  keeps-name cells made here m p = by p.part
-    where
-      by : (q : Module C) → module_name (module_puts cells made here m (stood q p.queues)).state ≡ kind_name q
-      by (OfLdterm l) = refl
-      by (OfPtem l) = refl
-      by (OfPckt l) = refl
-
-  pub keep-names : (cells : Cells C) (made i : ℕ) (here : Spot) (m : Message C) (ps : List (Standing C)) → map module_name (put_among (module_puts cells made) i here m ps).state ≡ map module_name ps
-  keep-names cells made i here m ps = act-names (module_puts cells made here m) (keeps-name cells made here m) i ps
-
-  serves-name : (cells : Cells C) (here : Spot) (made : ℕ) (again : Bool) (stop : Option ℕ) (p : Standing C) → module_name (module_serves cells here made again stop p).acted.state ≡ module_name p
-  serves-name cells here made again stop p = by p.part
-    where
-      by : (q : Module C) → module_name (module_serves cells here made again stop (stood q p.queues)).acted.state ≡ kind_name q
-      by (OfLdterm l) = refl
-      by (OfPtem l) = refl
-      by (OfPckt l) = refl
+  pub keep-names : (cells : Cells C) (made i : ℕ) (here : Spot) (m : Message C) (ps : List (Standing C))
+      → map module_name (put_among (module_puts cells made) i here m ps).state ≡ map module_name ps
+  keep-names cells made i here m ps = act-names (module_puts cells made here m) (λ p. ((lawful p).put cells made here m).name) i ps
 
   pub serve-names : (cells : Cells C) (here : Spot) (made : ℕ) (again : Bool) (stop : Option ℕ) (i : ℕ) (ps : List (Standing C))
       → map module_name (act_among (λ p. (module_serves cells here made again stop p).acted) i ps).state ≡ map module_name ps
-  serve-names cells here made again stop i ps = act-names (λ p. (module_serves cells here made again stop p).acted) (serves-name cells here made again stop) i ps
+  serve-names cells here made again stop i ps =
+      act-names (λ p. (module_serves cells here made again stop p).acted) (λ p. ((lawful p).call cells here made again).name stop) i ps
 
   -- a queue of one changes, or a writer waits at one
   pub queue-names : (way : Way) (change : Queue C → Queue C) (i : ℕ) (ps : List (Standing C)) → map module_name (change_among (queue_changed way change) i ps) ≡ map module_name ps

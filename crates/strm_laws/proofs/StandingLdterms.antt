@@ -1,16 +1,24 @@
 -- An ldterm where it stands, and the line discipline that it is with its queues.
-use Rattle.std.proofs.Common.{◌≡◌, Bool, refl, arith}
-use Rattle.std.specs.Prelude.{Option, None, Some, option_map}
+use Rattle.std.proofs.Common.{◌≡◌, Bool, List, [], ◌∷◌, map, refl, ap, ◌∙◌, arith, suc, ℕ}
+use Rattle.std.specs.Prelude.{Option, None, Some, is_some, option_map}
 use Rattle.strm_types.specs.declared.names.Dir.{Dir}
 use Rattle.strm_types.specs.declared.names.Side.{Side}
 use Rattle.strm_types.specs.declared.names.Way.{Way}
-use Rattle.strm_types.specs.declared.names.Way.TheVariants.{Up, Down}
+use Rattle.strm_types.specs.declared.names.Way.TheVariants.{Down, Up}
+use Rattle.strm_types.specs.Asking.{asked_by, asked_first, ldterm_asks}
+use Rattle.strm_types.specs.Cells.{Tagged}
 use Rattle.strm_types.specs.LdtermStands.{disciplined}
-use Rattle.strm_types.specs.Ldterms.{Discipline, Ldterm, queue_at}
-use Rattle.strm_types.specs.Standings.{QueuePair, map_pair, messages_on, stood}
-use Rattle.strm_laws.specs.LdtermOrigins.{map_ldterm, map_own}
+use Rattle.strm_types.specs.Ldterms.{Answered, Begun, Between, Discipline, is_between, Ldterm, queue_at, Rests, Stage}
+use Rattle.strm_types.specs.Message.{map_message, Message}
+use Rattle.strm_types.specs.Names.{direction_at}
+use Rattle.strm_types.specs.Queue.{is_none_left, map_messages}
+use Rattle.strm_types.specs.Standings.{map_pair, messages_on, QueuePair, stood}
+use Rattle.strm_laws.specs.Based.{number, number_ldterm}
+use Rattle.strm_laws.specs.LdtermOrigins.{map_ldterm, map_own, map_stage}
+use Rattle.strm_laws.specs.LdtermTurns.{ldterm_rests}
 use Rattle.strm_laws.specs.LdtermWeights.{ldterm_weight}
-use Rattle.strm_laws.specs.Stacked.{OfLdterm, ldterm_stands, module_weight}
+use Rattle.strm_laws.specs.Stacked.{ldterm_stands, module_weight, OfLdterm}
+use Rattle.strm_laws.proofs.Forgetting.{kind-forgets, named_band-forgets}
 
 -- what it holds is what both hold
 module _ {C : Type 0} (p : Dir → C → Bool) (side : Side) where
@@ -32,3 +40,39 @@ stands-at Up l None = refl
 stands-at Down l None = refl
 stands-at Up l (Some pair) = refl
 stands-at Down l (Some pair) = refl
+
+-- what its queue of a way asks, and whether it rests, don't depend on the origins of cells
+module _ {C D : Type 0} (f : C → D) where
+  asked-same : (way : Way) (stopped : Bool) (ms : List (Message C)) → asked_first way stopped (map_messages f ms) ≡ asked_first way stopped ms
+  asked-same way stopped [] = refl
+  asked-same way stopped (m ∷ ms) =
+      ap (λ kind. asked_by way stopped kind (map_message f m).band) (kind-forgets f m)
+      ∙ ap (λ band. asked_by way stopped m.kind band) (named_band-forgets f m)
+
+  pub asks-same : (way : Way) (d : Discipline C) → ldterm_asks way (map_ldterm f d) ≡ ldterm_asks way d
+  asks-same Up d = asked-same Up d.stopped d.read_queue.messages
+  asks-same Down d = asked-same Down d.stopped d.write_queue.messages
+
+  between-same : (x : Stage C) → is_between (map_stage f x) ≡ is_between x
+  between-same Between = refl
+  between-same (Begun started c) = refl
+  between-same (Answered echo) = refl
+
+  work-same : (o : Option (Message C)) → is_some (option_map (map_message f) o) ≡ is_some o
+  work-same None = refl
+  work-same (Some m) = refl
+
+  gathered-same : (xs : List C) → is_none_left (map f xs) ≡ is_none_left xs
+  gathered-same [] = refl
+  gathered-same (x ∷ xs) = refl
+
+  pub rests-same : (l : Ldterm C) → ldterm_rests (map_own f l) ≡ ldterm_rests l
+  rests-same l = rw (work-same l.in_work, gathered-same l.gathered, between-same l.stage) refl
+
+-- and where its line is numbered and nothing of a turn is under way it is the same
+pub number-forgets : (dir : Dir) (n : ℕ) (bytes : List ℕ) → map (λ (c : Tagged). c.byte) (number dir n bytes) ≡ bytes
+number-forgets dir n [] = refl
+number-forgets dir n (b ∷ bytes) = ap (λ xs. b ∷ xs) (number-forgets dir (suc n) bytes)
+
+pub numbered-forgets : (side : Side) (up : ℕ) (l : Ldterm ℕ) → Rests l → map_own (λ c. c.byte) (number_ldterm side up l) ≡ l
+numbered-forgets side up l idle = rw (number-forgets (direction_at Up side) up l.line, idle.0, idle.1, idle.3) refl

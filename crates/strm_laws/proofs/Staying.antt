@@ -1,39 +1,38 @@
 -- An M_DATA or M_PROTO that is put somewhere goes on as one, the same way on the same side, or stays there. Puts open and close no side.
-use Rattle.std.proofs.Common.{ℕ, zero, suc, ◌≡◌, ◌<◌, ◌-◌, Bool, true, false, cond, List, [], ◌∷◌, refl, sym, ap, subst, ◌∙◌, arith}
-use Rattle.std.specs.Prelude.{◌&&◌, ◌||◌, ◌==◌, nat_le, not}
+use Rattle.std.proofs.Common.{ℕ, zero, suc, ◌≡◌, ◌<◌, ◌-◌, Bool, true, false, cond, List, [], ◌∷◌, refl, sym, ap, subst, ◌∙◌, arith, map, ◌≤◌, ◌+◌}
+use Rattle.std.specs.Prelude.{◌&&◌, ◌==◌, nat_le, not}
 use Rattle.strm_types.specs.declared.kinds.MsgKind.{MsgKind}
 use Rattle.strm_types.specs.declared.kinds.MsgKind.TheVariants.{Data, Proto}
 use Rattle.strm_types.specs.declared.limits.TheConstants.{MODULES}
 use Rattle.strm_types.specs.declared.names.Side.{Side}
-use Rattle.strm_types.specs.declared.names.Side.TheVariants.{Master}
+use Rattle.strm_types.specs.declared.names.Side.TheVariants.{Master, Slave}
 use Rattle.strm_types.specs.declared.names.Way.{Way}
 use Rattle.strm_types.specs.declared.names.Way.TheVariants.{Up, Down}
 use Rattle.strm_types.specs.declared.spots.Across.{Across}
 use Rattle.strm_types.specs.declared.spots.Spot.{Spot}
 use Rattle.strm_types.specs.Cells.{plain}
-use Rattle.strm_types.specs.Commands.{is_ioctl}
-use Rattle.strm_types.specs.Deliver.{Acted, Parcel, Took, onward}
+use Rattle.strm_types.specs.Deliver.{Acted, Parcel, Took, toward}
 use Rattle.strm_types.specs.Drivers.{crosses, driver_put, put_across, put_down, taken_in}
-use Rattle.strm_types.specs.Flushing.{asked_by, is_flush}
+use Rattle.strm_types.specs.Flushing.{is_flush}
 use Rattle.strm_types.specs.Heads.{Head, is_doubled, obeyed, waits_for_readers}
-use Rattle.strm_types.specs.Ioctls.{read_ioc}
-use Rattle.strm_types.specs.LdtermPuts.{goes_behind, ldterm_puts, passes_on_way}
-use Rattle.strm_types.specs.Ldterms.{Discipline, flush_passes, queued_at, waits_there}
 use Rattle.strm_types.specs.Message.{Message, has_parts, is_held}
 use Rattle.strm_types.specs.Modules.{act_among}
-use Rattle.strm_types.specs.Names.{is_closed, is_open}
-use Rattle.strm_types.specs.Pckts.{is_flush_passed, is_packed, packet, pckt_on_way, pckt_packs, pckt_passes, writers_flush}
-use Rattle.strm_types.specs.Ptems.{Ptem, asked_by_header, ptem_passes, ptem_puts}
+use Rattle.strm_types.specs.Names.{is_closed, is_open, same_side, same_way}
+use Rattle.strm_types.specs.Ptems.{Ptem}
 use Rattle.strm_types.specs.Queue.{Queue}
-use Rattle.strm_types.specs.Standings.{stood}
-use Rattle.strm_types.specs.LdtermStands.{disciplined}
+use Rattle.strm_types.specs.Budgets.{Within, next_at, cost_of}
+use Rattle.strm_types.specs.Tables.{name_does}
+use Rattle.strm_types.specs.Shapes.{Shape, Held, shape_by}
+use Rattle.strm_types.specs.declared.names.ModuleName.{ModuleName}
+use Rattle.strm_types.specs.declared.names.ModuleName.TheVariants as names
 use Rattle.strm_laws.specs.Earlier.{driver_place, modules_on}
 use Rattle.strm_laws.specs.Pair.{IsKeptAhead}
 use Rattle.strm_laws.specs.Puts.{SameButMade, across_of, made_above, passed_up, put_at_driver, put_at_head, put_at_module, put_behind, put_below, put_in}
-use Rattle.strm_laws.specs.Stacked.{Standing, OfLdterm, OfPtem, OfPckt, module_puts, Module}
+use Rattle.strm_laws.specs.Stacked.{Standing, module_puts, module_name}
 use Rattle.strm_laws.specs.State.{State, stream}
 use Rattle.strm_laws.proofs.PutParts.{puts-hold}
 use Rattle.strm_laws.proofs.PutsKeep.{same-itself, same-stays}
+use Rattle.strm_laws.proofs.LawfulKinds.{lawful}
 
 -- What is sent on from a spot is nothing, or one M_DATA or M_PROTO on the same way of the same side, below the head where it goes down.
 abbrev pub SentOn : Spot → List (Parcel ℕ) → Type 0
@@ -51,35 +50,11 @@ puts-same to m s side = (puts-hold (SameButMade s) (same-stays s) plain to m s (
 
 -- what the kind of such a message says
 module _ where
-  no-ioctl : (kind : MsgKind) → is_held kind ≡ true → is_ioctl kind ≡ false
-  unfolding is_held
-  no-ioctl Data held = refl
-  no-ioctl Proto held = refl
-  no-ioctl _ held = absurd (cc)
-
   pub no-flush : (kind : MsgKind) → is_held kind ≡ true → is_flush kind ≡ false
   unfolding is_held
   no-flush Data held = refl
   no-flush Proto held = refl
   no-flush _ held = absurd (cc)
-
-  waits : (kind : MsgKind) → is_held kind ≡ true → waits_there kind ≡ true
-  unfolding is_held
-  waits Data held = refl
-  waits Proto held = refl
-  waits _ held = absurd (cc)
-
-  packed : (kind : MsgKind) → is_held kind ≡ true → is_packed kind ≡ true
-  unfolding is_held
-  packed Data held = refl
-  packed Proto held = refl
-  packed _ held = absurd (cc)
-
-  none-behind : (kind : MsgKind) (bytes : List ℕ) → is_held kind ≡ true → is_flush_passed kind bytes ≡ false
-  unfolding is_held
-  none-behind Data bytes held = refl
-  none-behind Proto bytes held = refl
-  none-behind _ bytes held = absurd (cc)
 
   nothing-down : (here : Spot) (kind : MsgKind) (bytes : List ℕ) (h : Head ℕ) → is_held kind ≡ true → (obeyed here kind bytes h).sent ≡ []
   unfolding is_held
@@ -95,6 +70,61 @@ none-sent false one another first second = second
 none-took : (b : Bool) (one another : Took ℕ (State ℕ)) → one.sent ≡ [] → another.sent ≡ [] → (cond b one another).sent ≡ []
 none-took true one another first second = first
 none-took false one another first second = second
+
+-- By its table each module hands such a message on as one, the same way.
+held-shape : (parts : Bool) (kind : MsgKind) (bytes : List ℕ) → is_held kind ≡ true → shape_by parts kind bytes ≡ Held
+unfolding is_held
+held-shape parts Data bytes held = grind arith
+held-shape parts Proto bytes held = grind arith
+held-shape parts _ bytes held = absurd (cc)
+
+held-goes : (name : ModuleName) (way : Way) → (name_does name way Held).emits ≡ (way, Held) ∷ []
+held-goes names.Ldterm Up = refl
+held-goes names.Ldterm Down = refl
+held-goes names.Ptem Up = refl
+held-goes names.Ptem Down = refl
+held-goes names.Pckt Up = refl
+held-goes names.Pckt Down = refl
+
+-- what costs nothing where only another side, another way and another shape cost
+side-same : (here there : Side) → cond (same_side there here) 0 1 ≤ cond (same_side here here) 0 1 → there ≡ here
+side-same Master Master few = refl
+side-same Slave Slave few = refl
+side-same here there few = absurd (omega (arith, few))
+
+way-same : (here there : Way) → cond (same_way there here) 0 1 ≤ cond (same_way here here) 0 1 → there ≡ here
+way-same Up Up few = refl
+way-same Down Down few = refl
+way-same here there few = absurd (omega (arith, few))
+
+unheld : Shape → ℕ
+unheld Held = 0
+unheld _ = 1
+
+held-same : (parts : Bool) (kind : MsgKind) (bytes : List ℕ) → unheld (shape_by parts kind bytes) ≤ 0 → is_held kind ≡ true
+unfolding is_held unheld
+held-same parts Data bytes few = refl
+held-same parts Proto bytes few = refl
+held-same parts _ bytes few = absurd (grind (arith, few))
+
+module _ (to : Spot) where
+  one-on : (way : Way) → to.way ≡ way → (at : ℕ) → (way ≡ Down → 0 < at) → (x : Parcel ℕ)
+      → Within (x ∷ []) (record { to = record { side = to.side; at = at; way = way }; shape = Held } ∷ []) → SentOn to (x ∷ [])
+  unfolding cost_of unheld
+  one-on way is at low x within =
+      let goes = way-same way x.to.way (omega (arith, within (λ a. cond (same_way a.to.way way) 0 1))) in (
+        held-same (has_parts x.message) x.message.kind x.message.plain (omega (arith, within (λ a. unheld a.shape))),
+        side-same to.side x.to.side (omega (arith, within (λ a. cond (same_side a.to.side to.side) 0 1))),
+        goes ∙ sym is,
+        λ down. (let below = low (sym goes ∙ down) in omega (arith, below, within (λ a. 1 - a.to.at))),
+      )
+
+  sent-on : (way : Way) → to.way ≡ way → (sent : List (Parcel ℕ)) → Within sent (record { to = toward way to; shape = Held } ∷ []) → SentOn to sent
+  unfolding cost_of
+  sent-on way is [] within = tt
+  sent-on Up is (x ∷ []) within = one-on Up is (to.at - 1) (λ down. absurd (cc)) x within
+  sent-on Down is (x ∷ []) within = one-on Down is (to.at + 1) (λ down. omega arith) x within
+  sent-on way is (x ∷ y ∷ more) within = absurd (omega (arith, within (λ a. 1)))
 
 module _ (to : Spot) (m : Message ℕ) (held : is_held m.kind ≡ true) where
   -- at a head
@@ -127,38 +157,15 @@ module _ (to : Spot) (m : Message ℕ) (held : is_held m.kind ≡ true) where
   at-driver : (s : State ℕ) → (put_at_driver to.side to m s).sent ≡ []
   at-driver s = driver-none to.way to.side (across_of to.side s) (driver_place to.side s) (stream to.side s).driver.queue
 
-  -- on its way at a module
-  passes-on : (way : Way) → to.way ≡ way → (n : Message ℕ) → is_held n.kind ≡ true → SentOn to (onward way to n ∷ [])
-  passes-on Up is n held = (held, refl, sym is, λ down. absurd (cc))
-  passes-on Down is n held = (held, refl, sym is, λ down. omega arith)
-
-  at-ldterm : (l : Discipline ℕ) → SentOn to (ldterm_puts to m l).sent
-  at-ldterm l =
-      let there = ap (λ b. b || goes_behind to.way m) (waits m.kind held) in
-      subst (λ b. SentOn to (cond {A = Acted ℕ (Discipline ℕ)} b (queued_at to.way m l) (cond (is_flush m.kind) (flush_passes to m l) (passes_on_way to.way to m l))).sent) (sym there) tt
-
-  at-ptem : (p : Ptem) → SentOn to (ptem_puts to m p).sent
-  at-ptem p =
-      let other = ap (λ b. b && not (has_parts m)) (no-ioctl m.kind held) in
-      subst (λ b. SentOn to (cond {A = Acted ℕ Ptem} b (asked_by_header to (read_ioc m.plain) m p) (ptem_passes to m p)).sent) (sym other) (passes-on to.way refl m held)
-
-  proto-held : is_held Proto ≡ true
-  unfolding is_held
-  proto-held = refl
-
-  at-pckt : (made : ℕ) (way : Way) → to.way ≡ way → SentOn to (pckt_on_way plain made to way m).sent
-  at-pckt made Down is = passes-on to.way refl m held
-  at-pckt made Up is =
-      let one = subst (λ b. SentOn to (onward Up to (packet plain made to m) ∷ cond b (writers_flush to (asked_by m.plain) ∷ []) [])) (sym (none-behind m.kind m.plain held)) (passes-on Up is (packet plain made to m) proto-held) in
-      subst (λ b. SentOn to (cond b (pckt_packs plain made to m) (pckt_passes to m)).sent) (sym (packed m.kind held)) one
-
+  -- at a module
   at-module : (made : ℕ) (p : Standing ℕ) → SentOn to (module_puts plain made to m p).sent
-  at-module made p = by p.part
-    where
-      by : (q : Module ℕ) → SentOn to (module_puts plain made to m (stood q p.queues)).sent
-      by (OfLdterm l) = at-ldterm (disciplined l p.queues)
-      by (OfPtem q) = at-ptem q
-      by (OfPckt q) = at-pckt made to.way refl
+  at-module made p =
+      let within = ((lawful p).put plain made to m).within in
+      sent-on to to.way refl (module_puts plain made to m p).sent
+      (subst (λ d. Within (module_puts plain made to m p).sent (map (next_at to) d))
+          (ap (λ shape. (name_does (module_name p) to.way shape).emits) (held-shape (has_parts m) m.kind m.plain held)
+              ∙ held-goes (module_name p) to.way)
+          within)
 
   at-modules : (made i : ℕ) (ps : List (Standing ℕ)) → SentOn to (act_among (module_puts plain made to m) i ps).sent
   at-modules made i [] = tt

@@ -29,7 +29,8 @@ use Rattle.strm_laws.specs.Turns.{blocked_across, driver_serves, held_back, is_s
 use Rattle.strm_laws.proofs.InOrder.{BooksMade, books-both}
 use Rattle.strm_laws.proofs.PutsBook.{SameBooks, acted-books, booked-before, booked-behind, delivered-books, nothing-booked, sent-books}
 use Rattle.strm_laws.proofs.TurnHolds.{any-holds}
-use Rattle.strm_laws.proofs.TurnOrder.{TurnOrder, module-order, order-none}
+use Rattle.strm_laws.proofs.TurnOrder.{TurnOrder, order-none}
+use Rattle.strm_laws.proofs.LawfulKinds.{lawful}
 
 module _ {C : Type 0} where
   pub waits-books : (side : Side) (way : Way) (at band : ℕ) (s : State C) → SameBooks s (writer_waits side way at band s)
@@ -42,7 +43,7 @@ module _ {C : Type 0} (cells : Cells C) where
   module _ (here : Spot) where
     acts-order : (made : ℕ) (again : Bool) (left : ℕ) (i : ℕ) (ps : List (Standing C)) → TurnOrder cells here.side made (act_among (λ q. (module_serves cells here made again (Some left) q).acted) i ps).gone
     acts-order made again left i [] = order-none cells here.side made [] refl
-    acts-order made again left zero (q ∷ ps) = module-order cells here again made (Some left) q
+    acts-order made again left zero (q ∷ ps) = ((lawful q).call cells here made again).order (Some left)
     acts-order made again left (suc i) (q ∷ ps) = acts-order made again left i ps
 
     called-books : (again : Bool) (left : ℕ) (s : State C) → let t = module_called cells here again left s in Books s t.gone t.state

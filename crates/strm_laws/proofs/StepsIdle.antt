@@ -1,12 +1,9 @@
 -- Behind each step of a pair, and each legal journal, nothing of a turn is under way at any module, and so it is in a new one.
-use Rattle.std.proofs.Common.{List, [], ◌∷◌, refl}
-use Rattle.strm_types.specs.declared.names.ModuleName.{ModuleName}
-use Rattle.strm_types.specs.declared.names.ModuleName.TheVariants as names
+use Rattle.std.proofs.Common.{List, [], ◌∷◌}
 use Rattle.strm_types.specs.declared.names.Side.{Side}
 use Rattle.strm_types.specs.Cells.{Cells}
 use Rattle.strm_types.specs.Journal.{PlainEntry}
 use Rattle.strm_laws.specs.Kept.{AreIdle}
-use Rattle.strm_laws.specs.Stacked.{Standing}
 use Rattle.strm_laws.specs.State.{State, Stream, opening}
 use Rattle.strm_laws.specs.Step.{IsLegal, Step, after, replay}
 use Rattle.strm_laws.proofs.TurnHolds.{Turns, turn-holds}
@@ -15,16 +12,11 @@ use Rattle.strm_laws.proofs.ModulesIdle.{AllIdle, delivered-idle}
 use Rattle.strm_laws.proofs.Past.{waits-idle}
 use Rattle.strm_laws.proofs.EachStream.{Changes, driver-each, step-each}
 use Rattle.strm_types.proofs.BySide.{each-side}
-use Rattle.strm_laws.specs.Pushes.{module_named}
+use Rattle.strm_laws.proofs.LawfulKinds.{new}
 
 module _ {C : Type 0} where
   abbrev Idle : Side → Stream C → Type 0
   Idle side t = AllIdle t.modules
-
-  new-idle : (name : ModuleName) (ps : List (Standing C)) → AllIdle ps → AllIdle (module_named name ∷ ps)
-  new-idle names.Ldterm ps idle = ((refl, refl, refl, refl), idle)
-  new-idle names.Ptem ps idle = (tt, idle)
-  new-idle names.Pckt ps idle = (tt, idle)
 
   changes : Changes Idle AllIdle
   changes = record {
@@ -39,7 +31,7 @@ module _ {C : Type 0} where
     modules = λ side ps t good idle. good;
     good = λ side t idle. idle;
     below = λ p ps good. good.1;
-    above = new-idle;
+    above = λ name ps idle. ((new name).rests, idle);
   }
 
   turns : Turns {C = C} AreIdle

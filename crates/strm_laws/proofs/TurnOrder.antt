@@ -1,4 +1,4 @@
--- A call of a module's service procedure makes the next cells of the direction in which output goes, one after the other, and none of the other one.
+-- A call of ldterm's service procedure makes the next cells of the direction in which output goes, one after the other, and none of the other one.
 use Rattle.std.proofs.Common.{ℕ, zero, suc, ◌≡◌, ◌+◌, ◌-◌, ◌*◌, Bool, true, false, cond, List, [], ◌∷◌, ◌++◌, length, drop, refl, sym, subst, arith}
 use Rattle.std.specs.Prelude.{not, ◌&&◌, count_by, replicate, take, Option, Some, unwrap_or}
 use Rattle.strm_types.specs.declared.flushing.FlushAsked.{FlushAsked}
@@ -27,11 +27,8 @@ use Rattle.strm_types.specs.Output.{made_for, post, posts, space, told_for}
 use Rattle.strm_types.specs.OutputTurns.{output_dir, output_serves, posted, unchanged}
 use Rattle.strm_laws.specs.Places.{weight_made}
 use Rattle.strm_types.specs.Queue.{is_full, is_none_left, left_with}
-use Rattle.strm_laws.specs.Stacked.{Standing, OfLdterm, OfPtem, OfPckt, module_serves, Module}
 use Rattle.strm_types.specs.Termios.{icanon, imaxbel, noflsh, opost}
 use Rattle.strm_types.specs.Typing.{added, both_ways, begins, echo_dir, echo_grows, echo_lost, echo_stands, echoed, is_blank_cell, lost, sigint, signals, sigquit, sigtstp, is_lnext, strikes, stroke_at, struck, up_alone}
-use Rattle.strm_types.specs.Standings.{stood}
-use Rattle.strm_types.specs.LdtermStands.{disciplined}
 use Rattle.strm_laws.proofs.DeliveryKeeps.{made-append}
 use Rattle.strm_laws.proofs.InOrder.{InOrder, none-ordered, order-append}
 use Rattle.strm_laws.proofs.LdtermKeeps.{lost-made}
@@ -226,16 +223,12 @@ module _ {C : Type 0} (cells : Cells C) (here : Spot) where
       at false = order-none cells here.side made [] refl
 
 module _ {C : Type 0} (cells : Cells C) where
-  serves-at : (way : Way) (here : Spot) (again : Bool) (made : ℕ) (stop : Option ℕ) (l : Discipline C) → TurnOrder cells here.side made (ldterm_serves cells (record here { way = way }) made again stop l).acted.gone
+  serves-at : (way : Way) (here : Spot) (again : Bool) (made : ℕ) (stop : Option ℕ) (l : Discipline C)
+      → TurnOrder cells here.side made (ldterm_serves cells (record here { way = way }) made again stop l).acted.gone
   serves-at Down here again made stop l = output-order cells (record here { way = Down }) stop made l.write_queue.messages l
   serves-at Up here false made stop l = input-order cells (record here { way = Up }) stop made l.read_queue.messages l
   serves-at Up here true made stop l = stages-order cells (record here { way = Up }) (3 * unwrap_or stop (to_treat l) - stages_done l.stage) made l
 
-  -- a call of any module's
-  pub module-order : (here : Spot) (again : Bool) (made : ℕ) (stop : Option ℕ) (q : Standing C) → TurnOrder cells here.side made (module_serves cells here made again stop q).acted.gone
-  module-order here again made stop q = by q.part
-    where
-      by : (p : Module C) → TurnOrder cells here.side made (module_serves cells here made again stop (stood p q.queues)).acted.gone
-      by (OfLdterm l) = serves-at here.way here again made stop (disciplined l q.queues)
-      by (OfPtem p) = order-none cells here.side made [] refl
-      by (OfPckt p) = order-none cells here.side made [] refl
+  pub serves-order : (here : Spot) (made : ℕ) (again : Bool) (stop : Option ℕ) (l : Discipline C)
+      → TurnOrder cells here.side made (ldterm_serves cells here made again stop l).acted.gone
+  serves-order here made again stop l = serves-at here.way here again made stop l

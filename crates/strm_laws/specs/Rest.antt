@@ -18,7 +18,7 @@ use Rattle.strm_types.specs.Names.{is_enabled, other}
 use Rattle.strm_types.specs.Service.{echo_most}
 use Rattle.strm_laws.specs.Restorable.{is_ldterm}
 use Rattle.strm_laws.specs.StackCosts.{Stands, stands_of, stands_on}
-use Rattle.strm_laws.specs.Stacked.{Module, OfLdterm, OfPtem, OfPckt, Standing}
+use Rattle.strm_laws.specs.Stacked.{Module, OfLdterm, Standing}
 use Rattle.strm_laws.specs.State.{State, Stream, stream}
 
 -- whether an ldterm is among the modules of a side's stream
@@ -76,8 +76,7 @@ module _ {C : Type 0} where
     where
       by : Module C → ℕ
       by (OfLdterm l) = ldterm_moves (disciplined l x.queues)
-      by (OfPtem p) = 0
-      by (OfPckt p) = 0
+      by part = 0
 
   -- of all that stands on a stream; what a head has is for readers, and moves no more
   abbrev pub stream_moves : Bool → Stream C → ℕ

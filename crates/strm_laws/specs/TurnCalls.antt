@@ -12,14 +12,13 @@ use Rattle.strm_types.specs.ModuleQueues.{at_place}
 use Rattle.strm_types.specs.Modules.{act_among}
 use Rattle.strm_types.specs.Standings.{new_pair}
 use Rattle.strm_laws.specs.Puts.{module_acted, put_in}
-use Rattle.strm_laws.specs.Stacked.{Module, OfLdterm, OfPtem, OfPckt, Standing, module_serves}
+use Rattle.strm_laws.specs.Stacked.{Module, OfLdterm, Standing, module_serves}
 use Rattle.strm_laws.specs.State.{State, stream}
 
 -- The line discipline that a module is, beside its queues. In one of another kind nothing is ever under way, as in a new one.
 abbrev pub ldterm_of : Module ℕ → Ldterm ℕ
 ldterm_of (OfLdterm l) = l
-ldterm_of (OfPtem p) = new_ldterm
-ldterm_of (OfPckt p) = new_ldterm
+ldterm_of part = new_ldterm
 
 -- and with them
 abbrev pub discipline_of : Standing ℕ → Discipline ℕ

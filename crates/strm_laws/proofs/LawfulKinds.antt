@@ -1,0 +1,209 @@
+-- Each kind of module is lawful: the one place that names them all.
+use Rattle.std.proofs.Common.{ℕ, ◌≡◌, true, [], ◌∷◌, refl, ap, ◌∙◌, arith, Bool, false}
+use Rattle.std.specs.Prelude.{Option, Some, count_by, option_map}
+use Rattle.std.proofs.lemmas.Bool.{false≢true}
+use Rattle.strm_types.specs.declared.names.Dir.{Dir}
+use Rattle.strm_types.specs.declared.names.ModuleName.{ModuleName}
+use Rattle.strm_types.specs.declared.names.ModuleName.TheVariants as names
+use Rattle.strm_types.specs.declared.names.Side.{Side}
+use Rattle.strm_types.specs.declared.names.Way.{Way}
+use Rattle.strm_types.specs.declared.names.Way.TheVariants.{Up}
+use Rattle.strm_types.specs.declared.spots.Spot.{Spot}
+use Rattle.strm_types.specs.Asking.{ldterm_asks}
+use Rattle.strm_types.specs.Cells.{Cells, plain}
+use Rattle.strm_types.specs.Input.{made_of}
+use Rattle.strm_types.specs.Kinds.{kind_number}
+use Rattle.strm_types.specs.LdtermPuts.{ldterm_puts}
+use Rattle.strm_types.specs.LdtermServes.{ldterm_serves}
+use Rattle.strm_types.specs.LdtermStands.{disciplined}
+use Rattle.strm_types.specs.Message.{map_message, Message}
+use Rattle.strm_types.specs.Names.{direction_at, other}
+use Rattle.strm_types.specs.Pckts.{Pckt, plain_packed}
+use Rattle.strm_types.specs.Ptems.{Ptem, ptem_puts}
+use Rattle.strm_types.specs.Service.{done_by, served_by}
+use Rattle.strm_types.specs.Standings.{map_pair, QueuePair, stood}
+use Rattle.strm_laws.specs.LdtermWeights.{weight_begun, weight_in_work}
+use Rattle.strm_laws.specs.Places.{weight_gone, weight_made}
+use Rattle.strm_laws.specs.Stacked.{kind_line, kind_weight, KindRests, ldterm_stands, Module, module_puts, OfLdterm, OfPckt, OfPtem, Standing}
+use Rattle.strm_types.proofs.LdtermPutStays.{idle-stays, puts-stay}
+use Rattle.strm_types.proofs.LdtermWithin.{ldterm-within}
+use Rattle.strm_types.proofs.PcktPuts.{puts-each}
+use Rattle.strm_types.proofs.PcktWithin.{pckt-within}
+use Rattle.strm_types.proofs.PtemPuts.{puts-gone}
+use Rattle.strm_types.proofs.PtemWithin.{ptem-within}
+use Rattle.strm_laws.proofs.GoodLdtermTurns.{serves-good}
+use Rattle.strm_laws.proofs.GoodLdterms.{good-stands, good-with, ldterm-good}
+use Rattle.strm_laws.proofs.GoodPtems.{pckt-good, ptem-good}
+use Rattle.strm_laws.proofs.GoodQueues.{new-good}
+use Rattle.strm_laws.proofs.Lawful.{IsLawful, IsNew, IsPlain, IsReadyAt, LawfulCall, LawfulImage, LawfulPut}
+use Rattle.strm_laws.proofs.LdtermKeeps.{ldterm-none, puts-hold}
+use Rattle.strm_laws.proofs.LdtermPutForgets.{puts-forget}
+use Rattle.strm_laws.proofs.LdtermReady.{goes-at, keeps-at, puts-ready, rests-at}
+use Rattle.strm_laws.proofs.LdtermServes.{serves-forget}
+use Rattle.strm_laws.proofs.LdtermStops.{serves-alike, serves-ends, serves-goes, serves-made}
+use Rattle.strm_laws.proofs.PcktKeeps.{puts-forget as pckt-forgets, puts-keep as pckt-keeps, puts-make, puts-same}
+use Rattle.strm_laws.proofs.PtemPuts.{puts-forget as ptem-forgets, puts-sent}
+use Rattle.strm_laws.proofs.StandingLdterms.{asks-same, at-forgets, numbered-forgets, rests-same, weigh, weigh-stands}
+use Rattle.strm_laws.proofs.TurnOrder.{all_made, made-all, order-next, order-none, serves-order, TurnOrder}
+
+module _ {C : Type 0} where
+  image : {D : Type 0} (f : C → D) (part : Module C) (queues : Option (QueuePair C)) → LawfulImage (stood part queues) f
+  image f (OfLdterm l) queues = record {
+    name = refl;
+    line = refl;
+    lineless = refl;
+    rests = rests-same f l;
+    asks = λ way. ap (λ d. ldterm_asks way d) (at-forgets f l queues) ∙ asks-same f way (disciplined l queues);
+  }
+  image f part queues = record { name = refl; line = refl; lineless = refl; rests = refl; asks = λ way. refl }
+
+  weighs : (p : Dir → C → Bool) (side : Side) (part : Module C) → KindRests part
+      → kind_weight p side part ≡ count_by (p (direction_at Up side)) (kind_line part)
+  weighs p side (OfLdterm l) idle = omega (
+    arith,
+    ap (λ x. weight_begun p side x) idle.3,
+    ap (λ x. weight_in_work (p (direction_at Up side)) x) idle.0,
+    ap (λ xs. count_by (p (direction_at Up side)) xs) idle.1,
+  )
+  weighs p side part idle = refl
+
+  ready : (way : Way) (left : ℕ) (part : Module C) (queues : Option (QueuePair C)) → KindRests part → IsReadyAt false way left (stood part queues)
+  ready way left (OfLdterm l) queues rests = rests
+  ready way left part queues rests = tt
+
+  module _ (cells : Cells C) where
+    put : (part : Module C) (queues : Option (QueuePair C)) (made : ℕ) (here : Spot) (m : Message C) → LawfulPut (stood part queues) cells made here m
+    put (OfLdterm l) queues made here m =
+        let d = disciplined l queues in
+        let t = ldterm_puts here m d in
+        record {
+          name = refl;
+          rests = λ rests. idle-stays d t.state (puts-stay here m d) rests;
+          ready = λ again way left ready. puts-ready again way left here m d ready;
+          once = λ p. omega (arith, puts-hold p here m d, ldterm-none p here m d, weigh p here.side l queues, weigh-stands p here.side t.state);
+          order = order-none cells (other here.side) made _ (ldterm-none (λ dir c. true) here m d);
+          within = ldterm-within here m d;
+          makes = λ small. omega (arith, made-all t.gone, ldterm-none (λ dir c. true) here m d);
+          forgets = λ are. ap (λ x. done_by ldterm_stands (ldterm_puts here (map_message cells.byte m) x)) (at-forgets cells.byte l queues)
+              ∙ ap (done_by ldterm_stands) (puts-forget cells.byte here m d);
+          good = λ fits good. (
+            let put = ldterm-good here m fits d (good-with l queues good.kind good.queues) in
+            record { state = good-stands t.state put.state; sent = put.sent }
+          );
+        }
+    put (OfPtem q) queues made here m =
+        let none : (ptem_puts here m q).gone ≡ [] = puts-gone here m q in
+        record {
+          name = refl;
+          rests = λ rests. tt;
+          ready = λ again way left ready. tt;
+          once = λ p. omega (arith, puts-sent p here m q, ap (λ gone. weight_gone p gone) none, ap (λ gone. weight_made p gone) none);
+          order = order-none cells (other here.side) made _ (ap all_made none);
+          within = ptem-within here m q;
+          makes = λ small. omega (arith, ap made_of none);
+          forgets = λ are. ap (done_by (λ (p : Ptem). stood (OfPtem p) (option_map (map_pair cells.byte) queues))) (ptem-forgets cells.byte here m q);
+          good = λ fits good. (
+            let t = ptem-good here m q fits good.kind in
+            record { state = record { kind = t.state; queues = good.queues; has = good.has }; sent = t.sent }
+          );
+        }
+    put (OfPckt q) queues made here m = record {
+      name = refl;
+      rests = λ rests. tt;
+      ready = λ again way left ready. tt;
+      once = λ p. omega (arith, pckt-keeps p cells made here m);
+      order = puts-each cells made here m (λ t. TurnOrder cells (other here.side) made t.gone) (order-none cells (other here.side) made [] refl)
+          (λ up is. order-next cells (other here.side) made (kind_number m.kind ∷ plain_packed m) [] refl);
+      within = pckt-within cells made here m;
+      makes = λ small. puts-make cells made here m small;
+      forgets = λ are. ap (done_by (λ (p : Pckt). stood (OfPckt p) (option_map (map_pair cells.byte) queues))) (pckt-forgets cells are made here m);
+      good = λ fits good. record { state = record { kind = tt; queues = good.queues; has = good.has }; sent = pckt-good cells made here m fits };
+    }
+
+    -- one without a service procedure does nothing
+    call : (part : Module C) (queues : Option (QueuePair C)) (here : Spot) (made : ℕ) (again : Bool)
+        → LawfulCall (stood part queues) cells here made again
+    call (OfLdterm l) queues here made again = let d = disciplined l queues in record {
+      name = λ stop. refl;
+      goes = λ left ready works. goes-at cells here.way here again made left d ready works;
+      ends = λ left ready over. rests-at cells here.way here again made left d ready over;
+      once = λ p ignores left ready. omega (
+        arith,
+        keeps-at cells p ignores here again made left d ready,
+        weigh p here.side l queues,
+        weigh-stands p here.side (ldterm_serves cells here made again (Some left) d).acted.state,
+      );
+      order = λ stop. serves-order cells here made again stop d;
+      forgets = λ are left. ap (λ x. served_by ldterm_stands (ldterm_serves plain here made again (Some left) x)) (at-forgets cells.byte l queues)
+          ∙ ap (served_by ldterm_stands) (serves-forget cells are here made again (Some left) d);
+      good = λ stop good. (
+        let t = serves-good cells here made again stop d (good-with l queues good.kind good.queues) in
+        record { state = good-stands (ldterm_serves cells here made again stop d).acted.state t.state; sent = t.sent }
+      );
+    }
+    call part queues here made again = record {
+      name = λ stop. refl;
+      goes = λ left ready works. tt;
+      ends = λ left ready over. tt;
+      once = λ p ignores left ready. omega arith;
+      order = λ stop. order-none cells here.side made [] refl;
+      forgets = λ are left. refl;
+      good = λ stop good. record { state = good; sent = tt };
+    }
+
+pub lawful : {C : Type 0} (x : Standing C) → IsLawful x
+lawful x = record {
+  image = λ f. image f x.part x.queues;
+  weighs = λ p side idle. weighs p side x.part idle;
+  ready = λ way left rests. ready way left x.part x.queues rests;
+  put = λ cells. put cells x.part x.queues;
+  call = λ cells. call cells x.part x.queues;
+}
+
+-- and plain
+put-same : (part : Module ℕ) (queues : Option (QueuePair ℕ)) (a b : ℕ) (here : Spot) (m : Message ℕ)
+    → module_puts plain a here m (stood part queues) ≡ module_puts plain b here m (stood part queues)
+put-same (OfPckt q) queues a b here m = ap (done_by (λ (p : Pckt). stood (OfPckt p) queues)) (puts-same a b here m)
+put-same part queues a b here m = refl
+
+pub plainly : (x : Standing ℕ) → IsPlain x
+plainly x = by x.part
+  where
+    by : (part : Module ℕ) → IsPlain (stood part x.queues)
+    by (OfLdterm l) = let d = disciplined l x.queues in record {
+      put_same = put-same (OfLdterm l) x.queues;
+      put_stays = λ made here m. (let same = puts-stay here m d in (same.stage, same.work));
+      call_same = λ here again stop made. ap (served_by ldterm_stands) (serves-made here again stop d made);
+      goes = λ here again begins works. serves-goes here again d begins works;
+      alike = λ here again works left made fits. ap (served_by ldterm_stands) (serves-alike here again d works left made fits);
+      ends = λ here again begins over. (let e = serves-ends here again d begins over in (e.0, λ made. ap (served_by ldterm_stands) (e.1 made)));
+      counted = λ p side up. omega arith;
+      numbered = λ side up idle. (refl, refl, idle.2, refl);
+      forgets = λ side up idle. ap OfLdterm (numbered-forgets side up l idle);
+    }
+    by part = record {
+      put_same = put-same part x.queues;
+      put_stays = λ made here m. (refl, refl);
+      call_same = λ here again stop made. refl;
+      goes = λ here again begins works. absurd (false≢true works);
+      alike = λ here again works left made fits. refl;
+      ends = λ here again begins over. (record { treat = omega arith; done = omega arith }, λ made. refl);
+      counted = λ p side up. refl;
+      numbered = λ side up idle. tt;
+      forgets = λ side up idle. refl;
+    }
+
+-- and as it is pushed
+pub new : {C : Type 0} (name : ModuleName) → IsNew C name
+new names.Ldterm = record {
+  forgets = λ f. refl;
+  weighs = λ p side. refl;
+  rests = (refl, refl, refl, refl);
+  good = record {
+    kind = record { termios = refl; column = omega arith; line = omega arith; work = tt };
+    queues = (new-good _ 512 128 (omega arith) (omega arith) (omega arith), new-good _ 512 128 (omega arith) (omega arith) (omega arith));
+    has = refl;
+  };
+}
+new names.Ptem = record { forgets = λ f. refl; weighs = λ p side. refl; rests = tt; good = record { kind = refl; queues = tt; has = refl } }
+new names.Pckt = record { forgets = λ f. refl; weighs = λ p side. refl; rests = tt; good = record { kind = tt; queues = tt; has = refl } }
