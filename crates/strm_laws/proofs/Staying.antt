@@ -86,7 +86,7 @@ held-goes names.Ptem Down = refl
 held-goes names.Pckt Up = refl
 held-goes names.Pckt Down = refl
 
--- what costs nothing where only another side, another way and another shape cost
+-- What costs nothing where another side costs is of the same side; and so with ways and with shapes.
 side-same : (here there : Side) → cond (same_side there here) 0 1 ≤ cond (same_side here here) 0 1 → there ≡ here
 side-same Master Master few = refl
 side-same Slave Slave few = refl
