@@ -18,7 +18,6 @@ use Rattle.strm_types.specs.Heads.{Head, is_doubled, obeyed, waits_for_readers}
 use Rattle.strm_types.specs.Message.{Message, has_parts, is_held}
 use Rattle.strm_types.specs.Modules.{act_among}
 use Rattle.strm_types.specs.Names.{is_closed, is_open, same_side, same_way}
-use Rattle.strm_types.specs.Ptems.{Ptem}
 use Rattle.strm_types.specs.Queue.{Queue}
 use Rattle.strm_types.specs.Budgets.{Within, next_at, cost_of}
 use Rattle.strm_types.specs.Tables.{name_does}
