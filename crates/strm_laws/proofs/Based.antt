@@ -226,7 +226,7 @@ module _ (side : Side) where
   module-forgets up down q idle =
       let line = length (module_line q) in
       ap (λ (part : Module ℕ). stood part (option_map (map_pair byte) (option_map (number_pair side (up + line) down) q.queues)))
-          ((plainly q).forgets side up idle)
+      ((plainly q).forgets side up idle)
       ∙ ap (λ queues. stood q.part queues) (queues-forget (up + line) down q.queues)
 
   modules-forget : (up down : ℕ) (ps : List (Standing ℕ)) → AllByRecursion (λ q. IsAtRest q) ps → map (map_module byte) (number_modules side up down ps) ≡ ps

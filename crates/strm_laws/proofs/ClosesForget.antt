@@ -81,7 +81,7 @@ module _ {C D : Type 0} (f : C → D) where
       let one_image = and_then (stream_emptied Master image) (driver_emptied EndClosed of_all Master) in
       and_then-forgets one one_image (driver_emptied EndClosed of_all Slave) (driver_emptied EndClosed of_all Slave)
       (and_then-forgets (stream_emptied Master s) (stream_emptied Master image) (driver_emptied EndClosed of_all Master)
-          (driver_emptied EndClosed of_all Master) (emptied-forgets Master s) (driver_emptied-forgets EndClosed of_all Master))
+      (driver_emptied EndClosed of_all Master) (emptied-forgets Master s) (driver_emptied-forgets EndClosed of_all Master))
       (driver_emptied-forgets EndClosed of_all Slave)
 
   pub closed_at-forgets : (side : Side) (s : State C) → closed_at side (map_state f s) ≡ map_carried f (map_state f) (closed_at side s)

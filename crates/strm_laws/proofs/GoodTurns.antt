@@ -111,8 +111,8 @@ module _ {C : Type 0} (cells : Cells C) where
         let t = module_called cells here again left s in
         let acted = call_at cells here made again left ps in
         let good =
-            acts-good (λ p. (module_serves cells here made again (Some left) p).acted) (λ p. ((lawful p).call cells here made again).good (Some left))
-            i ps (all.0 here.side).modules.each in
+        acts-good (λ p. (module_serves cells here made again (Some left) p).acted) (λ p. ((lawful p).call cells here made again).good (Some left))
+        i ps (all.0 here.side).modules.each in
         let took = acted-good cells here acted s (serve-names cells here made again (Some left) i ps) good all in
         sent-good GoodMessage AreStreams cells (stream-parts cells) t.sent t.state took.sent took.state
 

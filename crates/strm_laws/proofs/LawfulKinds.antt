@@ -86,9 +86,9 @@ module _ {C : Type 0} where
           forgets = λ are. ap (λ x. done_by ldterm_stands (ldterm_puts here (map_message cells.byte m) x)) (at-forgets cells.byte l queues)
               ∙ ap (done_by ldterm_stands) (puts-forget cells.byte here m d);
           good = λ fits good. (
-            let put = ldterm-good here m fits d (good-with l queues good.kind good.queues) in
-            record { state = good-stands t.state put.state; sent = put.sent }
-          );
+              let put = ldterm-good here m fits d (good-with l queues good.kind good.queues) in
+              record { state = good-stands t.state put.state; sent = put.sent }
+              );
         }
     put (OfPtem q) queues made here m =
         let none : (ptem_puts here m q).gone ≡ [] = puts-gone here m q in
@@ -102,9 +102,9 @@ module _ {C : Type 0} where
           makes = λ small. omega (arith, ap made_of none);
           forgets = λ are. ap (done_by (λ (p : Ptem). stood (OfPtem p) (option_map (map_pair cells.byte) queues))) (ptem-forgets cells.byte here m q);
           good = λ fits good. (
-            let t = ptem-good here m q fits good.kind in
-            record { state = record { kind = t.state; queues = good.queues; has = good.has }; sent = t.sent }
-          );
+              let t = ptem-good here m q fits good.kind in
+              record { state = record { kind = t.state; queues = good.queues; has = good.has }; sent = t.sent }
+              );
         }
     put (OfPckt q) queues made here m = record {
       name = refl;
@@ -136,9 +136,9 @@ module _ {C : Type 0} where
       forgets = λ are left. ap (λ x. served_by ldterm_stands (ldterm_serves plain here made again (Some left) x)) (at-forgets cells.byte l queues)
           ∙ ap (served_by ldterm_stands) (serves-forget cells are here made again (Some left) d);
       good = λ stop good. (
-        let t = serves-good cells here made again stop d (good-with l queues good.kind good.queues) in
-        record { state = good-stands (ldterm_serves cells here made again stop d).acted.state t.state; sent = t.sent }
-      );
+          let t = serves-good cells here made again stop d (good-with l queues good.kind good.queues) in
+          record { state = good-stands (ldterm_serves cells here made again stop d).acted.state t.state; sent = t.sent }
+          );
     }
     call part queues here made again = record {
       name = λ stop. refl;

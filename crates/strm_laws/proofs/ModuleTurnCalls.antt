@@ -254,7 +254,7 @@ module _ (here : Spot) where
             ∙ ap (λ n. calls plain here (r.made + suc more) false n s0) (let e : bytes + b + left ≡ bytes + (b + left) = omega arith in e)
             ∙ r.goes (b + left) (suc more) (omega (arith, g.done, bytes_is, done, fits))
             ∙ ap (behind gone bytes) (call-same more (b + left) again None s r.inside
-                (λ made. (plainly l).alike here again works (b + left) made (omega (arith, bytes_is, done, fits))))
+            (λ made. (plainly l).alike here again works (b + left) made (omega (arith, bytes_is, done, fits))))
             ∙ ap (λ x. behind gone bytes (next_of more (b + left) (called here again None ps) b x s)) asks
             ∙ ap (λ n. let v = calls plain here more true n u.state in behind gone bytes (record { state = v.state; gone = w.gone ++ u.gone ++ v.gone; bytes = b + v.bytes; ended = v.ended })) (let e : b + left - b ≡ left = omega arith in e)
             ∙ both-behind gone w.gone u.gone bytes b v
@@ -284,8 +284,7 @@ module _ (here : Spot) where
           let e = module-ends here again l r.begins over in
           (record { treat = let a = e.0.treat in omega (arith, bytes_is); done = let a = e.0.done in omega (arith, bytes_is) }, λ made. ap (λ n. module_serves plain here made again (Some n) l) bytes_is ∙ e.1 made)
       last-is (Some n) over is =
-          let l = module_at here s in
-          (
+          let l = module_at here s in (
             subst (λ b. Ends here.way again (discipline_of l) b) is.0 is.1,
             λ made. ap (λ b. module_serves plain here made again (Some b) l) (sym is.0) ∙ (plainly l).call_same here again (Some n) made,
           )

@@ -169,7 +169,7 @@ module _ {C : Type 0} (cells : Cells C) (are : AreCells cells) where
       ap (λ (t : Stream ℕ). module_acted here (call_at plain here (made_below here.side (map_state f s)) again left t.modules) (map_state f s)) (stream-forgets f here.side s)
       ∙ ap (λ t. module_acted here t (map_state f s))
       (acts-forget f (λ p. (module_serves cells here made again (Some left) p).acted) (λ p. (module_serves plain here made again (Some left) p).acted)
-          (acts-same here made again left) (here.at - 1) ps)
+      (acts-same here made again left) (here.at - 1) ps)
       ∙ acted-same f here (call_at cells here made again left ps) s
 
   sent-same : (t : Took C (State C)) → in_turn (carried (put_in plain) HOPS) (map (map_parcel f) t.sent) (map_state f t.state) ≡ map_carried f (map_state f) (in_turn (carried (put_in cells) HOPS) t.sent t.state)

@@ -90,9 +90,9 @@ module _ {C D : Type 0} (f : C → D) where
       ap (λ (t : Acted D (Option (QueuePair D))). joined bare t lost (queues_cleared side rule Down t.state)) (queues-forget side rule Up p.queues)
       ∙ ap (λ (t : Acted D (Option (QueuePair D))). joined bare up lost t) (queues-forget side rule Down above.state)
       ∙ ap (λ (line : List (Fate D)). joined bare up line (map_acted f map_queues below))
-          (ap (λ xs. line_gone side rule xs) ((lawful p).image f).line ∙ line_gone-forgets f side rule (kind_line p.part))
+      (ap (λ xs. line_gone side rule xs) ((lawful p).image f).line ∙ line_gone-forgets f side rule (kind_line p.part))
       ∙ ap (λ (part : Module D). joined part up (map (map_fate f) (line_gone side rule (kind_line p.part))) (map_acted f map_queues below))
-          ((lawful p).image f).lineless
+      ((lawful p).image f).lineless
       ∙ joined-forgets-all (without_kind_line p.part) above (line_gone side rule (kind_line p.part)) below
 
   -- the module on top, and all of them

@@ -162,9 +162,9 @@ module _ (to : Spot) (m : Message ℕ) (held : is_held m.kind ≡ true) where
       let within = ((lawful p).put plain made to m).within in
       sent-on to to.way refl (module_puts plain made to m p).sent
       (subst (λ d. Within (module_puts plain made to m p).sent (map (next_at to) d))
-          (ap (λ shape. (name_does (module_name p) to.way shape).emits) (held-shape (has_parts m) m.kind m.plain held)
-              ∙ held-goes (module_name p) to.way)
-          within)
+      (ap (λ shape. (name_does (module_name p) to.way shape).emits) (held-shape (has_parts m) m.kind m.plain held)
+      ∙ held-goes (module_name p) to.way)
+      within)
 
   at-modules : (made i : ℕ) (ps : List (Standing ℕ)) → SentOn to (act_among (module_puts plain made to m) i ps).sent
   at-modules made i [] = tt
