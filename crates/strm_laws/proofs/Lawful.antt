@@ -31,7 +31,7 @@ use Rattle.strm_laws.specs.Spares.{module_packs, packet_most}
 use Rattle.strm_laws.specs.Stacked.{IsAtRest, kind_weight, KindRests, map_kind, map_module, Module, module_asks, module_line, module_name, module_puts, module_rests, module_serves, module_weight, OfLdterm, Standing, without_kind_line}
 use Rattle.strm_laws.specs.TurnCalls.{discipline_of}
 use Rattle.strm_laws.proofs.GoodDeliveries.{AreGood}
-use Rattle.strm_laws.proofs.LdtermReady.{IsReady}
+use Rattle.strm_laws.proofs.LdtermServes.{IsReady}
 use Rattle.strm_laws.proofs.LdtermStops.{GoesOn}
 use Rattle.strm_laws.proofs.TurnOrder.{TurnOrder}
 

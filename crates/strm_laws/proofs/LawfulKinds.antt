@@ -38,8 +38,7 @@ use Rattle.strm_laws.proofs.GoodQueues.{new-good}
 use Rattle.strm_laws.proofs.Lawful.{IsLawful, IsNew, IsPlain, IsReadyAt, LawfulCall, LawfulImage, LawfulPut}
 use Rattle.strm_laws.proofs.LdtermKeeps.{ldterm-none, puts-hold}
 use Rattle.strm_laws.proofs.LdtermPutForgets.{puts-forget}
-use Rattle.strm_laws.proofs.LdtermReady.{goes-at, keeps-at, puts-ready, rests-at}
-use Rattle.strm_laws.proofs.LdtermServes.{serves-forget}
+use Rattle.strm_laws.proofs.LdtermServes.{goes-at, keeps-at, puts-ready, rests-at, serves-forget}
 use Rattle.strm_laws.proofs.LdtermStops.{serves-alike, serves-ends, serves-goes, serves-made}
 use Rattle.strm_laws.proofs.PcktKeeps.{puts-forget as pckt-forgets, puts-keep as pckt-keeps, puts-make, puts-same}
 use Rattle.strm_laws.proofs.PtemPuts.{puts-forget as ptem-forgets, puts-sent}

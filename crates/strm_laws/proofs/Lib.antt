@@ -96,7 +96,6 @@ pub mod LdtermPutForgets
 pub mod LdtermTypingForgets
 pub mod LdtermServesForgets
 pub mod LdtermOrderly
-pub mod LdtermReady
 pub mod Lawful
 pub mod LawfulKinds
 pub mod PtemPuts

@@ -18,7 +18,6 @@ use Rattle.strm_types.specs.Heads.{Head, is_doubled, obeyed, waits_for_readers}
 use Rattle.strm_types.specs.Message.{Message, has_parts, is_held}
 use Rattle.strm_types.specs.Modules.{act_among}
 use Rattle.strm_types.specs.Names.{is_closed, is_open, same_side, same_way}
-use Rattle.strm_types.specs.Ptems.{Ptem}
 use Rattle.strm_types.specs.Queue.{Queue}
 use Rattle.strm_types.specs.Budgets.{Within, next_at, cost_of}
 use Rattle.strm_types.specs.Tables.{name_does}
@@ -86,7 +85,7 @@ held-goes names.Ptem Down = refl
 held-goes names.Pckt Up = refl
 held-goes names.Pckt Down = refl
 
--- what costs nothing where only another side, another way and another shape cost
+-- What costs nothing where another side costs is of the same side; and so with ways and with shapes.
 side-same : (here there : Side) → cond (same_side there here) 0 1 ≤ cond (same_side here here) 0 1 → there ≡ here
 side-same Master Master few = refl
 side-same Slave Slave few = refl

@@ -30,7 +30,7 @@ use Rattle.strm_laws.specs.ModuleTurns.{module_turn_ended, module_turned, moved_
 use Rattle.strm_laws.specs.Pair.{IsKeptAhead}
 use Rattle.strm_laws.specs.Refusals.{in_range}
 use Rattle.strm_laws.specs.Spares.{spare}
-use Rattle.strm_laws.specs.Stacked.{IsAtRest, KindRests, Module, OfLdterm, OfPtem, OfPckt, Standing, module_serves}
+use Rattle.strm_laws.specs.Stacked.{IsAtRest, KindRests, Module, OfLdterm, Standing, module_serves}
 use Rattle.strm_laws.specs.State.{State, stream}
 use Rattle.strm_types.specs.LdtermCalls.{Begins, Ends, bytes_left}
 use Rattle.strm_types.specs.Standings.{QueuePair, stood}
@@ -251,8 +251,7 @@ module _ (here : Spot) where
           omega (arith, bytes)
       by Down false (OfLdterm l) full over = let d = disciplined l p.queues in output-whole d.write_queue.messages d full.1
       by Down true (OfLdterm l) full over = let d = disciplined l p.queues in output-whole d.write_queue.messages d full.1
-      by way again (OfPtem q) full over = none-left way again p.queues full.2
-      by way again (OfPckt q) full over = none-left way again p.queues full.2
+      by way again other full over = none-left way again p.queues full.2
 
   -- a last call that didn't stop treats all that was left
   module _ (again : Bool) (call : Call) (s : State ℕ) (tells : TellsAs here again call s) (low : here.at - 1 < length (stream here.side s).modules) (full : Full (module_at here s)) (over : call.again ≡ false) where
@@ -336,10 +335,8 @@ module _ (here : Spot) where
       by : (way : Way) (part : Module ℕ) → KindRests part → Begins way false (discipline_of (stood part p.queues))
       by Up (OfLdterm l) rest = rest
       by Down (OfLdterm l) rest = rest
-      by Up (OfPtem q) rest = (refl, refl, refl, refl)
-      by Down (OfPtem q) rest = (refl, refl, refl, refl)
-      by Up (OfPckt q) rest = (refl, refl, refl, refl)
-      by Down (OfPckt q) rest = (refl, refl, refl, refl)
+      by Up other rest = (refl, refl, refl, refl)
+      by Down other rest = (refl, refl, refl, refl)
 
   pub first-begins : (s : State ℕ) → AreIdle s → here.at - 1 < length (stream here.side s).modules → Begins here.way false (discipline_of (module_at here s))
   first-begins s idle low = begins-rested here.way (module_at here s) (rest-at (here.at - 1) (stream here.side s).modules (idle here.side) low)

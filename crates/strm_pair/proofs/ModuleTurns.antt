@@ -22,7 +22,7 @@ use Rattle.strm_laws.specs.ModuleTurns.{asked_turn, module_turned, moved_within,
 use Rattle.strm_types.specs.Modules.{change_among}
 use Rattle.strm_laws.specs.Past.{has_room_past, waits_on, writer_waits}
 use Rattle.strm_types.specs.Queue.{is_none_left, first_size}
-use Rattle.strm_laws.specs.Stacked.{IsAtRest, KindRests, Module, OfLdterm, OfPtem, OfPckt, Standing, kind_rests, module_asks, module_rests}
+use Rattle.strm_laws.specs.Stacked.{IsAtRest, KindRests, Module, OfLdterm, Standing, kind_rests, module_asks, module_rests}
 use Rattle.strm_laws.specs.State.{State, Stream, stream}
 use Rattle.strm_laws.specs.TurnCalls.{none_there}
 use Rattle.strm_laws.specs.TurnOutcomes.{TurnOutcome, stayed_put}
@@ -40,8 +40,7 @@ rests-idle p idle = by p.part idle
         ∙ ap (λ xs. is_none_left xs && (not l.echoing && is_between l.stage)) idle.1
         ∙ ap (λ b. not b && is_between l.stage) idle.2
         ∙ ap is_between idle.3
-    by (OfPtem q) idle = refl
-    by (OfPckt q) idle = refl
+    by other idle = refl
 
 rests-at : (i : ℕ) (ps : List (Standing ℕ)) → AllByRecursion (λ p. IsAtRest p) ps → i < length ps → slice_index_or (map module_rests ps) i false ≡ true
 rests-at i [] idle low = absurd (omega (arith, low))

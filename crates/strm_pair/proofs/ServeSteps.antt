@@ -26,7 +26,7 @@ use Rattle.strm_laws.specs.Puts.{earlier_at, module_acted, noted, put_in}
 use Rattle.strm_laws.specs.Spares.{spare, spare_behind}
 use Rattle.strm_laws.specs.SideCosts.{costs}
 use Rattle.strm_laws.specs.StackCosts.{stands_of}
-use Rattle.strm_laws.specs.Stacked.{Module, OfLdterm, OfPtem, OfPckt, Standing, module_serves}
+use Rattle.strm_laws.specs.Stacked.{Module, OfLdterm, Standing, module_serves}
 use Rattle.strm_laws.specs.State.{State, book, stream}
 use Rattle.strm_types.specs.LdtermCalls.{Begins, Ends, bytes_left}
 use Rattle.strm_types.specs.LdtermStands.{disciplined}
@@ -82,8 +82,7 @@ may-one way again p begins = by way again p.part begins
     by Up false (OfLdterm l) begins = begins
     by Down true (OfLdterm l) begins = begins
     by Down false (OfLdterm l) begins = begins
-    by way again (OfPtem q) begins = tt
-    by way again (OfPckt q) begins = tt
+    by way again other begins = tt
 
 pub may-serve : (way : Way) (again : Bool) (i : ℕ) (ps : List (Standing ℕ)) → i < length ps → Begins way again (discipline_of (slice_index_or ps i none_there)) → HoldsAt (HoldsOfPart (MayServe way again)) ps i
 may-serve way again i [] low begins = absurd (omega (arith, low))
@@ -221,8 +220,7 @@ module _ (here : Spot) (again : Bool) (stop : Option ℕ) where
     where
       by : (part : Module ℕ) → let q = stood part p.queues in Begins here.way again (discipline_of q) → cost_of most (module_serves plain here 0 again stop q).acted.sent ≤ 31
       by (OfLdterm l) begins = let d = disciplined l p.queues in call-few here again stop d (begins-work here.way again d begins)
-      by (OfPtem q) begins = none-few ℕ most 31
-      by (OfPckt q) begins = none-few ℕ most 31
+      by other begins = none-few ℕ most 31
 
   among-sends : (i : ℕ) (ps : List (Standing ℕ)) → i < length ps → Begins here.way again (discipline_of (slice_index_or ps i none_there)) → cost_of most (act_among (λ p. (module_serves plain here 0 again stop p).acted) i ps).sent ≤ 31
   among-sends i [] low begins = absurd (omega (arith, low))

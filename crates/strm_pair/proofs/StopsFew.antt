@@ -26,7 +26,7 @@ use Rattle.strm_types.specs.Standings.{stood}
 use Rattle.strm_types.specs.LdtermStands.{disciplined}
 use Rattle.strm_laws.specs.Pair.{IsKeptAhead}
 use Rattle.strm_laws.specs.Puts.{SameButMade, module_acted}
-use Rattle.strm_laws.specs.Stacked.{Module, OfLdterm, OfPtem, OfPckt, Standing, module_serves}
+use Rattle.strm_laws.specs.Stacked.{Module, OfLdterm, Standing, module_serves}
 use Rattle.strm_laws.specs.State.{State, stream}
 use Rattle.strm_laws.specs.TurnCalls.{asks_on, called, discipline_of, led, module_at, none_there, treated}
 use Rattle.strm_laws.proofs.PutParts.{acted-holds, sent-holds}
@@ -129,8 +129,7 @@ module _ (here : Spot) (again : Bool) (bytes : ℕ) where
           let d = disciplined l p.queues in
           gathered-on here is (ldterm_serves plain up 0 again (Some bytes) d).acted.sent (serves-gathered again d begins over less)
       by Down is (OfLdterm l) begins over less = down-on is again (disciplined l p.queues) less
-      by way is (OfPtem q) begins over less = tt
-      by way is (OfPckt q) begins over less = tt
+      by way is other begins over less = tt
 
   among-on : (i : ℕ) (ps : List (Standing ℕ)) → i < length ps → Begins here.way again (discipline_of (slice_index_or ps i none_there))
       → slice_index_or (map (λ p. (module_serves plain here 0 again (Some bytes) p).again) ps) i false ≡ false

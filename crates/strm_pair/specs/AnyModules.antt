@@ -32,8 +32,7 @@ use Rattle.strm_pair.specs.declared.modules.AnyModule.TheVariants as kinds
 -- whether its service procedure may be called: ptem and pckt have none, and a call does nothing
 abbrev pub MayServe : Way → Bool → Module ℕ → Type 0
 MayServe way again (OfLdterm l) = MayBeServed way again l
-MayServe way again (OfPtem p) = Unit {0}
-MayServe way again (OfPckt p) = Unit {0}
+MayServe way again other = Unit {0}
 
 -- how many blocks of each kind a call of it may count on; none of a module without queues is ever made
 abbrev pub kind_cost : Spot → Bool → Module ℕ → ℕ
@@ -132,22 +131,18 @@ serves-rests s (kinds.Pckt x) queues way i held may = refl
 -- it so.
 pub either-serves : (way at : Way) (p : Module ℕ) → MayServe way false p → MayServe at false p
 either-serves way at (OfLdterm l) may = either-served way at l may
-either-serves way at (OfPtem p) may = tt
-either-serves way at (OfPckt p) may = tt
+either-serves way at other may = tt
 
 pub serves-on : (here : Spot) (again : Bool) (stop : Option ℕ) (p : Module ℕ) (queues : Option (QueuePair ℕ)) → MayServe here.way again p
     → (let t = module_serves plain here 0 again stop (stood p queues) in MayServe here.way t.again t.acted.state.part)
 serves-on here again stop (OfLdterm l) queues may = serves-served plain here 0 again stop (disciplined l queues) may
-serves-on here again stop (OfPtem p) queues may = tt
-serves-on here again stop (OfPckt p) queues may = tt
+serves-on here again stop other queues may = tt
 
 pub puts-serve : (here : Spot) (m : Message ℕ) (way : Way) (again : Bool) (p : Module ℕ) (queues : Option (QueuePair ℕ)) → MayServe way again p
     → MayServe way again (module_puts plain 0 here m (stood p queues)).state.part
 puts-serve here m way again (OfLdterm l) queues may = puts-served here m way again (disciplined l queues) may
-puts-serve here m way again (OfPtem p) queues may = may
-puts-serve here m way again (OfPckt p) queues may = may
+puts-serve here m way again other queues may = may
 
 pub line-serves : (way : Way) (again : Bool) (p : Module ℕ) → MayServe way again p → MayServe way again (without_kind_line p)
 line-serves way again (OfLdterm l) may = line-served way again l may
-line-serves way again (OfPtem p) may = may
-line-serves way again (OfPckt p) may = may
+line-serves way again other may = may

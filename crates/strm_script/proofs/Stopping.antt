@@ -26,7 +26,7 @@ use Rattle.strm_laws.specs.ModuleTurns.{Calls, again_at, asked_turn, calls, made
 use Rattle.strm_types.specs.OutputTurns.{output_serves}
 use Rattle.strm_laws.specs.Past.{has_room_past}
 use Rattle.strm_types.specs.Queue.{left_with, first_size}
-use Rattle.strm_laws.specs.Stacked.{Module, OfLdterm, OfPckt, OfPtem, Standing, module_asks, module_rests, module_serves}
+use Rattle.strm_laws.specs.Stacked.{Module, OfLdterm, Standing, module_asks, module_rests, module_serves}
 use Rattle.strm_laws.specs.State.{State, Stream, stream}
 use Rattle.strm_laws.specs.TurnOutcomes.{TurnOutcome, stayed_put}
 use Rattle.strm_laws.specs.Turns.{turned, turned_at, whole_turn}
@@ -64,8 +64,7 @@ module _ (side : Side) (at : ℕ) where
       by : (way : Way) (part : Module ℕ) → (module_serves plain (there way) made false (Some 0) (stood part p.queues)).again ≡ false
       by Down (OfLdterm l) = let d = disciplined l p.queues in output-once made d.write_queue.messages d
       by Up (OfLdterm l) = let d = disciplined l p.queues in input-once made d.read_queue.messages d
-      by way (OfPtem q) = refl
-      by way (OfPckt q) = refl
+      by way other = refl
 
   none-among : (say : Standing ℕ → Bool) → ((p : Standing ℕ) → say p ≡ false) → (i : ℕ) (ps : List (Standing ℕ)) → slice_index_or (map say ps) i false ≡ false
   none-among say none i [] = refl

@@ -46,7 +46,7 @@ use Rattle.strm_laws.specs.Pushes.{all_taken, head_above, mode_behind, mode_on_p
 use Rattle.strm_laws.specs.Puts.{put_in}
 use Rattle.strm_types.specs.Queue.{is_full, is_none_left, left_with}
 use Rattle.strm_types.specs.Service.{cleared, line_gone, queues_cleared}
-use Rattle.strm_laws.specs.Stacked.{Module, OfLdterm, OfPtem, OfPckt, Standing, module_asks, module_line, module_name, module_rests, module_serves, without_kind_line, kind_line}
+use Rattle.strm_laws.specs.Stacked.{Module, OfLdterm, Standing, module_asks, module_line, module_name, module_rests, module_serves, without_kind_line, kind_line}
 use Rattle.strm_laws.specs.State.{State, stream}
 use Rattle.strm_types.specs.Termios.{icanon, imaxbel, noflsh, opost}
 use Rattle.strm_laws.specs.TurnOutcomes.{TurnOutcome, stayed_put}
@@ -177,8 +177,7 @@ module _ {C : Type 0} (dir : Dir) (cells : Cells C) where
     where
       by : (part : Module C) → Unread dir (module_serves cells here made again stop (stood part q.queues)).acted
       by (OfLdterm l) = serves-at here.way here again made stop (disciplined l q.queues)
-      by (OfPtem p) = refl
-      by (OfPckt p) = refl
+      by other = refl
 
   acts-unread : (here : Spot) (made : ℕ) (again : Bool) (left : ℕ) (i : ℕ) (ps : List (Standing C)) → Unread dir (act_among (λ q. (module_serves cells here made again (Some left) q).acted) i ps)
   acts-unread here made again left i [] = refl
