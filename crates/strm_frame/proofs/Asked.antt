@@ -1,14 +1,13 @@
 -- A message in hand that is looked at for its kind, which has no parts.
-use Rattle.std.proofs.Common.{ℕ, ◌≡◌, Bool, true, false, refl, sym, ap, ◌∙◌}
+use Rattle.strm_frame.proofs.Prelude.{ℕ, ◌≡◌, Bool, true, false, refl, sym, ap, ◌∙◌, ◌&&◌, not}
+use Rattle.strm_frame.specs.Prelude.{Message, StoreValue, in_hand, IsChain}
 use Rattle.std.proofs.lemmas.Bool.{and_parts}
-use Rattle.std.specs.Prelude.{◌&&◌, not}
 use Rattle.strm_types.specs.declared.kinds.MsgKind.{MsgKind}
 use Rattle.strm_types.specs.declared.kinds.MsgKind.TheVariants.{Ioctl, Iocack}
 use Rattle.strm_types.specs.Commands.{is_acked, is_asked, is_iocack, is_ioctl}
 use Rattle.strm_types.specs.Flush.{is_data_kind}
-use Rattle.strm_types.specs.Message.{Message, has_parts}
-use Rattle.strm_blocks.specs.Blocks.{StoreValue, block_at, in_hand}
-use Rattle.strm_msg.specs.Messages.{IsChain}
+use Rattle.strm_types.specs.Message.{has_parts}
+use Rattle.strm_blocks.specs.Blocks.{block_at}
 use Rattle.strm_msg.proofs.Chains.{kind-is}
 use Rattle.strm_msg.proofs.MadePlain.{parts-same}
 use Rattle.strm_frame.specs.Outboxes.{message_in}

@@ -1,15 +1,13 @@
 -- What is read of the payload of an ioctl message.
-use Rattle.std.proofs.Common.{ℕ, ◌≡◌, ◌<◌, ◌≤◌, ◌-◌, min, false, cond, List, [], ◌∷◌, length, take, drop, refl, sym, ap, ◌∙◌, arith, inl, inr}
-use Rattle.std.specs.Prelude.{◌==◌, Option, None, Some}
-use Rattle.std.proofs.lemmas.Bool.{cases_eq, cases_lt}
-use Rattle.std.proofs.lemmas.Bool.Decides.{nat_tests}
-use Rattle.std.proofs.lemmas.List.{drop-take, drop_all, length-drop, length-take, length-take-le, take_all}
+use Rattle.strm_frame.proofs.Prelude.{ℕ, ◌≡◌, ◌<◌, ◌≤◌, ◌-◌, min, false, cond, List, [], ◌∷◌, length, take, drop, refl, sym, ap, ◌∙◌, arith, inl, inr}
+use Rattle.strm_frame.proofs.Prelude.{◌==◌, Option, None, Some, cases_eq, nat_tests, drop-take, length-take, take_all}
+use Rattle.strm_frame.specs.Prelude.{word_at, filled}
+use Rattle.std.proofs.lemmas.Bool.{cases_lt}
+use Rattle.std.proofs.lemmas.List.{drop_all, length-drop, length-take-le}
 use Rattle.strm_types.specs.declared.termios.Termios.{Termios}
 use Rattle.strm_types.specs.declared.winsize.Winsize.{Winsize}
-use Rattle.strm_types.specs.Ioctls.{word_at}
 use Rattle.strm_types.specs.Signals.{signal_in}
 use Rattle.strm_types.specs.Winsizes.{half_at}
-use Rattle.strm_msg.specs.Taken.{filled}
 use Rattle.strm_frame.proofs.Read.{first-of}
 
 -- of 52 bytes that were read, those behind the header; none are behind it where no more than 16 were read

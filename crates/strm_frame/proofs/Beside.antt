@@ -1,12 +1,10 @@
 -- One of several modules acts, and the others stay.
-use Rattle.std.proofs.Common.{ℕ, zero, suc, ◌≡◌, ◌≤◌, ◌<◌, ◌+◌, List, [], ◌∷◌, length, get_or, map, sym, ap, subst, ◌∙◌, arith, refl}
+use Rattle.strm_frame.proofs.Prelude.{ℕ, zero, suc, ◌≡◌, ◌≤◌, ◌<◌, ◌+◌, List, [], ◌∷◌, length, get_or, map, sym, ap, subst, ◌∙◌, arith, refl, sum_by}
+use Rattle.strm_frame.proofs.Prelude.{sum_by-cons}
+use Rattle.strm_frame.specs.Prelude.{StoreValue, IsStore, in_hand, times_in, Acted, change_among, act_among}
 use Rattle.std.proofs.Math.ListN.{set}
-use Rattle.std.specs.Prelude.{sum_by}
 use Rattle.std.specs.List.{AllByRecursion, refill}
-use Rattle.std.proofs.lemmas.List.Sums.{sum_by-cons, sum_by-set}
-use Rattle.strm_blocks.specs.Blocks.{StoreValue, IsStore, in_hand, times_in}
-use Rattle.strm_types.specs.Deliver.{Acted}
-use Rattle.strm_types.specs.Modules.{change_among, act_among}
+use Rattle.std.proofs.lemmas.List.Sums.{sum_by-set}
 use Rattle.strm_frame.specs.Hands.{AreIn, Handles, SamePool, SameOwn, OnlyOwn}
 use Rattle.strm_frame.specs.Stacks.{all_of, AreHeld}
 use Rattle.strm_frame.specs.StackLaws.{each-frame}

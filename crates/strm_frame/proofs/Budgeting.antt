@@ -1,10 +1,7 @@
 -- A delivery with a budget has a hop left, and room for what its first put takes and for all that this sends.
-use Rattle.std.proofs.Common.{ℕ, zero, suc, ◌≡◌, ◌≤◌, ◌<◌, ◌+◌, ◌-◌, ap, arith}
-use Rattle.std.specs.Prelude.{List, sum_by}
-use Rattle.strm_types.specs.Budgets.{Costs, Within, beyond, budget, cost_of}
-use Rattle.strm_types.specs.Deliver.{Parcel}
-use Rattle.strm_types.specs.Shapes.{At}
-use Rattle.strm_blocks.specs.Blocks.{StoreValue}
+use Rattle.strm_frame.proofs.Prelude.{ℕ, zero, suc, ◌≡◌, ◌≤◌, ◌<◌, ◌+◌, ◌-◌, ap, arith, sum_by}
+use Rattle.strm_frame.specs.Prelude.{Costs, Within, beyond, budget, cost_of, Parcel, At, StoreValue}
+use Rattle.std.specs.Prelude.{List}
 use Rattle.strm_frame.specs.Hands.{MayDeliver, MayTake, Takes}
 
 -- A budget that isn't beyond what may be asked is what a put takes itself, with what it may send.

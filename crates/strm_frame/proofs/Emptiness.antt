@@ -1,8 +1,6 @@
 -- A list that stands for another one is empty where that is.
-use Rattle.std.proofs.Common.{◌≡◌, Bool, true, List, [], ◌∷◌, map, refl, sym, ◌∙◌}
-use Rattle.strm_types.specs.Queue.{is_none_left}
-use Rattle.strm_blocks.specs.Blocks.{Block}
-use Rattle.strm_msg.specs.Messages.{message_of}
+use Rattle.strm_frame.proofs.Prelude.{◌≡◌, Bool, true, List, [], ◌∷◌, map, refl, sym, ◌∙◌}
+use Rattle.strm_frame.specs.Prelude.{is_none_left, Block, message_of}
 
 pub none-mapped : {A B : Type 0} (f : A → B) (xs : List A) → is_none_left (map f xs) ≡ is_none_left xs
 none-mapped f [] = refl

@@ -1,11 +1,7 @@
 -- The first message of a queue has no more bytes than all blocks of a store.
-use Rattle.std.proofs.Common.{ℕ, ◌≤◌, List, [], ◌∷◌, arith}
-use Rattle.std.proofs.lemmas.List.Sums.{sum_by-cons}
-use Rattle.strm_types.specs.Message.{Message, size_of}
-use Rattle.strm_types.specs.Queue.{bytes_of, first_size}
-use Rattle.strm_blocks.specs.Blocks.{StoreValue, IsStore, list_at}
-use Rattle.strm_queue.specs.declared.queue.Queue.{Queue}
-use Rattle.strm_queue.specs.Stored.{messages_on, IsReady}
+use Rattle.strm_frame.proofs.Prelude.{ℕ, ◌≤◌, List, [], ◌∷◌, arith, sum_by-cons}
+use Rattle.strm_frame.specs.Prelude.{Message, bytes_of, first_size, StoreValue, IsStore, list_at, Queue, messages_on, IsReady}
+use Rattle.strm_types.specs.Message.{size_of}
 use Rattle.strm_queue.proofs.Bounds.{few-bytes}
 use Rattle.strm_queue.proofs.Sizes.{bytes-same}
 

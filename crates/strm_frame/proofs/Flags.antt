@@ -1,11 +1,6 @@
 -- A module whose queues change but for their lists, and what its queue of a way is.
-use Rattle.std.proofs.Common.{ℕ, ◌≡◌, ◌+◌, List, refl, ap}
-use Rattle.std.specs.Prelude.{Option, None, Some, IfSome, slice_index_or}
-use Rattle.strm_types.specs.declared.names.Way.{Way}
-use Rattle.strm_types.specs.declared.names.Way.TheVariants.{Up, Down}
-use Rattle.strm_types.specs.Standings.{way_queue}
-use Rattle.strm_blocks.specs.Blocks.{StoreValue}
-use Rattle.strm_queue.specs.Stored.{IsReady, queue_in}
+use Rattle.strm_frame.proofs.Prelude.{ℕ, ◌≡◌, ◌+◌, List, refl, ap, Option, None, Some, IfSome, slice_index_or}
+use Rattle.strm_frame.specs.Prelude.{Way, Up, Down, way_queue, StoreValue, IsReady, queue_in}
 use Rattle.strm_frame.specs.declared.queue_pair.QueuePair.{QueuePair}
 use Rattle.strm_frame.specs.Hands.{SameOwn, once}
 use Rattle.strm_frame.specs.Standings.{Fits, IsPairReady, lists_of, pair_in, queues_own, standing, the_queue}

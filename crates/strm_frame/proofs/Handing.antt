@@ -1,17 +1,14 @@
 -- Messages in hand, where a message is put, and each that this gives rise to is carried on.
-use Rattle.std.proofs.Common.{ℕ, ◌≡◌, ◌≢◌, ◌≤◌, ◌<◌, ◌+◌, true, false, cond, eqb, List, [], ◌∷◌, length, refl, sym, ap, subst, ◌∙◌, arith, inl, inr}
-use Rattle.std.proofs.lemmas.Bool.{cases_eq}
-use Rattle.std.proofs.lemmas.Bool.Decides.{nat_tests}
-use Rattle.std.proofs.lemmas.List.Sums.{sum_by-cons}
-use Rattle.strm_blocks.specs.Blocks.{Block, Held, StoreValue, IsStore, IsInHand, in_hand, dropped, times_in, without, names_of, token}
+use Rattle.strm_frame.proofs.Prelude.{ℕ, ◌≡◌, ◌≤◌, ◌<◌, ◌+◌, true, false, cond, List, [], ◌∷◌, length, refl, sym, ap, subst, ◌∙◌, arith, inl, inr}
+use Rattle.strm_frame.proofs.Prelude.{cases_eq, nat_tests, sum_by-cons}
+use Rattle.strm_frame.specs.Prelude.{Block, StoreValue, IsStore, IsInHand, in_hand, dropped, times_in, token, Parcel, IsChain, beyond, cost_of, most}
+use Rattle.strm_frame.specs.Prelude.{At}
+use Rattle.std.proofs.Common.{◌≢◌, eqb}
+use Rattle.strm_blocks.specs.Blocks.{Held, without, names_of}
 use Rattle.strm_blocks.proofs.Laws.{in_hand-dropped, total-dropped, used-is, free_m-is, free_d-more, references-is}
 use Rattle.strm_msg.proofs.Hands.{other-name}
 use Rattle.strm_frame.specs.declared.parcels.Sent.{Sent}
-use Rattle.strm_types.specs.Deliver.{Parcel}
-use Rattle.strm_msg.specs.Messages.{IsChain}
 use Rattle.strm_frame.specs.Hands.{once, AreIn, CanPut, Handles, Hands, HasRoom, MayDeliver, Spends, Takes}
-use Rattle.strm_types.specs.Budgets.{beyond, cost_of, most}
-use Rattle.strm_types.specs.Shapes.{At}
 use Rattle.strm_frame.specs.Outboxes.{times_sent, parcels_in, parcel_in, spot_in, AreChains}
 use Rattle.strm_frame.specs.Serves.{later_cost}
 

@@ -1,18 +1,8 @@
 -- A module that lets all go: what stood on its read queue, its line, and what stood on its write queue.
-use Rattle.std.proofs.Common.{ℕ, ◌≡◌, Bool, false, cond, List, [], ◌∷◌, ◌++◌, refl, sym, ap, ◌∙◌, arith}
-use Rattle.std.specs.Prelude.{Option, None, Some}
-use Rattle.strm_types.specs.declared.names.Side.{Side}
-use Rattle.strm_types.specs.declared.names.Way.TheVariants.{Up, Down}
-use Rattle.strm_types.specs.declared.rules.Fates.{Fates}
-use Rattle.strm_types.specs.declared.rules.Rule.{Rule}
-use Rattle.strm_types.specs.declared.spots.Note.{Note}
-use Rattle.strm_types.specs.declared.spots.Note.TheVariants.{Room}
-use Rattle.strm_types.specs.Deliver.{tallied}
-use Rattle.strm_types.specs.Dropped.{is_met}
-use Rattle.strm_types.specs.Service.{line_gone, queues_cleared}
+use Rattle.strm_frame.proofs.Prelude.{ℕ, ◌≡◌, Bool, false, cond, List, [], ◌∷◌, ◌++◌, refl, sym, ap, ◌∙◌, arith, Option, None, Some}
+use Rattle.strm_frame.specs.Prelude.{Side, Up, Down, Fates, Rule, Note, Room, tallied, is_met, queues_cleared, StoreValue, FreesBlocks}
+use Rattle.strm_types.specs.Service.{line_gone}
 use Rattle.strm_types.specs.Standings.{QueuePair, messages_on}
-use Rattle.strm_blocks.specs.Blocks.{StoreValue}
-use Rattle.strm_queue.specs.Stored.{FreesBlocks}
 use Rattle.strm_frame.specs.Hands.{OnlyOwn}
 use Rattle.strm_frame.specs.Serves.{SameHand}
 use Rattle.strm_frame.proofs.Turns.{tallied-append}

@@ -1,3 +1,4 @@
+pub mod Prelude
 pub mod Handing
 pub mod Budgeting
 pub mod Shifting

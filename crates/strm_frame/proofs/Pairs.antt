@@ -1,13 +1,8 @@
 -- A pair of queues, of which one changed.
-use Rattle.std.proofs.Common.{ℕ, ◌≡◌, ◌+◌, [], ◌∷◌, sym, ap, subst, ◌∙◌, arith}
-use Rattle.std.specs.Prelude.{Some}
+use Rattle.strm_frame.proofs.Prelude.{ℕ, ◌≡◌, ◌+◌, [], ◌∷◌, sym, ap, subst, ◌∙◌, arith, Some}
+use Rattle.strm_frame.specs.Prelude.{StoreValue, list_at, AreMessages, Queue, AreCounted, Changes, IsReady, queue_in}
 use Rattle.strm_types.specs.Queue as queues
 use Rattle.strm_types.specs.Standings as plain
-use Rattle.strm_blocks.specs.Blocks.{StoreValue, list_at}
-use Rattle.strm_msg.specs.Messages.{AreMessages}
-use Rattle.strm_queue.specs.declared.queue.Queue.{Queue}
-use Rattle.strm_queue.specs.Kept.{AreCounted}
-use Rattle.strm_queue.specs.Stored.{Changes, IsReady, queue_in}
 use Rattle.strm_frame.specs.declared.queue_pair.QueuePair.{QueuePair}
 use Rattle.strm_frame.specs.Hands.{OnlyOwn, once}
 use Rattle.strm_frame.specs.Serves.{SameHand}

@@ -1,13 +1,12 @@
 -- What is read of a message's first bytes.
-use Rattle.std.proofs.Common.{ℕ, ◌≡◌, ◌≤◌, ◌+◌, min, Bool, cond, List, [], ◌∷◌, length, take, drop, refl, sym, ap, ◌∙◌, arith}
+use Rattle.strm_frame.proofs.Prelude.{ℕ, ◌≡◌, ◌≤◌, ◌+◌, min, Bool, cond, List, [], ◌∷◌, length, take, drop, refl, sym, ap, ◌∙◌, arith, Option, None}
+use Rattle.strm_frame.proofs.Prelude.{Some, nat_tests, length-take, drop-take}
+use Rattle.strm_frame.specs.Prelude.{read_ioc, word_at, filled}
 use Rattle.std.specs.Int.{w32, from_be_bytes}
-use Rattle.std.specs.Prelude.{nat_le, Option, None, Some}
-use Rattle.std.proofs.lemmas.Bool.Decides.{nat_tests}
-use Rattle.std.proofs.lemmas.List.{length-take, take_min, drop-take, take-take}
+use Rattle.std.specs.Prelude.{nat_le}
+use Rattle.std.proofs.lemmas.List.{take_min, take-take}
 use Rattle.strm_types.specs.declared.ioctls.Ioc.{Ioc}
 use Rattle.strm_types.specs.Flushing.{asked_by}
-use Rattle.strm_types.specs.Ioctls.{read_ioc, word_at}
-use Rattle.strm_msg.specs.Taken.{filled}
 use Rattle.strm_msg.proofs.Gathering.{filled-first}
 
 -- as many bytes of a buffer as a message has put there

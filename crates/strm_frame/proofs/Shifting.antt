@@ -1,8 +1,6 @@
 -- Messages in hand that go and come, one after the other.
-use Rattle.std.proofs.Common.{ℕ, ◌≡◌, ◌≤◌, ◌+◌, refl, ap, ◌∙◌, arith}
-use Rattle.strm_blocks.specs.Blocks.{StoreValue, IsStore, in_hand, dropped, times_in}
-use Rattle.strm_queue.specs.declared.queue.Queue.{Queue}
-use Rattle.strm_queue.specs.Stored.{Changes, FreesBlocks}
+use Rattle.strm_frame.proofs.Prelude.{ℕ, ◌≡◌, ◌≤◌, ◌+◌, refl, ap, ◌∙◌, arith}
+use Rattle.strm_frame.specs.Prelude.{StoreValue, IsStore, in_hand, dropped, times_in, Queue, Changes, FreesBlocks}
 use Rattle.strm_frame.specs.Hands.{once, CanPut, Shifts}
 use Rattle.strm_frame.proofs.Handing.{freed-hands, freed-spends}
 

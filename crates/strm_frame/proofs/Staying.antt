@@ -1,8 +1,6 @@
 -- One message that stays is the only one on its way, and behind it nothing is.
-use Rattle.std.proofs.Common.{ℕ, ◌≡◌, List, [], ◌∷◌, subst}
-use Rattle.strm_types.specs.declared.spots.Spot.{Spot}
-use Rattle.strm_types.specs.Message.{Message}
-use Rattle.strm_blocks.specs.Blocks.{StoreValue}
+use Rattle.strm_frame.proofs.Prelude.{ℕ, ◌≡◌, List, [], ◌∷◌, subst}
+use Rattle.strm_frame.specs.Prelude.{Spot, Message, StoreValue}
 use Rattle.strm_frame.specs.declared.parcels.Sent.{Sent}
 use Rattle.strm_frame.specs.Does.{StaysAlone}
 use Rattle.strm_frame.specs.Outboxes.{parcel_in, parcels_in}

@@ -1,9 +1,7 @@
 -- Messages that are carried one after the other.
-use Rattle.std.proofs.Common.{ℕ, suc, ◌≡◌, List, [], ◌∷◌, ◌++◌, refl, sym}
-use Rattle.strm_types.specs.Message.{Message}
-use Rattle.strm_types.specs.declared.rules.Fates.{Fates}
-use Rattle.strm_types.specs.declared.spots.Spot.{Spot}
-use Rattle.strm_types.specs.Deliver.{Parcel, Fate, Took, Carried, in_turn, carried, tallied}
+use Rattle.strm_frame.proofs.Prelude.{ℕ, suc, ◌≡◌, List, [], ◌∷◌, ◌++◌, refl, sym}
+use Rattle.strm_frame.specs.Prelude.{Message, Fates, Spot, Parcel, Took, Carried, in_turn, carried, tallied}
+use Rattle.strm_types.specs.Deliver.{Fate}
 
 pub tallied-append : {C : Type 0} (xs ys : List (Fate C)) (counts : Fates) → tallied (xs ++ ys) counts ≡ tallied ys (tallied xs counts)
 tallied-append [] ys counts = refl

@@ -1,21 +1,11 @@
 -- What a put, a delivery, a call of a service procedure, the end of a turn and a pop did to a store and what stands beside it.
 use Rattle.std.specs.Prelude.{ℕ, ◌≡◌, ◌<◌, ◌≤◌, Bool, true, false, if◌then◌else◌, List, [], ◌∷◌, Option, IfSome}
 use Rattle.std.specs.Bool.{OnTrue}
+use Rattle.strm_frame.specs.Prelude.{Side, Way, Fates, Rule, Room, Spot, Acted, Carried, Parcel, Took, tallied, is_met, made_of, Message, Serving}
+use Rattle.strm_frame.specs.Prelude.{queues_cleared, most_made, StoreValue, FreesBlocks, FreesNone}
 use Rattle.strm_types.specs.declared.limits.TheConstants.{STOP_BLOCKS}
-use Rattle.strm_types.specs.declared.names.Side.{Side}
-use Rattle.strm_types.specs.declared.names.Way.{Way}
-use Rattle.strm_types.specs.declared.rules.Fates.{Fates}
-use Rattle.strm_types.specs.declared.rules.Rule.{Rule}
-use Rattle.strm_types.specs.declared.spots.Note.TheVariants.{Room}
-use Rattle.strm_types.specs.declared.spots.Spot.{Spot}
-use Rattle.strm_types.specs.Deliver.{Acted, Carried, Parcel, Took, tallied}
-use Rattle.strm_types.specs.Dropped.{is_met}
-use Rattle.strm_types.specs.Input.{made_of}
-use Rattle.strm_types.specs.Message.{Message, is_held}
-use Rattle.strm_types.specs.Service.{Serving, queues_cleared, most_made}
+use Rattle.strm_types.specs.Message.{is_held}
 use Rattle.strm_types.specs.Standings.{messages_on}
-use Rattle.strm_blocks.specs.Blocks.{StoreValue}
-use Rattle.strm_queue.specs.Stored.{FreesBlocks, FreesNone}
 use Rattle.strm_frame.specs.declared.modules.Acts.{Acts}
 use Rattle.strm_frame.specs.declared.modules.LetGo.{LetGo}
 use Rattle.strm_frame.specs.declared.parcels.Sent.{Sent}

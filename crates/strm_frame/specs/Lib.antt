@@ -1,3 +1,4 @@
+pub mod Prelude
 pub mod Outboxes
 pub mod Hands
 pub mod Serves

@@ -1,12 +1,8 @@
 -- Messages on their way, beside the store in which they are in hand.
 use Rattle.std.specs.Prelude.{ℕ, ◌+◌, List, [], ◌∷◌, ◌++◌}
 use Rattle.std.specs.Option.{option_to_list}
-use Rattle.strm_types.specs.declared.spots.Spot.{Spot}
-use Rattle.strm_types.specs.Message.{Message}
-use Rattle.strm_types.specs.Deliver.{Parcel}
-use Rattle.strm_types.specs.Shapes.{At, shape_of}
-use Rattle.strm_blocks.specs.Blocks.{StoreValue, in_hand, token}
-use Rattle.strm_msg.specs.Messages.{message_of, IsChain}
+use Rattle.strm_frame.specs.Prelude.{Spot, Message, Parcel, At, StoreValue, in_hand, token, message_of, IsChain}
+use Rattle.strm_types.specs.Shapes.{shape_of}
 use Rattle.strm_frame.specs.declared.parcels.Sent.{Sent}
 use Rattle.strm_frame.specs.declared.parcels.Outbox.{Outbox}
 use Rattle.strm_frame.specs.Hands.{once}

@@ -1,11 +1,7 @@
 -- What a service procedure may ask, where it may stop, and what it leaves room for.
 use Rattle.std.specs.Prelude.{ℕ, ◌≡◌, ◌+◌, min, Bool, true, false, if◌then◌else◌, List, map, slice_index_or, Option, None, Some}
-use Rattle.strm_types.specs.Deliver.{Parcel}
-use Rattle.strm_types.specs.Modules.{act_among}
-use Rattle.strm_types.specs.Service.{Serving}
-use Rattle.strm_blocks.specs.Blocks.{StoreValue, free_m, free_d}
+use Rattle.strm_frame.specs.Prelude.{Parcel, act_among, Serving, StoreValue, free_m, free_d, cost_of, most}
 use Rattle.strm_frame.specs.declared.service.Served.{Served}
-use Rattle.strm_types.specs.Budgets.{cost_of, most}
 
 -- what is in hand is the same, and the store has as many blocks
 pub record SameHand (old new : StoreValue) : Type 0 where

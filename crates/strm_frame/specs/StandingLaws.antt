@@ -3,11 +3,7 @@ use Rattle.std.specs.Prelude.{ℕ, ◌≡◌, ◌<◌, map, Option, None, Some, 
 use Rattle.std.proofs.Common.{eqb, cond, true, refl, sym, ap, subst, ◌∙◌, arith}
 use Rattle.std.proofs.lemmas.Bool.Decides.{nat_tests}
 use Rattle.strm_types.specs.Standings as plain
-use Rattle.strm_blocks.specs.Blocks.{StoreValue, list_at}
-use Rattle.strm_msg.specs.Messages.{AreMessages, message_of}
-use Rattle.strm_queue.specs.declared.queue.Queue.{Queue}
-use Rattle.strm_queue.specs.Kept.{AreCounted}
-use Rattle.strm_queue.specs.Stored.{IsReady, queue_in}
+use Rattle.strm_frame.specs.Prelude.{StoreValue, list_at, AreMessages, message_of, Queue, AreCounted, IsReady, queue_in}
 use Rattle.strm_frame.specs.declared.queue_pair.QueuePair.{QueuePair}
 use Rattle.strm_frame.specs.declared.standing.Standing.{Standing}
 use Rattle.strm_frame.specs.Hands.{SameOwn, once}

@@ -1,11 +1,7 @@
 -- Modules where they stand on a stream, each with the pair of queues that the stream gives it, beside a store.
 use Rattle.std.specs.Prelude.{ℕ, ◌<◌, ◌+◌, List, [], ◌∷◌, Option, None, Some, IfSome, option_map}
-use Rattle.strm_types.specs.declared.names.Way.{Way}
-use Rattle.strm_types.specs.declared.names.Way.TheVariants.{Up, Down}
+use Rattle.strm_frame.specs.Prelude.{Way, Up, Down, StoreValue, Queue, IsReady, queue_in}
 use Rattle.strm_types.specs.Standings as plain
-use Rattle.strm_blocks.specs.Blocks.{StoreValue}
-use Rattle.strm_queue.specs.declared.queue.Queue.{Queue}
-use Rattle.strm_queue.specs.Stored.{IsReady, queue_in}
 use Rattle.strm_frame.specs.declared.queue_pair.QueuePair.{QueuePair}
 use Rattle.strm_frame.specs.declared.standing.Standing.{Standing}
 use Rattle.strm_frame.specs.Hands.{once}

@@ -1,33 +1,23 @@
 -- What becomes of a message that comes up to a head, by its kind.
-use Rattle.std.proofs.Common.{ℕ, ◌≡◌, Bool, true, false, cond, List, [], ◌∷◌, length, refl, sym, ap, subst, ◌∙◌, arith}
-use Rattle.std.specs.Prelude.{not, ◌&&◌}
+use Rattle.strm_head.proofs.Prelude.{ℕ, ◌≡◌, Bool, true, false, cond, List, [], ◌∷◌, length, refl, sym, ap, subst, ◌∙◌, arith, not, ◌&&◌, used-is}
+use Rattle.strm_head.proofs.Prelude.{references-is, free_m-is, kind-is, plain-is}
+use Rattle.strm_head.specs.Prelude.{FlushAsked, MsgKind, Up, Doubled, Spot, Acted, Parcel, toward, Goes, is_data_kind, is_flush, flush_bytes}
+use Rattle.strm_head.specs.Prelude.{flush_message, is_pcproto, is_doubled, waits_for_readers, flush_up, obeyed, head_put, Message, cells_of, is_held}
+use Rattle.strm_head.specs.Prelude.{direction_at, Block, StoreValue, IsInHand, IsStore, block_at, dropped, list_at, names_of, bytes_of, message_of}
+use Rattle.strm_head.specs.Prelude.{AreMessages, IsChain, Queue, AreCounted, HoldsReadable, IsReady, messages_on}
 use Rattle.std.specs.List.{list_any}
-use Rattle.strm_types.specs.declared.flushing.FlushAsked.{FlushAsked}
-use Rattle.strm_types.specs.declared.kinds.MsgKind.{MsgKind}
 use Rattle.strm_types.specs.declared.kinds.MsgKind.TheVariants.{Flush}
 use Rattle.strm_types.specs.declared.kinds.MsgKind.TheVariants as kinds
-use Rattle.strm_types.specs.declared.names.Way.TheVariants.{Up, Down}
-use Rattle.strm_types.specs.declared.rules.Rule.TheVariants.{Doubled}
-use Rattle.strm_types.specs.declared.spots.Spot.{Spot}
-use Rattle.strm_types.specs.Deliver.{Acted, Parcel, toward, Goes}
-use Rattle.strm_types.specs.Flush.{is_data_kind}
-use Rattle.strm_types.specs.Flushing.{is_flush, asked_by, flush_bytes, flush_message}
-use Rattle.strm_types.specs.Heads.{is_pcproto, passed_by, is_doubled, waits_for_readers, turned_round, flush_up, obeyed, head_put, Head}
-use Rattle.strm_types.specs.Message.{Message, cells_of, is_held}
-use Rattle.strm_types.specs.Names.{direction_at}
+use Rattle.strm_types.specs.declared.names.Way.TheVariants.{Down}
+use Rattle.strm_types.specs.Flushing.{asked_by}
+use Rattle.strm_types.specs.Heads.{passed_by, turned_round, Head}
 use Rattle.strm_types.specs.Queue.{put_on}
-use Rattle.strm_blocks.specs.Blocks.{Block, StoreValue, IsInHand, IsStore, block_at, dropped, list_at, names_of}
 use Rattle.strm_blocks.specs.Outcomes.{seen_on, told}
-use Rattle.strm_blocks.proofs.Laws.{total-dropped, used-is, references-is, free_m-is, free_d-more}
-use Rattle.strm_msg.specs.Bytes.{bytes_of}
-use Rattle.strm_msg.specs.Messages.{message_of, AreMessages, IsChain}
-use Rattle.strm_msg.proofs.Chains.{kind-is}
-use Rattle.strm_msg.proofs.MadePlain.{parts-same, plain-is}
+use Rattle.strm_blocks.proofs.Laws.{total-dropped, free_d-more}
+use Rattle.strm_msg.proofs.MadePlain.{parts-same}
 use Rattle.strm_queue.proofs.Finding.{finds-on}
-use Rattle.strm_queue.specs.declared.queue.Queue.{Queue}
-use Rattle.strm_queue.specs.Kept.{AreCounted}
 use Rattle.strm_queue.specs.Queues.{OnlyCounts}
-use Rattle.strm_queue.specs.Stored.{Changes, FreesBlocks, HoldsReadable, IsReady, messages_on}
+use Rattle.strm_queue.specs.Stored.{Changes, FreesBlocks}
 use Rattle.strm_head.specs.declared.putting.Urgent.{Urgent}
 
 -- whether an M_PCPROTO stands among some messages

@@ -1,19 +1,10 @@
 -- An M_IOCTL that was made of its header, and of its bytes where there are some, is the one that was asked for.
-use Rattle.std.proofs.Common.{ℕ, ◌≡◌, ◌≤◌, ◌<◌, true, false, List, [], ◌∷◌, ◌++◌, length, refl, sym, ap, subst, ◌∙◌, arith, append-nil}
-use Rattle.std.specs.Prelude.{◌==◌, None}
-use Rattle.std.proofs.lemmas.Bool.Decides.{nat_tests}
-use Rattle.strm_types.specs.declared.ioctls.Ioc.{Ioc}
+use Rattle.strm_head.proofs.Prelude.{ℕ, ◌≡◌, ◌≤◌, ◌<◌, true, false, List, [], ◌∷◌, ◌++◌, length, refl, sym, ap, subst, ◌∙◌, arith, append-nil, ◌==◌}
+use Rattle.strm_head.proofs.Prelude.{None, nat_tests, plain-is, Made-one, Made-more}
+use Rattle.strm_head.specs.Prelude.{Ioc, is_data_kind, is_control_kind, Block, StoreValue, in_hand, dropped, changed, filled_block, copy_of, free_m}
+use Rattle.strm_head.specs.Prelude.{free_d, Copied, bytes_of, Made, message_of, IsChain}
 use Rattle.strm_types.specs.declared.kinds.MsgKind.TheVariants as kinds
-use Rattle.strm_types.specs.Flush.{is_data_kind}
 use Rattle.strm_types.specs.Ioctls.{ioc_bytes, ioctl_message}
-use Rattle.strm_types.specs.Kinds.{is_control_kind}
-use Rattle.strm_blocks.specs.Blocks.{Block, StoreValue, in_hand, dropped, changed, filled_block, copy_of, free_m, free_d}
-use Rattle.strm_blocks.specs.Outcomes.{Copied}
-use Rattle.strm_msg.specs.Bytes.{bytes_of}
-use Rattle.strm_msg.specs.Made.{Made}
-use Rattle.strm_msg.specs.Messages.{message_of, IsChain}
-use Rattle.strm_msg.proofs.MadePlain.{plain-is}
-use Rattle.strm_msg.proofs.Making.{Made-one, Made-more}
 use Rattle.strm_head.specs.Sending.{Sends, ioctl_blocks}
 use Rattle.strm_head.proofs.Sent.{one-copy, two-copies, sends}
 

@@ -1,11 +1,10 @@
 -- The first bytes of a chain, copied block by block.
-use Rattle.std.proofs.Common.{ℕ, ◌≡◌, ◌≤◌, ◌<◌, ◌+◌, ◌-◌, Bool, true, false, List, ◌++◌, length, take, drop, refl, sym, ap, ◌∙◌, arith, append_assoc, append-nil, length-append}
-use Rattle.std.specs.Prelude.{min, nat_le}
-use Rattle.std.proofs.lemmas.Bool.Decides.{nat_tests}
-use Rattle.std.proofs.lemmas.List.{take-append-le, take_all}
+use Rattle.strm_head.proofs.Prelude.{ℕ, ◌≡◌, ◌≤◌, ◌<◌, ◌+◌, ◌-◌, Bool, true, false, List, ◌++◌, length, take, drop, refl, sym, ap, ◌∙◌, arith}
+use Rattle.strm_head.proofs.Prelude.{append_assoc, append-nil, length-append, nat_le, nat_tests, take_all}
+use Rattle.strm_head.specs.Prelude.{Block, block_at, bytes_of}
+use Rattle.std.specs.Prelude.{min}
+use Rattle.std.proofs.lemmas.List.{take-append-le}
 use Rattle.std.proofs.Math.Seq.{take-append-add}
-use Rattle.strm_blocks.specs.Blocks.{Block, block_at}
-use Rattle.strm_msg.specs.Bytes.{bytes_of}
 use Rattle.strm_msg.proofs.Parts.{chain-at}
 
 -- the first of some bytes, and as many of those behind as are still wanted

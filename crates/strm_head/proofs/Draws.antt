@@ -1,15 +1,11 @@
 -- What one step of a read draws, on plain messages.
-use Rattle.std.proofs.Common.{ℕ, ◌≡◌, ◌≤◌, ◌<◌, ◌+◌, ◌-◌, Bool, true, false, cond, List, [], ◌∷◌, ◌++◌, length, take, drop, min, refl, sym, ap, subst, ◌∙◌, arith, append-nil}
-use Rattle.std.specs.Prelude.{◌==◌, ◌&&◌, ◌||◌, nat_lt}
-use Rattle.std.proofs.lemmas.Bool.Decides.{nat_tests}
-use Rattle.std.proofs.lemmas.List.{take_all, nil_from_length, length-take, length-drop}
+use Rattle.strm_head.proofs.Prelude.{ℕ, ◌≡◌, ◌≤◌, ◌<◌, ◌+◌, ◌-◌, Bool, true, false, cond, List, [], ◌∷◌, ◌++◌, length, take, drop, min, refl, sym, ap}
+use Rattle.strm_head.proofs.Prelude.{subst, ◌∙◌, arith, append-nil, ◌==◌, ◌&&◌, ◌||◌, nat_lt, nat_tests, take_all, nil_from_length, length-take}
+use Rattle.strm_head.proofs.Prelude.{length-drop}
+use Rattle.strm_head.specs.Prelude.{ReadMode, ByteStream, MessageKeep, MessageDiscard, ControlMode, Message, cells_of, Drawn, stopped, front_of}
+use Rattle.strm_head.specs.Prelude.{shown, offered, rest_after, control_gone, is_passed, is_refused, no_cells, wanted_after}
 use Rattle.std.proofs.Math.Decide.{dec_le}
-use Rattle.strm_types.specs.declared.modes.ReadMode.{ReadMode}
-use Rattle.strm_types.specs.declared.modes.ReadMode.TheVariants.{ByteStream, MessageKeep, MessageDiscard}
-use Rattle.strm_types.specs.declared.modes.ControlMode.{ControlMode}
-use Rattle.strm_types.specs.Message.{Message, cells_of}
 use Rattle.strm_types.specs.Queue.{put_back}
-use Rattle.strm_types.specs.Reads.{Drawn, stopped, front_of, shown, offered, rest_after, control_gone, is_passed, is_refused, no_cells, wanted_after}
 use Rattle.strm_head.specs.Drawing.{but_dropped, drawn_on, discards, first_goes, more_behind, Stepped}
 use Rattle.strm_head.proofs.Passed.{taken_of, drawn-taken, not-passed, not-refused, not-empty}
 

@@ -1,15 +1,10 @@
 -- What waits at a head is few enough for numbers of 32 bits.
-use Rattle.std.proofs.Common.{ℕ, ◌≤◌, List, [], ◌∷◌, arith, length-append}
+use Rattle.strm_head.proofs.Prelude.{ℕ, ◌≤◌, List, [], ◌∷◌, arith, length-append, sum_by-cons}
+use Rattle.strm_head.specs.Prelude.{first_data, Message, part, cells_of, size_of, StoreValue, IsStore, list_at, message_of, Queue, messages_on}
+use Rattle.strm_head.specs.Prelude.{IsReady}
 use Rattle.std.proofs.lemmas.List.{length-map}
-use Rattle.std.proofs.lemmas.List.Sums.{sum_by-cons}
 use Rattle.std.specs.Prelude.{length}
-use Rattle.strm_types.specs.Gets.{first_data}
-use Rattle.strm_types.specs.Message.{Message, part, cells_of, size_of}
 use Rattle.strm_types.specs.Queue.{bytes_of}
-use Rattle.strm_blocks.specs.Blocks.{StoreValue, IsStore, list_at}
-use Rattle.strm_msg.specs.Messages.{message_of}
-use Rattle.strm_queue.specs.declared.queue.Queue.{Queue}
-use Rattle.strm_queue.specs.Stored.{messages_on, IsReady}
 use Rattle.strm_queue.proofs.Bounds.{few-bytes}
 use Rattle.strm_queue.proofs.Sizes.{bytes-same, list-enough}
 

@@ -1,17 +1,13 @@
 -- Where a get finds the message that it asks for.
-use Rattle.std.specs.Prelude.{◌&&◌}
-use Rattle.std.proofs.Common.{ℕ, ◌≡◌, ◌<◌, ◌+◌, Bool, true, false, cond, not, List, [], ◌∷◌, ◌++◌, length, refl, sym, ap, subst, ◌∙◌, arith, length-append}
-use Rattle.strm_types.specs.declared.modes.Wanted.{Wanted}
-use Rattle.strm_types.specs.declared.names.Dir.{Dir}
+use Rattle.strm_head.proofs.Prelude.{◌&&◌, ℕ, ◌≡◌, ◌<◌, ◌+◌, Bool, true, false, cond, List, [], ◌∷◌, ◌++◌, length, refl, sym, ap, subst, ◌∙◌, arith}
+use Rattle.strm_head.proofs.Prelude.{length-append}
+use Rattle.strm_head.specs.Prelude.{Wanted, Dir, Fates, tallied, Goes, Got, is_wanted, got_none, parts_of, Message, part, left_with, relieved}
+use Rattle.strm_head.specs.Prelude.{relieves, no_cells, told_more}
+use Rattle.std.proofs.Common.{not}
 use Rattle.strm_types.specs.declared.rules.Rule.TheVariants.{Read}
-use Rattle.strm_types.specs.declared.rules.Fates.{Fates}
-use Rattle.strm_types.specs.Deliver.{tallied, Goes}
-use Rattle.strm_types.specs.Gets.{Got, is_wanted, got_none, parts_of, head_get}
+use Rattle.strm_types.specs.Gets.{head_get}
 use Rattle.strm_types.specs.GetQueues.{gets_none, cells_got, none_got, queue_got, writer_let_go, get_queue, get_lets_go, get_told}
-use Rattle.strm_types.specs.Message.{Message, part}
-use Rattle.strm_types.specs.Queue.{Queue, left_with, relieved, relieves}
-use Rattle.strm_types.specs.Reads.{no_cells}
-use Rattle.strm_types.specs.Rules.{told_more}
+use Rattle.strm_types.specs.Queue.{Queue}
 use Rattle.strm_head.specs.declared.getting.Gotten.{Gotten}
 use Rattle.strm_head.specs.Getting.{Gives}
 

@@ -1,9 +1,6 @@
 -- What the steps of a read come to together.
-use Rattle.std.proofs.Common.{ℕ, ◌≡◌, ◌<◌, ◌+◌, Bool, true, List, ◌++◌, length, sym, ap, ◌∙◌, arith, append-nil, append_assoc, length-append}
-use Rattle.strm_types.specs.declared.modes.ReadMode.{ReadMode}
-use Rattle.strm_types.specs.declared.modes.ControlMode.{ControlMode}
-use Rattle.strm_types.specs.Message.{Message}
-use Rattle.strm_types.specs.Reads.{Drawn, stopped}
+use Rattle.strm_head.proofs.Prelude.{ℕ, ◌≡◌, ◌<◌, ◌+◌, Bool, true, List, ◌++◌, length, sym, ap, ◌∙◌, arith, append-nil, append_assoc, length-append}
+use Rattle.strm_head.specs.Prelude.{ReadMode, ControlMode, Message, Drawn, stopped}
 use Rattle.strm_head.specs.Drawing.{drawn_on, Stepped}
 use Rattle.strm_head.proofs.Draws.{drawn-none}
 

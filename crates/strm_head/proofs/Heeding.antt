@@ -1,18 +1,16 @@
 -- What is read of the first bytes of a message that says something to a head.
-use Rattle.std.proofs.Common.{ℕ, ◌≡◌, ◌≤◌, ◌+◌, ◌-◌, min, Bool, cond, List, [], ◌∷◌, length, take, drop, refl, sym, ap, ◌∙◌, arith}
+use Rattle.strm_head.proofs.Prelude.{ℕ, ◌≡◌, ◌≤◌, ◌+◌, ◌-◌, min, Bool, cond, List, [], ◌∷◌, length, take, drop, refl, sym, ap, ◌∙◌, arith, nat_le}
+use Rattle.strm_head.proofs.Prelude.{◌==◌, Option, None, nat_tests, length-take, length-drop, take_all}
+use Rattle.strm_head.specs.Prelude.{Ioc, ReadMode, options_in, PlainSlot, slot_answered, filled}
 use Rattle.std.specs.Int.{w32, from_be_bytes}
-use Rattle.std.specs.Prelude.{nat_le, ◌==◌, Option, None, Some}
-use Rattle.std.proofs.lemmas.Bool.Decides.{nat_tests}
-use Rattle.std.proofs.lemmas.List.{length-take, length-drop, take_all, take_min, drop-take, take-take}
-use Rattle.strm_types.specs.declared.ioctls.Ioc.{Ioc}
+use Rattle.std.specs.Prelude.{Some}
+use Rattle.std.proofs.lemmas.List.{take_min, drop-take, take-take}
 use Rattle.strm_types.specs.Ioctls.{read_ioc, word_at}
-use Rattle.strm_types.specs.declared.modes.ReadMode.{ReadMode}
 use Rattle.strm_types.specs.declared.options.Marks.{Marks}
 use Rattle.strm_types.specs.declared.options.Options.{Options}
 use Rattle.strm_types.specs.declared.slots.Slot.TheVariants as slots
-use Rattle.strm_types.specs.Options.{are_marks, marks_in, mode_numbered, nothing_set, options_in, tostop_in, with_tostop}
-use Rattle.strm_types.specs.Slots.{PlainSlot, answer_body, slot_answered, slot_told, with_answer}
-use Rattle.strm_msg.specs.Taken.{filled}
+use Rattle.strm_types.specs.Options.{are_marks, marks_in, mode_numbered, nothing_set, tostop_in, with_tostop}
+use Rattle.strm_types.specs.Slots.{answer_body, slot_told, with_answer}
 use Rattle.strm_msg.proofs.Gathering.{filled-first}
 
 -- as many bytes of a buffer as a message has put there

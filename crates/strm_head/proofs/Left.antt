@@ -1,13 +1,11 @@
 -- What steps of a read leave of a list together, and which blocks are free then.
-use Rattle.std.proofs.Common.{ℕ, zero, suc, ◌≡◌, ◌≢◌, ◌<◌, ◌+◌, List, [], ◌∷◌, length, drop, inl, inr, refl, sym, ap, ◌∙◌, arith}
+use Rattle.strm_head.proofs.Prelude.{ℕ, ◌≡◌, ◌<◌, ◌+◌, List, [], ◌∷◌, length, drop, inl, inr, refl, sym, ap, ◌∙◌, arith, sum_by-cons, used-is}
+use Rattle.strm_head.proofs.Prelude.{references-is, free_m-is, has-list}
+use Rattle.strm_head.specs.Prelude.{Block, StoreValue, IsStore, list_at, names_of, Queue, Keeps}
+use Rattle.std.proofs.Common.{zero, suc, ◌≢◌}
 use Rattle.std.specs.Prelude.{sum_by, slice_index_or}
 use Rattle.std.proofs.lemmas.List.{drop-drop}
-use Rattle.std.proofs.lemmas.List.Sums.{sum_by-cons}
-use Rattle.strm_blocks.specs.Blocks.{Block, Held, StoreValue, IsStore, list_at, names_of}
-use Rattle.strm_blocks.proofs.Laws.{used-is, references-is, free_m-is}
-use Rattle.strm_queue.specs.declared.queue.Queue.{Queue}
-use Rattle.strm_queue.specs.Stored.{Keeps}
-use Rattle.strm_queue.proofs.Gotten.{has-list}
+use Rattle.strm_blocks.specs.Blocks.{Held}
 use Rattle.strm_head.specs.Leaving.{Taken, PartTaken, Leaves, StepLeaves, Frees}
 
 pub taken-none : (q new : List (List Block)) → new ≡ q → Taken q new

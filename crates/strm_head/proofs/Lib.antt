@@ -1,3 +1,4 @@
+pub mod Prelude
 pub mod Draws
 pub mod Seen
 pub mod Passed

@@ -1,20 +1,11 @@
 -- A message of one block that was made to go down: a chunk of a write, or an M_FLUSH.
-use Rattle.std.proofs.Common.{ℕ, ◌≡◌, ◌≤◌, false, cond, List, [], ◌∷◌, length, None, Some, refl, ap, ◌∙◌, arith, append-nil}
-use Rattle.std.specs.Prelude.{nat_lt}
-use Rattle.std.proofs.lemmas.Bool.Decides.{nat_tests}
+use Rattle.strm_head.proofs.Prelude.{ℕ, ◌≡◌, ◌≤◌, false, cond, List, [], ◌∷◌, length, Some, refl, ap, ◌∙◌, arith, append-nil, nat_lt, nat_tests}
+use Rattle.strm_head.proofs.Prelude.{plain-is, Made-one}
+use Rattle.strm_head.specs.Prelude.{Band, Erange, is_data_kind, flush_message, is_control_kind, put_refusal, Block, StoreValue, filled_block, copy_of}
+use Rattle.strm_head.specs.Prelude.{Copied, message_of, IsChain}
+use Rattle.std.proofs.Common.{None}
 use Rattle.strm_types.specs.declared.kinds.MsgKind.TheVariants as kinds
-use Rattle.strm_types.specs.declared.modes.Prio.TheVariants.{Band}
-use Rattle.strm_types.specs.declared.refusals.Refusal.TheVariants.{Erange}
-use Rattle.strm_types.specs.Flush.{is_data_kind}
-use Rattle.strm_types.specs.Flushing.{flush_message}
-use Rattle.strm_types.specs.Kinds.{is_control_kind}
 use Rattle.strm_types.specs.Message.{data_message}
-use Rattle.strm_types.specs.PutMsg.{put_refusal}
-use Rattle.strm_blocks.specs.Blocks.{Block, StoreValue, filled_block, copy_of}
-use Rattle.strm_blocks.specs.Outcomes.{Copied}
-use Rattle.strm_msg.specs.Messages.{message_of, IsChain}
-use Rattle.strm_msg.proofs.MadePlain.{plain-is}
-use Rattle.strm_msg.proofs.Making.{Made-one}
 use Rattle.strm_head.specs.Sending.{Sends}
 use Rattle.strm_head.proofs.Sent.{made-data, one-copy, sends}
 

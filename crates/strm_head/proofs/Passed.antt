@@ -1,13 +1,9 @@
 -- What a read passes over on its way changes nothing of what it takes but what is dropped.
-use Rattle.std.proofs.Common.{ℕ, ◌≡◌, ◌<◌, Bool, true, false, cond, List, [], ◌∷◌, ◌++◌, length, drop, refl, sym, ap, ◌∙◌, arith, append_assoc, append-nil}
-use Rattle.std.specs.Prelude.{not, ◌==◌, ◌&&◌, ◌||◌, nat_lt}
-use Rattle.std.proofs.lemmas.Bool.Decides.{nat_tests}
-use Rattle.strm_types.specs.declared.modes.ReadMode.{ReadMode}
-use Rattle.strm_types.specs.declared.modes.ReadMode.TheVariants.{ByteStream, MessageKeep, MessageDiscard}
-use Rattle.strm_types.specs.declared.modes.ControlMode.{ControlMode}
-use Rattle.strm_types.specs.declared.modes.ControlMode.TheVariants.{Refuse, Data, Discard}
-use Rattle.strm_types.specs.Message.{Message}
-use Rattle.strm_types.specs.Reads.{Drawn, drawn, stopped, emptied_of, front_of, and_more, all_cells, control_gone, shown, offered, is_passed, is_refused, no_cells, wanted_after}
+use Rattle.strm_head.proofs.Prelude.{ℕ, ◌≡◌, ◌<◌, Bool, true, false, cond, List, [], ◌∷◌, ◌++◌, length, drop, refl, sym, ap, ◌∙◌, arith, append_assoc}
+use Rattle.strm_head.proofs.Prelude.{append-nil, not, ◌==◌, ◌&&◌, ◌||◌, nat_lt, nat_tests}
+use Rattle.strm_head.specs.Prelude.{ReadMode, ByteStream, MessageKeep, MessageDiscard, ControlMode, Refuse, Data, Discard, Message, Drawn, drawn}
+use Rattle.strm_head.specs.Prelude.{stopped, front_of, control_gone, shown, offered, is_passed, is_refused, no_cells, wanted_after}
+use Rattle.strm_types.specs.Reads.{emptied_of, and_more, all_cells}
 use Rattle.strm_head.specs.Drawing.{but_dropped, drawn_on, behind_passed, first_passed, first_goes, drops_control}
 
 or-true : (b : Bool) → (b || true) ≡ true

@@ -1,13 +1,9 @@
 -- How much of a part a get gives, by the blocks of the part.
-use Rattle.std.proofs.Common.{ℕ, ◌≡◌, ◌≤◌, min, Bool, List, [], ◌∷◌, ◌++◌, length, append-nil, take, drop, Option, Some, refl, sym, ap, ◌∙◌, arith, unwrap_or, inl, inr}
-use Rattle.std.specs.Prelude.{nat_lt, option_map}
+use Rattle.strm_head.proofs.Prelude.{ℕ, ◌≡◌, ◌≤◌, min, Bool, List, [], ◌∷◌, ◌++◌, length, append-nil, take, drop, Some, refl, sym, ap, ◌∙◌, arith}
+use Rattle.strm_head.proofs.Prelude.{inl, inr, nat_lt, option_map, length-take, length-take-le, take_all, drop_all}
+use Rattle.strm_head.specs.Prelude.{part, Block, bytes_of, length_of_part, part_of, filled}
+use Rattle.std.proofs.Common.{Option, unwrap_or}
 use Rattle.std.proofs.lemmas.Bool.{cases_lt}
-use Rattle.std.proofs.lemmas.List.{length-take, length-take-le, take_all, drop_all}
-use Rattle.strm_types.specs.Message.{part}
-use Rattle.strm_blocks.specs.Blocks.{Block}
-use Rattle.strm_msg.specs.Bytes.{bytes_of, length_of_part}
-use Rattle.strm_msg.specs.Messages.{part_of}
-use Rattle.strm_msg.specs.Taken.{filled}
 
 -- bytes that are taken by the lesser number
 take-least : (k n : ℕ) (xs : List ℕ) → n ≡ min k (length xs) → take n xs ≡ take k xs

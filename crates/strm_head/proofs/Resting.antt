@@ -1,23 +1,21 @@
 -- A chain whose blocks without bytes were freed is what the plain message leaves.
-use Rattle.std.proofs.Common.{ℕ, ◌≡◌, ◌<◌, inl, inr, Bool, true, false, cond, List, [], ◌∷◌, ◌++◌, length, refl, sym, ap, subst, ◌∙◌, arith, append-nil, length-append}
-use Rattle.std.specs.Prelude.{None, Some, nat_lt, unwrap_or, Option}
+use Rattle.strm_head.proofs.Prelude.{ℕ, ◌≡◌, ◌<◌, inl, inr, Bool, true, false, cond, List, [], ◌∷◌, ◌++◌, length, refl, sym, ap, subst, ◌∙◌, arith}
+use Rattle.strm_head.proofs.Prelude.{append-nil, length-append, None, nat_lt, unwrap_or, Option, nil_from_length, control-none, control-front}
+use Rattle.strm_head.proofs.Prelude.{data-all, data-behind, data-control, data_in}
+use Rattle.strm_head.specs.Prelude.{MsgKind, is_data_kind, is_control_kind, Message, part, band_of, is_high_priority, part_left, rest_with, Block}
+use Rattle.strm_head.specs.Prelude.{block_at, bytes_of, control_blocks, data_blocks, control_bytes, data_bytes, length_of_part, without_emptied}
+use Rattle.strm_head.specs.Prelude.{message_of, part_of, AreData, IsChain}
+use Rattle.std.specs.Prelude.{Some}
 use Rattle.std.specs.List.{AllByRecursion}
 use Rattle.std.proofs.Math.Decide.{dec_le}
-use Rattle.std.proofs.lemmas.List.{nil_from_length}
 use Rattle.std.proofs.lemmas.List.Elements.{filter-append}
-use Rattle.strm_types.specs.declared.kinds.MsgKind.{MsgKind}
 use Rattle.strm_types.specs.declared.kinds.MsgKind.TheVariants as kinds
-use Rattle.strm_types.specs.Flush.{is_data_kind}
-use Rattle.strm_types.specs.Kinds.{is_control_kind}
-use Rattle.strm_types.specs.Message.{Message, part, band_of, is_high_priority}
-use Rattle.strm_types.specs.Reads.{part_left, rest_with}
-use Rattle.strm_blocks.specs.Blocks.{Block, banded, block_at}
-use Rattle.strm_msg.specs.Bytes.{bytes_of, control_blocks, data_blocks, control_bytes, data_bytes, length_of_part}
-use Rattle.strm_msg.specs.Emptied.{filled_blocks, without_emptied}
-use Rattle.strm_msg.specs.Messages.{message_of, part_of, AreData, IsParted, IsChain}
+use Rattle.strm_blocks.specs.Blocks.{banded}
+use Rattle.strm_msg.specs.Emptied.{filled_blocks}
+use Rattle.strm_msg.specs.Messages.{IsParted}
 use Rattle.strm_msg.proofs.AdjustingBytes.{bytes-append}
-use Rattle.strm_msg.proofs.Chains.{control-none, control-front, data-all, data-behind, data-control, data-or-control}
-use Rattle.strm_msg.proofs.Chains.{data_in, data-shown}
+use Rattle.strm_msg.proofs.Chains.{data-or-control}
+use Rattle.strm_msg.proofs.Chains.{data-shown}
 use Rattle.strm_msg.proofs.Filled.{filled-bytes, filled-goes}
 use Rattle.strm_head.proofs.Seen.{parts-shown}
 

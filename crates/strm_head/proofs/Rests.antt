@@ -1,22 +1,12 @@
 -- What is left of a message of which a read or a get took some bytes, as its chain of blocks and by the definition.
-use Rattle.std.proofs.Common.{ℕ, ◌≡◌, ◌<◌, ◌+◌, ◌-◌, min, Bool, true, false, cond, List, [], ◌∷◌, ◌++◌, length, map, drop, Some, sym, ap, ◌∙◌, arith, length-append}
-use Rattle.std.specs.Prelude.{nat_lt, ◌||◌}
-use Rattle.std.proofs.lemmas.Bool.Decides.{nat_tests}
-use Rattle.std.proofs.lemmas.List.{length-drop}
-use Rattle.strm_types.specs.declared.kinds.MsgKind.{MsgKind}
+use Rattle.strm_head.proofs.Prelude.{ℕ, ◌≡◌, ◌<◌, ◌+◌, ◌-◌, min, Bool, true, false, cond, List, [], ◌∷◌, ◌++◌, length, map, drop, Some, sym, ap, ◌∙◌}
+use Rattle.strm_head.proofs.Prelude.{arith, length-append, nat_lt, ◌||◌, nat_tests, length-drop, data_in, data-cut}
+use Rattle.strm_head.specs.Prelude.{MsgKind, is_data_kind, Message, part, band_of, is_high_priority, part_left, rest_with, rest_after, Block}
+use Rattle.strm_head.specs.Prelude.{block_at, without_bytes, bytes_of, control_blocks, control_bytes, data_blocks, data_bytes, without_emptied}
+use Rattle.strm_head.specs.Prelude.{message_of, part_of, IsChain, without_control}
 use Rattle.strm_types.specs.declared.kinds.MsgKind.TheVariants as kinds
-use Rattle.strm_types.specs.Flush.{is_data_kind}
-use Rattle.strm_types.specs.Message.{Message, part, band_of, is_high_priority}
-use Rattle.strm_types.specs.Reads.{part_left, rest_with, rest_after}
-use Rattle.strm_blocks.specs.Blocks.{Block, block_at}
-use Rattle.strm_msg.specs.Adjusted.{without_bytes}
-use Rattle.strm_msg.specs.Bytes.{bytes_of, control_blocks, control_bytes, data_blocks, data_bytes}
-use Rattle.strm_msg.specs.Emptied.{without_emptied}
-use Rattle.strm_msg.specs.Messages.{message_of, part_of, IsChain}
-use Rattle.strm_msg.specs.Taken.{without_control}
-use Rattle.strm_msg.proofs.Chains.{data_in}
 use Rattle.strm_msg.proofs.Taking.{data-without, control-without, drop-least}
-use Rattle.strm_msg.proofs.Cutting.{control-cut, data-cut, cut-keeps, data-keeps, alike-kind, alike-band, alike-chain, bytes-parts}
+use Rattle.strm_msg.proofs.Cutting.{control-cut, cut-keeps, data-keeps, alike-kind, alike-band, alike-chain, bytes-parts}
 use Rattle.strm_head.specs.Parted.{cut_by, rest_chain}
 use Rattle.strm_head.proofs.Resting.{part-bytes, Remains, remains}
 use Rattle.strm_head.proofs.Seen.{parts-shown}

@@ -1,24 +1,14 @@
 -- What a queue's first message leaves once it is freed, or put back changed.
-use Rattle.std.proofs.Common.{ℕ, ◌≡◌, ◌<◌, Bool, true, false, List, length, map, refl, sym, ap, subst, ◌∙◌, arith, length-set, cond}
-use Rattle.strm_types.specs.declared.kinds.MsgKind.{MsgKind}
+use Rattle.strm_head.proofs.Prelude.{ℕ, ◌≡◌, ◌<◌, Bool, true, false, List, length, map, refl, sym, ap, subst, ◌∙◌, arith, length-set, cond}
+use Rattle.strm_head.proofs.Prelude.{dropped-held, in_hand-held, put_back-chains, put_back-messages, put_back-holds, first-holds, rest-messages}
+use Rattle.strm_head.proofs.Prelude.{rest-holds, left, off, chain-is, behind, Landed, landed, landed-again, keeps-landed, changed-held}
+use Rattle.strm_head.specs.Prelude.{MsgKind, is_high_priority, Block, StoreValue, list_at, in_hand, held, dropped, changed, placed, block_at}
+use Rattle.strm_head.specs.Prelude.{put_back, Popped, without_bytes, without_emptied, message_of, IsChain, AreMessages, Queue, plain_flows}
+use Rattle.strm_head.specs.Prelude.{AreCounted, messages_on, Holds, IsReady, Keeps, SameFlags}
 use Rattle.strm_types.specs.declared.kinds.MsgKind.TheVariants as kinds
 use Rattle.strm_types.specs.Flush.{counted_band}
-use Rattle.strm_types.specs.Message.{is_high_priority}
 use Rattle.strm_types.specs.Queue as plain
-use Rattle.strm_blocks.specs.Blocks.{Block, StoreValue, list_at, in_hand, held, dropped, changed, placed, block_at, put_back}
-use Rattle.strm_blocks.specs.Outcomes.{Popped}
-use Rattle.strm_blocks.proofs.Laws.{dropped-held, in_hand-held}
-use Rattle.strm_msg.specs.Adjusted.{without_bytes}
-use Rattle.strm_msg.specs.Emptied.{without_emptied, Beside}
-use Rattle.strm_msg.specs.Messages.{message_of, IsChain, AreMessages}
-use Rattle.strm_msg.proofs.Chains.{put_back-chains}
-use Rattle.strm_queue.specs.declared.queue.Queue.{Queue}
-use Rattle.strm_queue.specs.Flows.{plain_flows}
-use Rattle.strm_queue.specs.Kept.{AreCounted}
-use Rattle.strm_queue.specs.Stored.{messages_on, Holds, IsReady, Keeps, SameFlags}
-use Rattle.strm_queue.proofs.Holding.{put_back-messages, put_back-holds, first-holds, rest-messages, rest-holds}
-use Rattle.strm_queue.proofs.Gotten.{left, off, chain-is, behind}
-use Rattle.strm_queue.proofs.Placed.{Landed, landed, landed-again, keeps-landed, changed-held}
+use Rattle.strm_msg.specs.Emptied.{Beside}
 use Rattle.strm_head.specs.Leaving.{PartTaken}
 
 -- a message that is put on a list

@@ -1,25 +1,16 @@
 -- What is seen of the messages of a head without taking them is what they have.
-use Rattle.std.proofs.Common.{ℕ, ◌≡◌, Bool, true, false, cond, List, [], ◌∷◌, length, map, refl, sym, ap, ◌∙◌, arith}
-use Rattle.std.specs.Prelude.{Option, None, Some, is_none, is_some, unwrap_or, not, ◌==◌, ◌&&◌, ◌||◌, nat_le, nat_lt}
+use Rattle.strm_head.proofs.Prelude.{ℕ, ◌≡◌, Bool, true, false, cond, List, [], ◌∷◌, length, map, refl, sym, ap, ◌∙◌, arith, Option, None, is_none}
+use Rattle.strm_head.proofs.Prelude.{unwrap_or, not, ◌==◌, ◌&&◌, ◌||◌, nat_le, nat_lt, nat_tests, kind-is, band-is}
+use Rattle.strm_head.specs.Prelude.{ControlMode, Refuse, Data, Discard, Wanted, Any, is_wanted, first_data, Eagain, is_data_kind, is_control_kind}
+use Rattle.strm_head.specs.Prelude.{Message, part, cells_of, size_of, is_high_priority, first_size, is_passed, is_refused, no_cells, starts_refused}
+use Rattle.strm_head.specs.Prelude.{takes_none, Block, block_at, Peek, control_blocks, data_blocks, length_of_part, message_of, part_of}
+use Rattle.std.specs.Prelude.{Some, is_some}
 use Rattle.std.specs.List.{AllByRecursion}
-use Rattle.std.proofs.lemmas.Bool.Decides.{nat_tests}
-use Rattle.strm_types.specs.declared.modes.ControlMode.{ControlMode}
-use Rattle.strm_types.specs.declared.modes.ControlMode.TheVariants.{Refuse, Data, Discard}
-use Rattle.strm_types.specs.declared.modes.Wanted.{Wanted}
-use Rattle.strm_types.specs.declared.modes.Wanted.TheVariants.{Any, High, Band}
-use Rattle.strm_types.specs.Gets.{is_wanted, get_refusal, first_data}
-use Rattle.strm_types.specs.declared.refusals.Refusal.TheVariants.{Eagain}
-use Rattle.strm_types.specs.Flush.{is_data_kind}
-use Rattle.strm_types.specs.Kinds.{is_control_kind}
-use Rattle.strm_types.specs.Message.{Message, part, cells_of, size_of, is_high_priority}
-use Rattle.strm_types.specs.Queue.{first_size, is_none_left}
-use Rattle.strm_types.specs.Reads.{is_there, is_passed, is_refused, no_cells, finds_none, starts_refused, takes_none}
-use Rattle.strm_blocks.specs.Blocks.{Block, block_at}
+use Rattle.strm_types.specs.declared.modes.Wanted.TheVariants.{High, Band}
+use Rattle.strm_types.specs.Gets.{get_refusal}
+use Rattle.strm_types.specs.Queue.{is_none_left}
+use Rattle.strm_types.specs.Reads.{is_there, finds_none}
 use Rattle.strm_blocks.specs.Outcomes.{Peeked}
-use Rattle.strm_blocks.specs.declared.asked.Peek.{Peek}
-use Rattle.strm_msg.specs.Bytes.{control_blocks, data_blocks, length_of_part}
-use Rattle.strm_msg.specs.Messages.{message_of, part_of}
-use Rattle.strm_msg.proofs.Chains.{kind-is, band-is}
 use Rattle.strm_msg.proofs.Parts.{control-blocks-cons}
 use Rattle.strm_queue.specs.Lengths.{length_on, or_next}
 use Rattle.strm_head.specs.Drawing.{behind_passed, drops_control, first_passed, first_goes, goes}

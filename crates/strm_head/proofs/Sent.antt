@@ -1,24 +1,15 @@
 -- A message that was made of a control part, a data part or both is the one that was asked for.
-use Rattle.std.proofs.Common.{ℕ, ◌≡◌, ◌≤◌, ◌<◌, Bool, true, false, cond, List, [], ◌∷◌, ◌++◌, length, Option, None, Some, refl, sym, ap, subst, ◌∙◌, arith, append-nil}
-use Rattle.std.specs.Prelude.{nat_lt, ◌||◌}
-use Rattle.std.proofs.lemmas.Bool.Decides.{nat_tests}
-use Rattle.strm_types.specs.declared.kinds.MsgKind.{MsgKind}
+use Rattle.strm_head.proofs.Prelude.{ℕ, ◌≡◌, ◌≤◌, ◌<◌, Bool, true, false, cond, List, [], ◌∷◌, ◌++◌, length, Some, refl, sym, ap, subst, ◌∙◌, arith}
+use Rattle.strm_head.proofs.Prelude.{append-nil, nat_lt, ◌||◌, nat_tests, in_hand-held, Made-one, Made-more, control-front, data-behind, control-none}
+use Rattle.strm_head.proofs.Prelude.{data-all, data-control}
+use Rattle.strm_head.specs.Prelude.{MsgKind, Prio, High, Band, Erange, is_data_kind, is_control_kind, Message, part, is_high_priority, put_refusal}
+use Rattle.strm_head.specs.Prelude.{Block, StoreValue, in_hand, held, dropped, changed, filled_block, copy_of, free_m, free_d, Copied, control_blocks}
+use Rattle.strm_head.specs.Prelude.{data_blocks, Made, message_of, part_of, AreData, IsChain}
+use Rattle.std.proofs.Common.{Option, None}
 use Rattle.strm_types.specs.declared.kinds.MsgKind.TheVariants as kinds
-use Rattle.strm_types.specs.declared.modes.Prio.{Prio}
-use Rattle.strm_types.specs.declared.modes.Prio.TheVariants.{High, Band}
-use Rattle.strm_types.specs.declared.refusals.Refusal.TheVariants.{Einval, Erange}
-use Rattle.strm_types.specs.Flush.{is_data_kind}
-use Rattle.strm_types.specs.Kinds.{is_control_kind}
-use Rattle.strm_types.specs.Message.{Message, part, is_high_priority}
-use Rattle.strm_types.specs.PutMsg.{put_band, put_message, put_blocks, put_refusal, is_no_prio, is_too_long}
-use Rattle.strm_blocks.specs.Blocks.{Block, StoreValue, in_hand, held, dropped, changed, filled_block, copy_of, free_m, free_d}
-use Rattle.strm_blocks.specs.Outcomes.{Copied}
-use Rattle.strm_blocks.proofs.Laws.{in_hand-held}
-use Rattle.strm_msg.specs.Bytes.{control_blocks, data_blocks}
-use Rattle.strm_msg.specs.Made.{Made, copies_of}
-use Rattle.strm_msg.specs.Messages.{message_of, part_of, AreData, IsChain}
-use Rattle.strm_msg.proofs.Making.{Made-one, Made-more}
-use Rattle.strm_msg.proofs.Chains.{control-front, data-behind, control-none, data-all, data-control}
+use Rattle.strm_types.specs.declared.refusals.Refusal.TheVariants.{Einval}
+use Rattle.strm_types.specs.PutMsg.{put_band, put_message, put_blocks, is_no_prio, is_too_long}
+use Rattle.strm_msg.specs.Made.{copies_of}
 use Rattle.strm_head.specs.Sending.{control_kind, Sends}
 use Rattle.strm_head.proofs.Seen.{parts-shown}
 

@@ -1,16 +1,9 @@
 -- The chain of a message of which a read takes bytes is that of what the plain message shows to it.
-use Rattle.std.proofs.Common.{ℕ, ◌≡◌, ◌-◌, true, List, [], ◌++◌, length, drop, map, None, Some, refl, sym, ap, ◌∙◌, arith}
-use Rattle.std.proofs.lemmas.List.{drop_all}
+use Rattle.strm_head.proofs.Prelude.{ℕ, ◌≡◌, ◌-◌, true, List, [], ◌++◌, length, drop, map, Some, refl, sym, ap, ◌∙◌, arith, drop_all}
+use Rattle.strm_head.specs.Prelude.{ControlMode, Refuse, Data, Discard, is_data_kind, Message, part, cells_of, rest_with, rest_after, shown, offered}
+use Rattle.strm_head.specs.Prelude.{Block, block_at, without_bytes, bytes_of, control_bytes, data_bytes, message_of, IsChain}
+use Rattle.std.proofs.Common.{None}
 use Rattle.strm_types.specs.declared.kinds.MsgKind.TheVariants as kinds
-use Rattle.strm_types.specs.declared.modes.ControlMode.{ControlMode}
-use Rattle.strm_types.specs.declared.modes.ControlMode.TheVariants.{Refuse, Data, Discard}
-use Rattle.strm_types.specs.Flush.{is_data_kind}
-use Rattle.strm_types.specs.Message.{Message, part, cells_of}
-use Rattle.strm_types.specs.Reads.{rest_with, rest_after, shown, offered}
-use Rattle.strm_blocks.specs.Blocks.{Block, block_at}
-use Rattle.strm_msg.specs.Adjusted.{without_bytes}
-use Rattle.strm_msg.specs.Bytes.{bytes_of, control_bytes, data_bytes}
-use Rattle.strm_msg.specs.Messages.{message_of, IsChain}
 use Rattle.strm_msg.proofs.Chains.{cells-shown}
 use Rattle.strm_head.specs.Parted.{cut_by, shown_chain}
 use Rattle.strm_head.proofs.Resting.{band-same, data-low}

@@ -1,23 +1,13 @@
 -- What a get takes of a queue's first message, and what is there then.
-use Rattle.std.proofs.Common.{ℕ, ◌≡◌, ◌<◌, Bool, true, false, cond, if◌then◌else◌, List, ◌∷◌, length, map, refl, sym, ap, subst, ◌∙◌, arith, length-set}
-use Rattle.strm_types.specs.declared.kinds.MsgKind.{MsgKind}
+use Rattle.strm_head.proofs.Prelude.{ℕ, ◌≡◌, ◌<◌, Bool, true, false, cond, List, ◌∷◌, length, map, refl, sym, ap, subst, ◌∙◌, arith, length-set}
+use Rattle.strm_head.proofs.Prelude.{dropped-held, in_hand-held, put_back-chains, left, off, chain-is, first-holds, rest-messages, rest-holds}
+use Rattle.strm_head.proofs.Prelude.{put_back-messages, put_back-holds, Landed, landed, landed-again, keeps-landed, changed-held}
+use Rattle.strm_head.specs.Prelude.{MsgKind, Message, Block, StoreValue, list_at, in_hand, held, dropped, changed, placed, block_at, put_back, Popped}
+use Rattle.strm_head.specs.Prelude.{without_bytes, without_emptied, message_of, IsChain, AreMessages, Queue, plain_flows, AreCounted, queue_in}
+use Rattle.strm_head.specs.Prelude.{messages_on, Holds, IsReady, Keeps}
+use Rattle.std.proofs.Common.{if◌then◌else◌}
 use Rattle.strm_types.specs.declared.kinds.MsgKind.TheVariants as kinds
-use Rattle.strm_types.specs.Message.{Message}
 use Rattle.strm_types.specs.Queue as plain
-use Rattle.strm_blocks.specs.Blocks.{Block, StoreValue, list_at, in_hand, held, dropped, changed, placed, block_at, put_back}
-use Rattle.strm_blocks.specs.Outcomes.{Popped}
-use Rattle.strm_blocks.proofs.Laws.{dropped-held, in_hand-held}
-use Rattle.strm_msg.specs.Adjusted.{without_bytes}
-use Rattle.strm_msg.specs.Emptied.{without_emptied}
-use Rattle.strm_msg.specs.Messages.{message_of, IsChain, AreMessages}
-use Rattle.strm_msg.proofs.Chains.{put_back-chains}
-use Rattle.strm_queue.specs.declared.queue.Queue.{Queue}
-use Rattle.strm_queue.specs.Flows.{plain_flows}
-use Rattle.strm_queue.specs.Kept.{AreCounted}
-use Rattle.strm_queue.specs.Stored.{queue_in, messages_on, Holds, IsReady, Keeps}
-use Rattle.strm_queue.proofs.Gotten.{left, off, chain-is}
-use Rattle.strm_queue.proofs.Holding.{first-holds, rest-messages, rest-holds, put_back-messages, put_back-holds}
-use Rattle.strm_queue.proofs.Placed.{Landed, landed, landed-again, keeps-landed, changed-held}
 use Rattle.strm_head.specs.Getting.{put_rest}
 use Rattle.strm_head.specs.Leaving.{Leaves}
 use Rattle.strm_head.proofs.Left.{leaves-part, leaves-taken, taken-first}

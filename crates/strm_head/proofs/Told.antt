@@ -1,26 +1,17 @@
 -- What is told of a read, and what becomes of the queue.
-use Rattle.std.proofs.Common.{ℕ, ◌≡◌, ◌+◌, ◌-◌, Bool, true, false, cond, List, [], ◌∷◌, length, map, refl, sym, ap, subst, ◌∙◌, arith}
+use Rattle.strm_head.proofs.Prelude.{ℕ, ◌≡◌, ◌+◌, ◌-◌, Bool, true, false, cond, List, [], ◌∷◌, length, map, refl, sym, ap, subst, ◌∙◌, arith}
+use Rattle.strm_head.proofs.Prelude.{sum_by-cons, data-readable}
+use Rattle.strm_head.specs.Prelude.{ReadMode, ControlMode, Dir, Fates, tallied, is_data_kind, Message, cells_of, size_of, left_with, relieved}
+use Rattle.strm_head.specs.Prelude.{relieves, head_draw, takes_none, none_went, Block, StoreValue, block_at, list_at, message_of, Queue, plain_flows}
+use Rattle.strm_head.specs.Prelude.{messages_on, queue_in, HoldsReadable, IsHeadQueue, Keeps}
 use Rattle.std.specs.Prelude.{count_by}
 use Rattle.std.specs.List.{AllByRecursion}
-use Rattle.std.proofs.lemmas.List.Sums.{sum_by-cons}
-use Rattle.strm_types.specs.declared.modes.ReadMode.{ReadMode}
-use Rattle.strm_types.specs.declared.modes.ControlMode.{ControlMode}
-use Rattle.strm_types.specs.declared.names.Dir.{Dir}
-use Rattle.strm_types.specs.declared.rules.Fates.{Fates}
-use Rattle.strm_types.specs.Deliver.{tallied}
-use Rattle.strm_types.specs.Flush.{is_data_kind}
-use Rattle.strm_types.specs.Message.{Message, cells_of, size_of, weight_of}
+use Rattle.strm_types.specs.Message.{weight_of}
 use Rattle.strm_types.specs.Queue as plain
-use Rattle.strm_types.specs.Queue.{weight, bytes_of, left_with, relieved, relieves}
-use Rattle.strm_types.specs.Reads.{head_draw, takes_none, none_went, queue_drawn, writer_goes, read_fates, read_told, read_queue, read_lets_go}
+use Rattle.strm_types.specs.Queue.{weight, bytes_of}
+use Rattle.strm_types.specs.Reads.{queue_drawn, writer_goes, read_fates, read_told, read_queue, read_lets_go}
 use Rattle.strm_types.proofs.ReadKeeps.{head_draw-keeps}
-use Rattle.strm_blocks.specs.Blocks.{Block, StoreValue, block_at, list_at}
-use Rattle.strm_msg.specs.Messages.{message_of}
 use Rattle.strm_msg.proofs.MadePlain.{plain-none}
-use Rattle.strm_queue.specs.declared.queue.Queue.{Queue}
-use Rattle.strm_queue.specs.Flows.{plain_flows}
-use Rattle.strm_queue.specs.Stored.{messages_on, queue_in, HoldsReadable, IsHeadQueue, Keeps}
-use Rattle.strm_queue.proofs.Holding.{data-readable}
 use Rattle.strm_head.specs.Drawing.{drops_control}
 use Rattle.strm_head.proofs.Passed.{none-dropped}
 

@@ -1,25 +1,15 @@
 -- What a get took of the first message is what it takes by the definition.
-use Rattle.std.proofs.Common.{ℕ, ◌≡◌, ◌<◌, min, Bool, true, false, cond, List, [], ◌∷◌, ◌++◌, length, map, take, drop, Option, refl, sym, ap, subst, ◌∙◌, unwrap_or}
-use Rattle.std.specs.Prelude.{nat_lt, option_map, ◌||◌}
-use Rattle.strm_types.specs.Flush.{is_data_kind}
-use Rattle.strm_types.specs.Gets.{Got, got_none, left_behind, parts_of}
-use Rattle.strm_types.specs.Message.{Message, part}
+use Rattle.strm_head.proofs.Prelude.{ℕ, ◌≡◌, ◌<◌, min, Bool, true, false, cond, List, [], ◌∷◌, ◌++◌, length, map, take, drop, refl, sym, ap, subst}
+use Rattle.strm_head.proofs.Prelude.{◌∙◌, nat_lt, option_map, ◌||◌, left, chain-is, before, first-chain, first-holds, Landed}
+use Rattle.strm_head.specs.Prelude.{is_data_kind, Got, got_none, parts_of, Message, part, rest_with, Block, StoreValue, list_at, in_hand, changed}
+use Rattle.strm_head.specs.Prelude.{block_at, Popped, bytes_of, control_blocks, control_bytes, data_blocks, data_bytes, length_of_part}
+use Rattle.strm_head.specs.Prelude.{without_emptied, message_of, AreMessages, IsChain, Queue, plain_flows, AreCounted, messages_on, HoldsReadable}
+use Rattle.strm_head.specs.Prelude.{IsHeadQueue, Keeps}
+use Rattle.std.proofs.Common.{Option, unwrap_or}
+use Rattle.strm_types.specs.Gets.{left_behind}
 use Rattle.strm_types.specs.Queue as plain
-use Rattle.strm_types.specs.Reads.{rest_with}
-use Rattle.strm_blocks.specs.Blocks.{Block, StoreValue, list_at, in_hand, changed, block_at}
-use Rattle.strm_blocks.specs.Outcomes.{Popped}
-use Rattle.strm_msg.specs.Bytes.{bytes_of, control_blocks, control_bytes, data_blocks, data_bytes, length_of_part}
-use Rattle.strm_msg.specs.Emptied.{without_emptied}
-use Rattle.strm_msg.specs.Messages.{message_of, AreMessages, IsChain}
-use Rattle.strm_queue.specs.declared.queue.Queue.{Queue}
-use Rattle.strm_queue.specs.Flows.{plain_flows}
 use Rattle.strm_queue.specs.Kept as kept
-use Rattle.strm_queue.specs.Kept.{AreCounted}
-use Rattle.strm_queue.specs.Stored.{messages_on, HoldsReadable, IsHeadQueue, Keeps}
 use Rattle.strm_queue.proofs.Chains.{chain-low}
-use Rattle.strm_queue.proofs.Gotten.{left, chain-is, before}
-use Rattle.strm_queue.proofs.Holding.{first-chain, first-holds}
-use Rattle.strm_queue.proofs.Placed.{Landed}
 use Rattle.strm_head.specs.declared.getting.Gotten.{Gotten}
 use Rattle.strm_head.specs.declared.getting.Piece.{Piece}
 use Rattle.strm_head.specs.Getting.{put_rest, prio_at, Gives, TakesFirst}

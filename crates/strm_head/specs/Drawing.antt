@@ -1,11 +1,7 @@
 -- What one message gives to a read (read(2), streamio(7I): I_SRDOPT).
 use Rattle.std.specs.Prelude.{ℕ, Bool, true, false, not, ◌==◌, ◌&&◌, ◌||◌, nat_lt, if◌then◌else◌, ◌≡◌, ◌≤◌, ◌<◌, ◌+◌, List, [], ◌∷◌, ◌++◌, length}
-use Rattle.strm_types.specs.declared.modes.ReadMode.{ReadMode}
-use Rattle.strm_types.specs.declared.modes.ReadMode.TheVariants.{ByteStream, MessageKeep, MessageDiscard}
-use Rattle.strm_types.specs.declared.modes.ControlMode.{ControlMode}
-use Rattle.strm_types.specs.declared.modes.ControlMode.TheVariants.{Refuse, Data, Discard}
-use Rattle.strm_types.specs.Message.{Message}
-use Rattle.strm_types.specs.Reads.{Drawn, drawn, wanted_after, is_passed, is_refused, no_cells, offered}
+use Rattle.strm_head.specs.Prelude.{ReadMode, ByteStream, MessageKeep, MessageDiscard, ControlMode, Refuse, Data, Discard, Message, Drawn, drawn}
+use Rattle.strm_head.specs.Prelude.{wanted_after, is_passed, is_refused, no_cells, offered}
 
 -- what is drawn, but for what is dropped of control parts
 abbrev pub but_dropped : Drawn ℕ → Drawn ℕ

@@ -1,13 +1,7 @@
 -- What a get takes of the first message of a head, and what it leaves of that message's blocks (getmsg(2)).
 use Rattle.std.specs.Prelude.{ℕ, Bool, if◌then◌else◌, ◌≡◌, List, ◌++◌, length, option_map}
-use Rattle.strm_types.specs.declared.modes.Prio.{Prio}
-use Rattle.strm_types.specs.declared.modes.Prio.TheVariants.{High, Band}
-use Rattle.strm_types.specs.Message.{Message, part, is_high_priority}
-use Rattle.strm_types.specs.Queue.{left_with}
-use Rattle.strm_types.specs.Gets.{Got}
-use Rattle.strm_blocks.specs.Blocks.{Block, StoreValue, list_at, placed, dropped, put_back}
-use Rattle.strm_queue.specs.declared.queue.Queue.{Queue}
-use Rattle.strm_queue.specs.Stored.{queue_in}
+use Rattle.strm_head.specs.Prelude.{Prio, High, Band, Message, part, is_high_priority, left_with, Got, Block, StoreValue, list_at, placed, dropped}
+use Rattle.strm_head.specs.Prelude.{put_back, Queue, queue_in}
 use Rattle.strm_head.specs.declared.getting.Gotten.{Gotten}
 
 -- the store behind a get of a message in hand: what is left of it, if anything is, is put back on its list

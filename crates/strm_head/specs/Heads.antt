@@ -2,18 +2,13 @@
 use Rattle.std.specs.Prelude.{ℕ, Bool, if◌then◌else◌, List, [], ◌∷◌, Option, None, Some}
 use Rattle.arrayvec.specs.ArrayVec.{ArrayVec}
 use Rattle.strm_types.specs.declared.names.Way.TheVariants as ways
+use Rattle.strm_head.specs.Prelude.{Spot, Parcel, toward, flush_bytes, flush_message, Message, PlainSlot, StoreValue, queue_in}
 use Rattle.strm_types.specs.declared.slots.Slot.{Slot}
 use Rattle.strm_types.specs.declared.spots.Note.{Note}
 use Rattle.strm_types.specs.declared.spots.Note.TheVariants.{Room}
-use Rattle.strm_types.specs.declared.spots.Spot.{Spot}
-use Rattle.strm_types.specs.Deliver.{Parcel, toward}
-use Rattle.strm_types.specs.Flushing.{flush_bytes, flush_message}
 use Rattle.strm_types.specs.Ioctls.{nak_message}
-use Rattle.strm_types.specs.Message.{Message}
-use Rattle.strm_types.specs.Slots.{PlainSlot, map_slot}
+use Rattle.strm_types.specs.Slots.{map_slot}
 use Rattle.strm_types.specs.Heads as state
-use Rattle.strm_blocks.specs.Blocks.{StoreValue}
-use Rattle.strm_queue.specs.Stored.{queue_in}
 use Rattle.strm_head.specs.declared.head.Head.{Head}
 use Rattle.strm_head.specs.declared.putting.Down.{Down}
 use Rattle.strm_head.specs.declared.putting.Down.TheVariants.{Flush, Nak}

@@ -1,8 +1,7 @@
 -- What a read or a get leaves on its list, and which blocks it frees (read(2), getmsg(2), freeb(9F)).
 use Rattle.std.specs.Prelude.{ℕ, ◌≡◌, ◌<◌, ◌+◌, ◌⊎◌, List, ◌∷◌, length, drop, map, sum_by}
-use Rattle.strm_blocks.specs.Blocks.{Block, StoreValue, list_at, put_back, names_of, references, free_m}
-use Rattle.strm_msg.specs.Adjusted.{without_bytes}
-use Rattle.strm_msg.specs.Emptied.{without_emptied}
+use Rattle.strm_head.specs.Prelude.{Block, StoreValue, list_at, put_back, names_of, free_m, without_bytes, without_emptied}
+use Rattle.strm_blocks.specs.Blocks.{references}
 
 -- so many messages were taken away
 pub record Taken (old new : List (List Block)) : Type 0 where

@@ -1,3 +1,4 @@
+pub mod Prelude
 pub mod Seen
 pub mod Drawing
 pub mod Parted

@@ -1,11 +1,6 @@
 -- The chain of a message that is read or gotten, and of what is left of it.
 use Rattle.std.specs.Prelude.{ℕ, ◌-◌, List, length}
-use Rattle.strm_types.specs.declared.modes.ControlMode.{ControlMode}
-use Rattle.strm_types.specs.declared.modes.ControlMode.TheVariants.{Refuse, Data, Discard}
-use Rattle.strm_blocks.specs.Blocks.{Block}
-use Rattle.strm_msg.specs.Bytes.{control_bytes}
-use Rattle.strm_msg.specs.Emptied.{without_emptied}
-use Rattle.strm_msg.specs.Taken.{without_control, without_data}
+use Rattle.strm_head.specs.Prelude.{ControlMode, Refuse, Data, Discard, Block, control_bytes, without_emptied, without_control, without_data}
 
 -- a chain without the first so many bytes of its control part and of its data part
 abbrev pub cut_by : ℕ → ℕ → List Block → List Block

@@ -1,10 +1,7 @@
 -- What is seen of the first message of a head without taking it (getmsg(2)).
 use Rattle.std.specs.Prelude.{ℕ, Bool, true, ◌||◌, nat_le, List, [], ◌∷◌}
-use Rattle.strm_types.specs.declared.modes.Wanted.{Wanted}
-use Rattle.strm_types.specs.declared.modes.Wanted.TheVariants.{Any, High, Band}
-use Rattle.strm_types.specs.Message.{Message, is_high_priority}
-use Rattle.strm_types.specs.Gets.{is_wanted}
-use Rattle.strm_blocks.specs.declared.asked.Peek.{Peek}
+use Rattle.strm_head.specs.Prelude.{Wanted, Any, Message, is_high_priority, is_wanted, Peek}
+use Rattle.strm_types.specs.declared.modes.Wanted.TheVariants.{High, Band}
 
 -- whether a message that is seen is the one that a get asks for
 abbrev pub peek_wanted : Wanted → Peek → Bool

@@ -1,13 +1,9 @@
 -- A message that was made to go down a stream.
 use Rattle.std.specs.Prelude.{ℕ, ◌≡◌, ◌+◌, List, [], ◌∷◌, Option, option_map}
 use Rattle.std.specs.Borrow.{Bor}
-use Rattle.strm_types.specs.declared.kinds.MsgKind.{MsgKind}
+use Rattle.strm_head.specs.Prelude.{MsgKind, Prio, High, Band, Message, StoreValue, in_hand, held, free_m, free_d, message_of, IsChain}
 use Rattle.strm_types.specs.declared.kinds.MsgKind.TheVariants.{Proto, Pcproto}
-use Rattle.strm_types.specs.declared.modes.Prio.{Prio}
-use Rattle.strm_types.specs.declared.modes.Prio.TheVariants.{High, Band}
-use Rattle.strm_types.specs.Message.{Message}
-use Rattle.strm_blocks.specs.Blocks.{StoreValue, IsFreshName, in_hand, held, free_m, free_d}
-use Rattle.strm_msg.specs.Messages.{message_of, IsChain}
+use Rattle.strm_blocks.specs.Blocks.{IsFreshName}
 
 -- the bytes of a part that a caller lends
 abbrev pub lent : Option (Bor (List ℕ)) → Option (List ℕ)

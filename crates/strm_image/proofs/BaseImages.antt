@@ -1,14 +1,6 @@
 -- A base has an image where its numbers have their widths.
-use Rattle.std.proofs.Common.{ℕ, arith}
-use Rattle.strm_types.specs.declared.names.Dir.{Dir}
-use Rattle.strm_types.specs.declared.names.Dir.TheVariants.{MasterToSlave, SlaveToMaster}
-use Rattle.strm_types.specs.declared.names.Side.{Side}
-use Rattle.strm_types.specs.declared.names.Side.TheVariants.{Master, Slave}
-use Rattle.strm_types.specs.declared.rules.Fates.{Fates}
-use Rattle.strm_types.specs.Both.{get}
-use Rattle.strm_laws.specs.Bases.{IsBase}
-use Rattle.strm_laws.specs.Ledgers.{FewBooked}
-use Rattle.strm_laws.specs.State.{State}
+use Rattle.strm_image.proofs.Prelude.{ℕ, arith}
+use Rattle.strm_image.specs.Prelude.{Dir, MasterToSlave, SlaveToMaster, Side, Master, Slave, Fates, get, IsBase, FewBooked, State}
 use Rattle.strm_image.specs.HasImage.{AreBanded, AreCounts, AreFates, AreNumbers, AreShort, Balances, HasImage, IsBooked, counts_of, imaged}
 
 few_booked : (s : State ℕ) → FewBooked s → (side : Side) → IsBooked (get side s.books)

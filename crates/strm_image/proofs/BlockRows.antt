@@ -1,8 +1,7 @@
 -- A message in blocks takes no more of them when it is read from an image.
-use Rattle.std.proofs.Common.{◌≡◌, ℕ, ◌<◌, ◌≤◌, ◌+◌, ◌-◌, ◌*◌, Bool, true, false, cond, List, length, Option, None, Some, refl, arith}
+use Rattle.strm_image.proofs.Prelude.{◌≡◌, ℕ, ◌<◌, ◌≤◌, ◌+◌, ◌-◌, ◌*◌, Bool, true, false, cond, List, length, Option, None, Some, refl, arith}
+use Rattle.strm_image.specs.Prelude.{BLOCK_SIZE, Message}
 use Rattle.std.proofs.lemmas.Nat.{div_below}
-use Rattle.strm_types.specs.declared.limits.TheConstants.{BLOCK_SIZE}
-use Rattle.strm_types.specs.Message.{Message}
 use Rattle.strm_image.specs.InBlocks.{IsInBlocks, IsMessageInBlocks}
 use Rattle.strm_image.specs.Loads.{begun, blocks_of, part_blocks}
 use Rattle.strm_image.specs.Messages.{bytes_in, is_ioctl_kind, message_parts}

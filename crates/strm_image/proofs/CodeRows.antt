@@ -1,23 +1,12 @@
 -- The values that stand as one byte are exact.
-use Rattle.std.proofs.Common.{◌≡◌, Bool, true, false, [], ◌∷◌, Some, refl}
-use Rattle.strm_types.specs.declared.kinds.MsgKind.{MsgKind}
-use Rattle.strm_types.specs.declared.kinds.MsgKind.TheVariants.{Data, Proto, Sig, Ctl, Ioctl, Setopts, Iocack, Iocnak, Pcproto, Pcsig, Read, Flush, Stop, Start, Hangup, Error}
-use Rattle.strm_types.specs.declared.modes.ControlMode.{ControlMode}
+use Rattle.strm_image.proofs.Prelude.{◌≡◌, Bool, true, false, [], ◌∷◌, Some, refl}
+use Rattle.strm_image.specs.Prelude.{MsgKind, Data, Proto, Sig, Ctl, Ioctl, Setopts, Iocack, Iocnak, Pcproto, Pcsig, Read, Flush, Stop, Start, Hangup}
+use Rattle.strm_image.specs.Prelude.{Error, ControlMode, ReadMode, ModuleName, Openness, Never, Open, Closed, Place, Side, Master, Slave, Way, Up}
+use Rattle.strm_image.specs.Prelude.{Down, kind_number, mode_number}
 use Rattle.strm_types.specs.declared.modes.ControlMode.TheVariants as controls
-use Rattle.strm_types.specs.declared.modes.ReadMode.{ReadMode}
 use Rattle.strm_types.specs.declared.modes.ReadMode.TheVariants as reads
-use Rattle.strm_types.specs.declared.names.ModuleName.{ModuleName}
 use Rattle.strm_types.specs.declared.names.ModuleName.TheVariants as modules
-use Rattle.strm_types.specs.declared.names.Openness.{Openness}
-use Rattle.strm_types.specs.declared.names.Openness.TheVariants.{Never, Open, Closed}
-use Rattle.strm_types.specs.declared.names.Place.{Place}
 use Rattle.strm_types.specs.declared.names.Place.TheVariants as places
-use Rattle.strm_types.specs.declared.names.Side.{Side}
-use Rattle.strm_types.specs.declared.names.Side.TheVariants.{Master, Slave}
-use Rattle.strm_types.specs.declared.names.Way.{Way}
-use Rattle.strm_types.specs.declared.names.Way.TheVariants.{Up, Down}
-use Rattle.strm_types.specs.Kinds.{kind_number}
-use Rattle.strm_types.specs.Options.{mode_number}
 use Rattle.strm_image.specs.declared.versions.Version.{Version}
 use Rattle.strm_image.specs.declared.versions.Version.TheVariants.{First, Second}
 use Rattle.strm_image.specs.Codes.{all_kinds, control_code, control_mode, flag, flag_code, kind, module_code, module_kind, openness, openness_code, place, place_code, read_mode, side, side_code, version, version_code, way, way_code}

@@ -1,18 +1,12 @@
 -- What the messages of streams hold is what the ledgers count.
-use Rattle.std.proofs.Common.{◌≡◌, ◌∙◌, ℕ, suc, ◌+◌, true, ◌&&◌, nat_eq, List, [], ◌∷◌, length, refl, sym, ap, arith}
+use Rattle.strm_image.proofs.Prelude.{◌≡◌, ◌∙◌, ℕ, suc, ◌+◌, true, ◌&&◌, List, [], ◌∷◌, length, refl, sym, ap, arith, ne_eqb, flat_map-cons}
+use Rattle.strm_image.proofs.Prelude.{sum_by-append, sum_by-cons}
+use Rattle.strm_image.specs.Prelude.{MasterToSlave, SlaveToMaster, Way, Up, Down, Message, cells_of, is_none_left, messages_at, queued, Standing}
+use Rattle.strm_image.specs.Prelude.{State}
+use Rattle.std.proofs.Common.{nat_eq}
 use Rattle.std.specs.List.{count_by, flat_map, sum_by}
-use Rattle.std.proofs.lemmas.Bool.{ne_eqb}
-use Rattle.std.proofs.lemmas.List.Concat.{flat_map-cons}
-use Rattle.std.proofs.lemmas.List.Sums.{sum_by-append, sum_by-cons}
-use Rattle.strm_types.specs.declared.names.Dir.TheVariants.{MasterToSlave, SlaveToMaster}
-use Rattle.strm_types.specs.declared.names.Way.{Way}
-use Rattle.strm_types.specs.declared.names.Way.TheVariants.{Up, Down}
-use Rattle.strm_types.specs.Message.{Message, cells_of, weight_of}
-use Rattle.strm_types.specs.Queue.{weight, is_none_left}
-use Rattle.strm_types.specs.Standings.{messages_at}
-use Rattle.strm_laws.specs.Ledgers.{queued}
-use Rattle.strm_laws.specs.Stacked.{Standing}
-use Rattle.strm_laws.specs.State.{State}
+use Rattle.strm_types.specs.Message.{weight_of}
+use Rattle.strm_types.specs.Queue.{weight}
 use Rattle.strm_image.specs.Counts.{balances, cells_at, counted_in, down_cells, up_cells}
 use Rattle.strm_image.specs.Image.{Account, Imaged, are_balanced, laid_on}
 use Rattle.strm_image.specs.Loads.{counted_of}

@@ -1,32 +1,16 @@
 -- A state that has what an image asks has one.
-use Rattle.std.proofs.Common.{◌≡◌, ℕ, ◌<◌, ◌≤◌, true, not, List, [], ◌∷◌, length, map, refl, sym, ap, ◌∙◌, arith}
-use Rattle.std.specs.Prelude.{◌^◌, ◌||◌}
+use Rattle.strm_image.proofs.Prelude.{◌≡◌, ℕ, ◌<◌, ◌≤◌, true, not, List, [], ◌∷◌, length, map, refl, sym, ap, ◌∙◌, arith, ◌^◌, and_from, eq-eqb}
+use Rattle.strm_image.proofs.Prelude.{lt-ltb}
+use Rattle.strm_image.specs.Prelude.{Book, BANDS, Dir, MasterToSlave, SlaveToMaster, ModuleName, Openness, Never, Open, Closed, Place, QueueName}
+use Rattle.strm_image.specs.Prelude.{Side, Master, Slave, Way, Up, Down, RULES, get, stands, IsOnce, has_service, has_service_at, same_module}
+use Rattle.strm_image.specs.Prelude.{same_queue, same_way, times, IsOrdered, Queue, IsThere, is_there_among, stands_of, Standing, module_name, State}
+use Rattle.strm_image.specs.Prelude.{queues_of, stream, stream_queues}
+use Rattle.std.specs.Prelude.{◌||◌}
 use Rattle.std.specs.List.{AllByRecursion, list_all, list_any}
-use Rattle.std.proofs.lemmas.Bool.{and_from, eq-eqb, lt-ltb}
-use Rattle.strm_types.specs.declared.books.Book.{Book}
-use Rattle.strm_types.specs.declared.limits.TheConstants.{BANDS}
-use Rattle.strm_types.specs.declared.names.Dir.{Dir}
-use Rattle.strm_types.specs.declared.names.Dir.TheVariants.{MasterToSlave, SlaveToMaster}
-use Rattle.strm_types.specs.declared.names.ModuleName.{ModuleName}
 use Rattle.strm_types.specs.declared.names.ModuleName.TheVariants as modules
-use Rattle.strm_types.specs.declared.names.Openness.{Openness}
-use Rattle.strm_types.specs.declared.names.Openness.TheVariants.{Never, Open, Closed}
-use Rattle.strm_types.specs.declared.names.Place.{Place}
 use Rattle.strm_types.specs.declared.names.Place.TheVariants as places
-use Rattle.strm_types.specs.declared.names.QueueName.{QueueName}
-use Rattle.strm_types.specs.declared.names.Side.{Side}
-use Rattle.strm_types.specs.declared.names.Side.TheVariants.{Master, Slave}
-use Rattle.strm_types.specs.declared.names.Way.{Way}
-use Rattle.strm_types.specs.declared.names.Way.TheVariants.{Up, Down}
-use Rattle.strm_types.specs.declared.rules.TheConstants.{RULES}
-use Rattle.strm_types.specs.Both.{get}
-use Rattle.strm_types.specs.Modules.{stands}
-use Rattle.strm_types.specs.Names.{IsOnce, has_service, has_service_at, same_module, same_place, same_queue, same_side, same_way, times}
-use Rattle.strm_types.specs.Queue.{IsOrdered, Queue}
-use Rattle.strm_laws.specs.Restorable.{IsThere, is_ldterm, is_there_among}
-use Rattle.strm_laws.specs.StackCosts.{stands_of}
-use Rattle.strm_laws.specs.Stacked.{Standing, module_name}
-use Rattle.strm_laws.specs.State.{State, queues_of, stream, stream_queues}
+use Rattle.strm_types.specs.Names.{same_place, same_side}
+use Rattle.strm_laws.specs.Restorable.{is_ldterm}
 use Rattle.strm_types.proofs.EnabledNames.{once-room}
 use Rattle.strm_laws.proofs.RestorableSteps.{opening-restorable}
 use Rattle.strm_image.specs.declared.versions.Version.TheVariants.{Second}

@@ -1,16 +1,12 @@
 -- The messages and the queues of a restorable state fit their formats.
-use Rattle.std.proofs.Common.{◌≡◌, ℕ, ◌<◌, ◌≤◌, Bool, true, false, not, ◌&&◌, ◌||◌, cond, eqb, leb, List, [], ◌∷◌, length, Option, None, Some, refl, sym, ap, ◌∙◌, arith}
-use Rattle.std.specs.Prelude.{◌^◌, is_some}
+use Rattle.strm_image.proofs.Prelude.{◌≡◌, ℕ, ◌<◌, ◌≤◌, Bool, true, false, not, ◌&&◌, ◌||◌, cond, eqb, leb, List, [], ◌∷◌, length, Option, None, Some}
+use Rattle.strm_image.proofs.Prelude.{refl, sym, ap, ◌∙◌, arith, ◌^◌, is_some, and_from, eq-eqb, le-leb, lt-ltb, or_right}
+use Rattle.strm_image.specs.Prelude.{MsgKind, Data, Proto, Sig, Ctl, Ioctl, Setopts, Iocack, Iocnak, Pcproto, Pcsig, Read, Flush, Stop, Start, Hangup}
+use Rattle.strm_image.specs.Prelude.{Error, BANDS, HIGH_PRIORITY_RANK, is_data_kind, is_body_kind, is_control_kind, kind_number, Message}
+use Rattle.strm_image.specs.Prelude.{is_high_priority, is_part, part, rank_of, Flow, IsOrdered, Queue, AreMarks, GoodMessage, GoodQueue, StandsOn}
+use Rattle.strm_image.specs.Prelude.{has_header, is_part_kind}
 use Rattle.std.specs.List.{AllByRecursion}
-use Rattle.std.proofs.lemmas.Bool.{and_from, eq-eqb, le-leb, lt-ltb, or_left, or_right}
-use Rattle.strm_types.specs.declared.kinds.MsgKind.{MsgKind}
-use Rattle.strm_types.specs.declared.kinds.MsgKind.TheVariants.{Data, Proto, Sig, Ctl, Ioctl, Setopts, Iocack, Iocnak, Pcproto, Pcsig, Read, Flush, Stop, Start, Hangup, Error}
-use Rattle.strm_types.specs.declared.limits.TheConstants.{BANDS, HIGH_PRIORITY_RANK}
-use Rattle.strm_types.specs.Flush.{is_data_kind}
-use Rattle.strm_types.specs.Kinds.{is_body_kind, is_control_kind, kind_number}
-use Rattle.strm_types.specs.Message.{Message, is_high_priority, is_part, part, rank_of}
-use Rattle.strm_types.specs.Queue.{Flow, IsOrdered, Queue}
-use Rattle.strm_laws.specs.Restorable.{AreMarks, GoodMessage, GoodQueue, StandsOn, has_header, is_part_kind}
+use Rattle.std.proofs.lemmas.Bool.{or_left}
 use Rattle.strm_image.specs.declared.versions.QueueKind.{QueueKind}
 use Rattle.strm_image.specs.declared.versions.Version.TheVariants.{Second}
 use Rattle.strm_image.specs.Codes.{flag, kind}

@@ -1,35 +1,19 @@
 -- The modules and the streams of a restorable state fit their formats.
-use Rattle.std.proofs.Common.{◌≡◌, ℕ, ◌<◌, ◌≤◌, Bool, true, false, not, ◌&&◌, ◌||◌, eqb, List, [], ◌∷◌, ◌++◌, length, map, refl, sym, ap, arith}
-use Rattle.std.specs.Prelude.{◌^◌, nat_lt, Option, None, Some}
+use Rattle.strm_image.proofs.Prelude.{◌≡◌, ℕ, ◌<◌, ◌≤◌, Bool, true, false, not, ◌&&◌, ◌||◌, eqb, List, [], ◌∷◌, ◌++◌, length, map, refl, sym, ap}
+use Rattle.strm_image.proofs.Prelude.{arith, ◌^◌, nat_lt, and_from, eq-eqb, false≢true, le-leb, lt-ltb, ltb-false, signals-fit, times, times-cons}
+use Rattle.strm_image.proofs.Prelude.{GoodDiscipline, good-with, top-times}
+use Rattle.strm_image.specs.Prelude.{IOCTL_MAX, MODULES, SIGNAL_LAST, ControlMode, ReadMode, ModuleName, Side, COLUMN_MAX, Free, Waiting, Answered}
+use Rattle.strm_image.specs.Prelude.{Termios, Winsize, Discipline, IsIdle, by_itself, discipline, waits_there, is_master, is_open, same_module}
+use Rattle.strm_image.specs.Prelude.{is_none_left, QueuePair, stood, AreSignals, is_signal, PlainSlot, answer_bytes, is_free, ldterm_rests}
+use Rattle.strm_image.specs.Prelude.{GoodModule, GoodModules, GoodStream, IsShut, IsWhole, goes_out, is_part_kind, stands_below, EachOnce}
+use Rattle.strm_image.specs.Prelude.{times_there, IsAtRest, Module, OfLdterm, OfPtem, OfPckt, Standing, module_name, module_queues, queues_of_modules}
+use Rattle.strm_image.specs.Prelude.{Stream, stream_queues, IsWithin}
+use Rattle.std.specs.Prelude.{Option, None, Some}
 use Rattle.std.specs.List.{AllByRecursion}
-use Rattle.std.proofs.lemmas.Bool.{and_from, eq-eqb, false≢true, le-leb, lt-ltb, ltb-false}
-use Rattle.strm_types.specs.declared.limits.TheConstants.{IOCTL_MAX, MODULES, SIGNAL_LAST}
-use Rattle.strm_types.specs.declared.modes.ControlMode.{ControlMode}
 use Rattle.strm_types.specs.declared.modes.ControlMode.TheVariants as controls
-use Rattle.strm_types.specs.declared.modes.ReadMode.{ReadMode}
 use Rattle.strm_types.specs.declared.modes.ReadMode.TheVariants as reads
-use Rattle.strm_types.specs.declared.names.ModuleName.{ModuleName}
 use Rattle.strm_types.specs.declared.names.ModuleName.TheVariants as names
-use Rattle.strm_types.specs.declared.names.Side.{Side}
-use Rattle.strm_types.specs.declared.output.TheConstants.{COLUMN_MAX}
-use Rattle.strm_types.specs.declared.slots.Slot.TheVariants.{Free, Waiting, Answered}
-use Rattle.strm_types.specs.declared.termios.Termios.{Termios}
-use Rattle.strm_types.specs.declared.winsize.Winsize.{Winsize}
-use Rattle.strm_types.specs.Ldterms.{Discipline, IsIdle, by_itself, discipline, waits_there}
-use Rattle.strm_types.specs.Names.{is_master, is_open, same_module}
-use Rattle.strm_types.specs.Queue.{is_none_left}
-use Rattle.strm_types.specs.Standings.{QueuePair, stood}
-use Rattle.strm_types.specs.Signals.{AreSignals, is_signal}
-use Rattle.strm_types.specs.Slots.{PlainSlot, answer_bytes, is_free}
-use Rattle.strm_laws.specs.LdtermTurns.{ldterm_rests}
-use Rattle.strm_laws.specs.Restorable.{GoodModule, GoodModules, GoodStream, IsShut, IsWhole, goes_out, is_part_kind, stands_below}
-use Rattle.strm_laws.specs.StackCosts.{EachOnce, times_there}
-use Rattle.strm_laws.specs.Stacked.{IsAtRest, KindRests, Module, OfLdterm, OfPtem, OfPckt, Standing, module_name, module_queues, queues_of_modules}
-use Rattle.strm_laws.specs.State.{Stream, stream_queues}
-use Rattle.strm_laws.specs.Within.{IsWithin}
-use Rattle.strm_types.proofs.SignalRoom.{signals-fit, times, times-cons}
-use Rattle.strm_laws.proofs.GoodLdterms.{GoodDiscipline, good-with}
-use Rattle.strm_laws.proofs.StackOnce.{top-times}
+use Rattle.strm_laws.specs.Stacked.{KindRests}
 use Rattle.strm_image.specs.declared.versions.QueueKind.TheVariants as queues
 use Rattle.strm_image.specs.declared.versions.Version.TheVariants.{Second}
 use Rattle.strm_image.specs.Codes.{control_mode, module_kind, read_mode}

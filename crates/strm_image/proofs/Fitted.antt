@@ -1,9 +1,6 @@
 -- What values have that fit formats put together: what the combinators tell, the other way round of Fitting.
-use Rattle.std.proofs.Common.{◌≡◌, ℕ, ◌<◌, true, List, [], ◌∷◌, ◌++◌, length, sym, subst, arith}
-use Rattle.std.specs.Prelude.{◌^◌}
+use Rattle.strm_image.proofs.Prelude.{◌≡◌, ℕ, ◌<◌, true, List, [], ◌∷◌, ◌++◌, length, sym, subst, arith, ◌^◌, and_parts, ltb-true, flat_map-cons}
 use Rattle.std.specs.List.{AllByRecursion, flat_map}
-use Rattle.std.proofs.lemmas.Bool.{and_parts, ltb-true}
-use Rattle.std.proofs.lemmas.List.Concat.{flat_map-cons}
 use Rattle.strm_image.specs.Format.{Format, u16, u32, u64, bytes_of, chain, counted, fit_from}
 
 -- ---- numbers

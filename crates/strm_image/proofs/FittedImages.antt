@@ -1,32 +1,14 @@
 -- What has an image has what an image asks, and its state is a base: the other way round of FitImages.
-use Rattle.std.proofs.Common.{◌≡◌, ℕ, ◌<◌, true, false, not, eqb, List, [], ◌∷◌, length, map, refl, ap, ◌∙◌, arith}
-use Rattle.std.specs.Prelude.{◌^◌}
+use Rattle.strm_image.proofs.Prelude.{◌≡◌, ℕ, ◌<◌, true, false, not, eqb, List, [], ◌∷◌, length, map, refl, ap, ◌∙◌, arith, ◌^◌, and_parts, eqb-true}
+use Rattle.strm_image.proofs.Prelude.{ltb-true, not-true}
+use Rattle.strm_image.specs.Prelude.{BANDS, Dir, MasterToSlave, SlaveToMaster, Place, QueueName, Side, Master, Slave, Way, Up, Down, Fates, RULES}
+use Rattle.strm_image.specs.Prelude.{get, IsOnce, has_service, has_service_at, is_enabled, same_queue, side_from, times, IsOrdered, fates_of, IsBase}
+use Rattle.strm_image.specs.Prelude.{FewBooked, GoodStream, IsThere, is_there_among, stands_of, IsAtRest, Standing, module_name, State, book}
+use Rattle.strm_image.specs.Prelude.{queues_of, stream, stream_queues, IsWithin}
 use Rattle.std.specs.List.{AllByRecursion, list_all, sum}
-use Rattle.std.proofs.lemmas.Bool.{and_parts, eqb-true, ltb-true, not-true}
-use Rattle.strm_types.specs.declared.limits.TheConstants.{BANDS}
-use Rattle.strm_types.specs.declared.names.Dir.{Dir}
-use Rattle.strm_types.specs.declared.names.Dir.TheVariants.{MasterToSlave, SlaveToMaster}
-use Rattle.strm_types.specs.declared.names.Place.{Place}
 use Rattle.strm_types.specs.declared.names.Place.TheVariants as places
-use Rattle.strm_types.specs.declared.names.QueueName.{QueueName}
-use Rattle.strm_types.specs.declared.names.Side.{Side}
-use Rattle.strm_types.specs.declared.names.Side.TheVariants.{Master, Slave}
-use Rattle.strm_types.specs.declared.names.Way.{Way}
-use Rattle.strm_types.specs.declared.names.Way.TheVariants.{Up, Down}
-use Rattle.strm_types.specs.declared.rules.Fates.{Fates}
-use Rattle.strm_types.specs.declared.rules.TheConstants.{RULES}
-use Rattle.strm_types.specs.Both.{get}
-use Rattle.strm_types.specs.Names.{IsOnce, has_service, has_service_at, is_enabled, same_queue, side_from, times}
-use Rattle.strm_types.specs.Queue.{IsOrdered}
-use Rattle.strm_types.specs.Rules.{fates_of}
 use Rattle.strm_types.proofs.EnabledNames.{same_queue-sound}
-use Rattle.strm_laws.specs.Bases.{IsBase}
-use Rattle.strm_laws.specs.Ledgers.{Balanced, FewBooked}
-use Rattle.strm_laws.specs.Restorable.{GoodStream, IsThere, is_there_among}
-use Rattle.strm_laws.specs.StackCosts.{stands_of}
-use Rattle.strm_laws.specs.Stacked.{IsAtRest, Standing, module_name}
-use Rattle.strm_laws.specs.State.{State, book, queues_of, stream, stream_queues}
-use Rattle.strm_laws.specs.Within.{IsWithin}
+use Rattle.strm_laws.specs.Ledgers.{Balanced}
 use Rattle.strm_image.specs.declared.versions.Version.{Version}
 use Rattle.strm_image.specs.declared.versions.Version.TheVariants.{First, Second}
 use Rattle.strm_image.specs.Codes.{flag, openness, version}

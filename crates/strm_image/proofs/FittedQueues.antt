@@ -1,17 +1,12 @@
 -- The messages and the queues that fit their formats are good, and have their widths: the other way round of FitQueues.
-use Rattle.std.proofs.Common.{◌≡◌, ℕ, suc, ◌<◌, ◌≤◌, ◌+◌, Bool, true, false, not, ◌&&◌, ◌||◌, cond, eqb, leb, List, [], ◌∷◌, length, Option, None, Some, refl, sym, ap, subst, ltb, ◌∙◌, arith}
-use Rattle.std.specs.Prelude.{◌^◌, is_some}
+use Rattle.strm_image.proofs.Prelude.{◌≡◌, ℕ, suc, ◌<◌, ◌≤◌, ◌+◌, Bool, true, false, not, ◌&&◌, ◌||◌, cond, eqb, leb, List, [], ◌∷◌, length, Option}
+use Rattle.strm_image.proofs.Prelude.{None, Some, refl, sym, ap, subst, ltb, ◌∙◌, arith, ◌^◌, is_some, and_parts, eqb-true, leb-true, ltb-true}
+use Rattle.strm_image.proofs.Prelude.{or_right}
+use Rattle.strm_image.specs.Prelude.{MsgKind, Data, Setopts, BANDS, HIGH_PRIORITY_RANK, crosses, is_data_kind, is_body_kind, is_control_kind, Message}
+use Rattle.strm_image.specs.Prelude.{is_high_priority, is_part, part, rank_of, Flow, IsOrdered, Queue, AreMarks, GoodMessage, GoodQueue, StandsOn}
+use Rattle.strm_image.specs.Prelude.{has_header, is_part_kind}
 use Rattle.std.specs.List.{AllByRecursion}
-use Rattle.std.proofs.lemmas.Bool.{and_parts, eqb-true, leb-true, ltb-true, or_right}
-use Rattle.strm_types.specs.declared.kinds.MsgKind.{MsgKind}
-use Rattle.strm_types.specs.declared.kinds.MsgKind.TheVariants.{Data, Setopts}
-use Rattle.strm_types.specs.declared.limits.TheConstants.{BANDS, HIGH_PRIORITY_RANK}
-use Rattle.strm_types.specs.Drivers.{crosses}
-use Rattle.strm_types.specs.Flush.{is_data_kind}
-use Rattle.strm_types.specs.Kinds.{is_body_kind, is_control_kind}
-use Rattle.strm_types.specs.Message.{Message, is_high_priority, is_part, part, rank_of}
-use Rattle.strm_types.specs.Queue.{Flow, IsOrdered, Queue}
-use Rattle.strm_laws.specs.Restorable.{AreMarks, GoodMessage, GoodQueue, StandsOn, has_header, is_part_kind, sets_options}
+use Rattle.strm_laws.specs.Restorable.{sets_options}
 use Rattle.strm_image.specs.declared.versions.QueueKind.{QueueKind}
 use Rattle.strm_image.specs.declared.versions.QueueKind.TheVariants as queues
 use Rattle.strm_image.specs.declared.versions.Version.TheVariants.{Second}

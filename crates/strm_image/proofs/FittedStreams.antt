@@ -1,31 +1,17 @@
 -- The modules and the streams that fit their formats are good, at rest, and have their widths: the other way round of FitStreams.
-use Rattle.std.proofs.Common.{◌≡◌, ℕ, zero, suc, ◌<◌, ◌≤◌, Bool, true, false, not, ◌&&◌, ◌||◌, eqb, List, [], ◌∷◌, ◌++◌, length, map, Option, None, Some, refl, arith}
-use Rattle.std.specs.Prelude.{◌^◌, nat_lt, is_some}
+use Rattle.strm_image.proofs.Prelude.{◌≡◌, ℕ, zero, suc, ◌<◌, ◌≤◌, Bool, true, false, not, ◌&&◌, ◌||◌, eqb, List, [], ◌∷◌, ◌++◌, length, map, Option}
+use Rattle.strm_image.proofs.Prelude.{None, Some, refl, arith, ◌^◌, nat_lt, is_some, and_parts, eqb-true, leb-true, ltb-false, ltb-true, not-true}
+use Rattle.strm_image.proofs.Prelude.{times, times-cons, top-times}
+use Rattle.strm_image.specs.Prelude.{IOCTL_MAX, MODULES, ModuleName, Side, COLUMN_MAX, Free, Waiting, Answered, Termios, Winsize, Discipline, Between}
+use Rattle.strm_image.specs.Prelude.{IsIdle, Stage, by_itself, discipline, is_between, waits_there, Message, is_master, is_open, same_module}
+use Rattle.strm_image.specs.Prelude.{is_none_left, AreSignals, has_signal, is_signal, PlainSlot, answer_bytes, is_free, ldterm_rests, QueuePair}
+use Rattle.strm_image.specs.Prelude.{stood, GoodModule, GoodStream, IsShut, IsWhole, goes_out, is_part_kind, stands_below, EachOnce, times_there}
+use Rattle.strm_image.specs.Prelude.{IsAtRest, Module, OfLdterm, OfPtem, OfPckt, Standing, ldterm_stands, module_name, module_queues}
+use Rattle.strm_image.specs.Prelude.{queues_of_modules, Stream, stream_queues, IsWithin}
 use Rattle.std.specs.List.{AllByRecursion}
-use Rattle.std.proofs.lemmas.Bool.{and_parts, eqb-true, leb-true, ltb-false, ltb-true, not-true}
-use Rattle.strm_types.specs.declared.limits.TheConstants.{IOCTL_MAX, MODULES}
-use Rattle.strm_types.specs.declared.names.ModuleName.{ModuleName}
 use Rattle.strm_types.specs.declared.names.ModuleName.TheVariants as names
-use Rattle.strm_types.specs.declared.names.Side.{Side}
-use Rattle.strm_types.specs.declared.output.TheConstants.{COLUMN_MAX}
-use Rattle.strm_types.specs.declared.slots.Slot.TheVariants.{Free, Waiting, Answered}
-use Rattle.strm_types.specs.declared.termios.Termios.{Termios}
-use Rattle.strm_types.specs.declared.winsize.Winsize.{Winsize}
-use Rattle.strm_types.specs.Ldterms.{Discipline, Between, IsIdle, Stage, by_itself, discipline, is_between, waits_there}
-use Rattle.strm_types.specs.Message.{Message}
-use Rattle.strm_types.specs.Names.{is_master, is_open, same_module}
-use Rattle.strm_types.specs.Queue.{is_none_left}
-use Rattle.strm_types.specs.Signals.{AreSignals, has_signal, is_signal}
-use Rattle.strm_types.specs.Slots.{PlainSlot, answer_bytes, is_free}
-use Rattle.strm_laws.specs.LdtermTurns.{ldterm_rests}
-use Rattle.strm_types.specs.Standings.{QueuePair, stood}
-use Rattle.strm_laws.specs.Restorable.{GoodModule, GoodStream, IsShut, IsWhole, IsWork, goes_out, is_part_kind, stands_below}
-use Rattle.strm_laws.specs.StackCosts.{EachOnce, times_there}
-use Rattle.strm_laws.specs.Stacked.{IsAtRest, Module, OfLdterm, OfPtem, OfPckt, Standing, ldterm_stands, module_name, module_queues, queues_of_modules}
-use Rattle.strm_laws.specs.State.{Stream, stream_queues}
-use Rattle.strm_laws.specs.Within.{IsWithin}
-use Rattle.strm_types.proofs.SignalRoom.{times, times-cons}
-use Rattle.strm_laws.proofs.StackOnce.{nothing-there, top-times}
+use Rattle.strm_laws.specs.Restorable.{IsWork}
+use Rattle.strm_laws.proofs.StackOnce.{nothing-there}
 use Rattle.strm_image.specs.declared.versions.QueueKind.TheVariants as queues
 use Rattle.strm_image.specs.declared.versions.Version.TheVariants.{Second}
 use Rattle.strm_image.specs.Codes.{control_mode, flag, module_kind, read_mode}

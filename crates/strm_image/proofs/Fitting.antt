@@ -1,9 +1,7 @@
 -- When values fit formats that are put together: what the combinators ask.
-use Rattle.std.proofs.Common.{◌≡◌, ℕ, zero, suc, ◌<◌, true, List, [], ◌∷◌, ◌++◌, length, refl, subst, arith}
-use Rattle.std.specs.Prelude.{◌^◌, replicate}
+use Rattle.strm_image.proofs.Prelude.{◌≡◌, ℕ, zero, suc, ◌<◌, true, List, [], ◌∷◌, ◌++◌, length, refl, subst, arith, ◌^◌, replicate, and_from, eq-eqb}
+use Rattle.strm_image.proofs.Prelude.{lt-ltb, flat_map-cons}
 use Rattle.std.specs.List.{AllByRecursion, flat_map}
-use Rattle.std.proofs.lemmas.Bool.{and_from, eq-eqb, lt-ltb}
-use Rattle.std.proofs.lemmas.List.Concat.{flat_map-cons}
 use Rattle.strm_image.specs.Format.{Format, u16, u32, u64, bytes_of, chain, counted, fit_from}
 
 -- ---- numbers

@@ -1,8 +1,6 @@
 -- Images are exact.
-use Rattle.std.proofs.Common.{◌≡◌, ℕ, true, false, eqb, List, [], ◌∷◌, refl, sym, ap}
-use Rattle.std.proofs.lemmas.Bool.{and_parts, eqb-true}
-use Rattle.strm_types.specs.declared.names.QueueName.{QueueName}
-use Rattle.strm_types.specs.declared.rules.TheConstants.{RULES}
+use Rattle.strm_image.proofs.Prelude.{◌≡◌, ℕ, true, false, eqb, List, [], ◌∷◌, refl, sym, ap, and_parts, eqb-true}
+use Rattle.strm_image.specs.Prelude.{QueueName, RULES}
 use Rattle.strm_image.specs.declared.versions.Version.{Version}
 use Rattle.strm_image.specs.declared.versions.Version.TheVariants.{First, Second}
 use Rattle.strm_image.specs.Format.{IsExact, u64}

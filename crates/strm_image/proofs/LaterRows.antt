@@ -1,16 +1,11 @@
 -- What has a text of version 1 has one of version 2.
-use Rattle.std.proofs.Common.{◌≡◌, ◌∙◌, ℕ, zero, suc, ◌+◌, ◌-◌, ◌<◌, ◌≤◌, Bool, true, false, not, ◌&&◌, cond, eqb, ltb, leb, List, [], ◌∷◌, ◌++◌, length, refl, sym, ap, subst, arith}
-use Rattle.std.specs.Prelude.{replicate, slice_index_or}
-use Rattle.std.proofs.lemmas.Bool.{and_from, and_parts, eqb-true, eq-eqb, le-leb, lt-ltb, ltb-true}
-use Rattle.std.proofs.lemmas.List.{length-append, length-replicate}
-use Rattle.strm_types.specs.declared.limits.TheConstants.{BANDS, HIGH_PRIORITY_RANK}
-use Rattle.strm_types.specs.declared.names.ModuleName.{ModuleName}
+use Rattle.strm_image.proofs.Prelude.{◌≡◌, ◌∙◌, ℕ, zero, suc, ◌+◌, ◌-◌, ◌<◌, ◌≤◌, Bool, true, false, not, ◌&&◌, cond, eqb, ltb, leb, List, [], ◌∷◌}
+use Rattle.strm_image.proofs.Prelude.{◌++◌, length, refl, sym, ap, subst, arith, replicate, and_from, and_parts, eqb-true, eq-eqb, le-leb, lt-ltb}
+use Rattle.strm_image.proofs.Prelude.{ltb-true, length-append}
+use Rattle.strm_image.specs.Prelude.{BANDS, HIGH_PRIORITY_RANK, ModuleName, Flow, by_itself, ldterm_rests, ldterm_stands, module_name, discipline_of}
+use Rattle.std.specs.Prelude.{slice_index_or}
+use Rattle.std.proofs.lemmas.List.{length-replicate}
 use Rattle.strm_types.specs.declared.names.ModuleName.TheVariants as names
-use Rattle.strm_types.specs.Queue.{Flow}
-use Rattle.strm_types.specs.Ldterms.{by_itself}
-use Rattle.strm_laws.specs.LdtermTurns.{ldterm_rests}
-use Rattle.strm_laws.specs.Stacked.{ldterm_stands, module_name}
-use Rattle.strm_laws.specs.TurnCalls.{discipline_of}
 use Rattle.strm_image.specs.declared.versions.QueueKind.{QueueKind}
 use Rattle.strm_image.specs.declared.versions.QueueKind.TheVariants as queues
 use Rattle.strm_image.specs.declared.versions.Version.TheVariants.{First, Second}

@@ -1,3 +1,4 @@
+pub mod Prelude
 pub mod Formats
 pub mod CodeRows
 pub mod MessageRows

@@ -1,11 +1,8 @@
 -- What is passed in a text is what is read, and what messages take and hold.
-use Rattle.std.proofs.Common.{◌≡◌, ℕ, ◌+◌, ◌-◌, true, false, List, [], ◌∷◌, length, Option, Some, None, refl, sym, ap, ◌∙◌}
+use Rattle.strm_image.proofs.Prelude.{◌≡◌, ℕ, ◌+◌, ◌-◌, true, false, List, [], ◌∷◌, length, Option, Some, None, refl, sym, ap, ◌∙◌, length-append}
+use Rattle.strm_image.specs.Prelude.{HIGH_PRIORITY_RANK, is_data_kind, Message, cells_of}
 use Rattle.std.specs.Prelude.{option_map}
 use Rattle.std.specs.List.{fold}
-use Rattle.std.proofs.lemmas.List.{length-append}
-use Rattle.strm_types.specs.declared.limits.TheConstants.{HIGH_PRIORITY_RANK}
-use Rattle.strm_types.specs.Flush.{is_data_kind}
-use Rattle.strm_types.specs.Message.{Message, cells_of}
 use Rattle.strm_image.specs.declared.versions.Load.{Load}
 use Rattle.strm_image.specs.declared.versions.QueueKind.{QueueKind}
 use Rattle.strm_image.specs.declared.versions.Version.{Version}

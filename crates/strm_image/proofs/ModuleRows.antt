@@ -1,17 +1,9 @@
 -- The texts of modules are exact.
-use Rattle.std.proofs.Common.{◌≡◌, ℕ, Bool, true, false, not, List, [], ◌∷◌, Option, Some, None, refl}
-use Rattle.std.specs.Prelude.{is_some}
-use Rattle.std.proofs.lemmas.Bool.{and_parts}
-use Rattle.strm_types.specs.declared.names.ModuleName.{ModuleName}
+use Rattle.strm_image.proofs.Prelude.{◌≡◌, ℕ, Bool, true, false, not, List, [], ◌∷◌, Option, Some, None, refl, is_some, and_parts}
+use Rattle.strm_image.specs.Prelude.{ModuleName, Discipline, Stage, Between, by_itself, is_between, Message, same_module, is_none_left, QueuePair}
+use Rattle.strm_image.specs.Prelude.{stood, ldterm_rests, Module, OfLdterm, OfPtem, OfPckt, Standing, ldterm_stands, module_name, discipline_of}
 use Rattle.strm_types.specs.declared.names.ModuleName.TheVariants as names
-use Rattle.strm_types.specs.Ldterms.{Discipline, Stage, Between, Begun, Answered, by_itself, is_between}
-use Rattle.strm_types.specs.Message.{Message}
-use Rattle.strm_types.specs.Names.{same_module}
-use Rattle.strm_types.specs.Queue.{is_none_left}
-use Rattle.strm_types.specs.Standings.{QueuePair, stood}
-use Rattle.strm_laws.specs.LdtermTurns.{ldterm_rests}
-use Rattle.strm_laws.specs.Stacked.{Module, OfLdterm, OfPtem, OfPckt, Standing, ldterm_stands, module_name}
-use Rattle.strm_laws.specs.TurnCalls.{discipline_of}
+use Rattle.strm_types.specs.Ldterms.{Begun, Answered}
 use Rattle.strm_image.specs.declared.versions.QueueKind.TheVariants as queues
 use Rattle.strm_image.specs.declared.versions.Version.{Version}
 use Rattle.strm_image.specs.Codes.{module_kind}

@@ -1,7 +1,6 @@
 -- What is read is an image's text, and what isn't read is none's.
-use Rattle.std.proofs.Common.{◌≡◌, true, List, ℕ, Option, Some, None, ap, sym, ◌∙◌, []}
+use Rattle.strm_image.proofs.Prelude.{◌≡◌, true, List, ℕ, Option, Some, None, ap, sym, ◌∙◌, [], append-nil}
 use Rattle.std.specs.Prelude.{IfSome, IfNone}
-use Rattle.std.proofs.lemmas.List.{append-nil}
 use Rattle.strm_image.specs.declared.versions.Version.{Version}
 use Rattle.strm_image.specs.Format.{IsBytes, IsTextOf, Reads, whole}
 use Rattle.strm_image.specs.Image.{Imaged, image}

@@ -1,12 +1,7 @@
 -- Where all messages of a pair and all their bytes are few, each queue and each message is short.
-use Rattle.std.proofs.Common.{ℕ, ◌<◌, List, [], ◌∷◌, length, arith}
-use Rattle.std.specs.Prelude.{◌^◌}
+use Rattle.strm_image.proofs.Prelude.{ℕ, ◌<◌, List, [], ◌∷◌, length, arith, ◌^◌, length-append, sum_by-cons}
+use Rattle.strm_image.specs.Prelude.{Message, cells_of, part, size_of, Queue, bytes_of, State, messages_in, queues_of}
 use Rattle.std.specs.List.{AllByRecursion, sum_by}
-use Rattle.std.proofs.lemmas.List.{length-append}
-use Rattle.std.proofs.lemmas.List.Sums.{sum_by-cons}
-use Rattle.strm_types.specs.Message.{Message, cells_of, part, size_of}
-use Rattle.strm_types.specs.Queue.{Queue, bytes_of}
-use Rattle.strm_laws.specs.State.{State, messages_in, queues_of}
 use Rattle.strm_image.specs.HasImage.{AreShort, IsShort, IsShortQueue, bytes_in}
 
 message_short : (m : Message ℕ) → size_of m < 2 ^ 32 → IsShort m

@@ -1,9 +1,6 @@
 -- The texts of streams are exact.
-use Rattle.std.proofs.Common.{◌≡◌, ◌∙◌, ℕ, Bool, true, false, [], ◌∷◌, Some, refl, sym, ap, subst}
-use Rattle.std.specs.Prelude.{nat_lt}
-use Rattle.std.proofs.lemmas.Bool.{and_from, and_parts, eqb-true}
-use Rattle.strm_types.specs.declared.slots.Slot.TheVariants.{Free, Waiting, Answered}
-use Rattle.strm_types.specs.Slots.{PlainSlot}
+use Rattle.strm_image.proofs.Prelude.{◌≡◌, ◌∙◌, ℕ, Bool, true, false, [], ◌∷◌, Some, refl, sym, ap, subst, nat_lt, and_from, and_parts, eqb-true}
+use Rattle.strm_image.specs.Prelude.{Free, Waiting, Answered, PlainSlot}
 use Rattle.strm_image.specs.declared.versions.QueueKind.TheVariants as queues
 use Rattle.strm_image.specs.declared.versions.SlotKind.{SlotKind}
 use Rattle.strm_image.specs.declared.versions.SlotKind.TheVariants as slots

@@ -1,39 +1,16 @@
 -- How long the texts of version 2 are at most.
-use Rattle.std.proofs.Common.{◌≡◌, ℕ, ◌≤◌, ◌+◌, ◌*◌, Bool, true, false, not, cond, List, [], ◌∷◌, ◌++◌, length, map, Option, None, Some, refl, sym, arith}
-use Rattle.std.proofs.lemmas.Bool.{false≢true}
-use Rattle.std.specs.Prelude.{nat_lt}
+use Rattle.strm_image.proofs.Prelude.{◌≡◌, ℕ, ◌≤◌, ◌+◌, ◌*◌, Bool, true, false, not, cond, List, [], ◌∷◌, ◌++◌, length, map, Option, None, Some, refl}
+use Rattle.strm_image.proofs.Prelude.{sym, arith, false≢true, nat_lt, length-append, flat_map-cons, sum_by-append, sum_by-cons, GoodDiscipline}
+use Rattle.strm_image.proofs.Prelude.{good-with, signals-fit}
+use Rattle.strm_image.specs.Prelude.{BANDS, BLOCK_SIZE, HIGH_PRIORITY_RANK, IOCTL_MAX, SIGNAL_LAST, ModuleName, Openness, Side, Master, Slave}
+use Rattle.strm_image.specs.Prelude.{QueueName, RULES, Free, Waiting, Answered, Termios, Winsize, is_data_kind, Discipline, discipline, QueuePair}
+use Rattle.strm_image.specs.Prelude.{stood, Message, cells_of, part, size_of, IsOnce, is_master, Flow, Queue, bytes_of, AreSignals, PlainSlot}
+use Rattle.strm_image.specs.Prelude.{answer_bytes, GoodModule, GoodModules, GoodStream, IsWhole, EachOnce, Module, OfLdterm, OfPtem, OfPckt, Standing}
+use Rattle.strm_image.specs.Prelude.{module_name, module_queues, queues_of_modules, Stream, messages_in, queues_of, stream, stream_queues, IsWithin}
 use Rattle.std.specs.List.{AllByRecursion, sum_by}
 use Rattle.std.proofs.Math.Nat.{suc-mul, zero-mul}
-use Rattle.std.proofs.lemmas.List.{length-append}
-use Rattle.std.proofs.lemmas.List.Concat.{flat_map-cons}
-use Rattle.std.proofs.lemmas.List.Sums.{sum_by-append, sum_by-cons}
-use Rattle.strm_types.specs.declared.limits.TheConstants.{BANDS, BLOCK_SIZE, HIGH_PRIORITY_RANK, IOCTL_MAX, SIGNAL_LAST}
 use Rattle.strm_types.specs.declared.keys.TheConstants.{LINE_MAX}
-use Rattle.strm_types.specs.declared.names.ModuleName.{ModuleName}
 use Rattle.strm_types.specs.declared.names.ModuleName.TheVariants as names
-use Rattle.strm_types.specs.declared.names.Openness.{Openness}
-use Rattle.strm_types.specs.declared.names.Side.{Side}
-use Rattle.strm_types.specs.declared.names.Side.TheVariants.{Master, Slave}
-use Rattle.strm_types.specs.declared.names.QueueName.{QueueName}
-use Rattle.strm_types.specs.declared.rules.TheConstants.{RULES}
-use Rattle.strm_types.specs.declared.slots.Slot.TheVariants.{Free, Waiting, Answered}
-use Rattle.strm_types.specs.declared.termios.Termios.{Termios}
-use Rattle.strm_types.specs.declared.winsize.Winsize.{Winsize}
-use Rattle.strm_types.specs.Flush.{is_data_kind}
-use Rattle.strm_types.specs.Ldterms.{Discipline, discipline}
-use Rattle.strm_types.specs.Standings.{QueuePair, stood}
-use Rattle.strm_types.specs.Message.{Message, cells_of, part, size_of}
-use Rattle.strm_types.specs.Names.{IsOnce, is_master}
-use Rattle.strm_types.specs.Queue.{Flow, Queue, bytes_of}
-use Rattle.strm_types.specs.Signals.{AreSignals}
-use Rattle.strm_types.specs.Slots.{PlainSlot, answer_bytes}
-use Rattle.strm_laws.specs.Restorable.{GoodModule, GoodModules, GoodStream, IsWhole}
-use Rattle.strm_laws.specs.StackCosts.{EachOnce}
-use Rattle.strm_laws.specs.Stacked.{Module, OfLdterm, OfPtem, OfPckt, Standing, module_name, module_queues, queues_of_modules}
-use Rattle.strm_laws.proofs.GoodLdterms.{GoodDiscipline, good-with}
-use Rattle.strm_laws.specs.State.{Stream, messages_in, queues_of, stream, stream_queues}
-use Rattle.strm_laws.specs.Within.{IsWithin}
-use Rattle.strm_types.proofs.SignalRoom.{signals-fit}
 use Rattle.strm_image.specs.declared.lengths.TheConstants.{IMAGE_BLOCK, IMAGE_FIXED, MESSAGE_FIXED, QUEUE_FIXED, STREAM_FIXED}
 use Rattle.strm_image.specs.declared.versions.QueueKind.{QueueKind}
 use Rattle.strm_image.specs.declared.versions.QueueKind.TheVariants as queues

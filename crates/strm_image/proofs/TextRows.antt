@@ -1,10 +1,6 @@
 -- What stands in a text, seen as plain values.
-use Rattle.std.proofs.Common.{◌≡◌, ℕ, zero, suc, ◌||◌, List, [], ◌∷◌, map, refl, ap}
-use Rattle.std.specs.Prelude.{replicate}
-use Rattle.strm_types.specs.declared.names.ModuleName.{ModuleName}
-use Rattle.strm_types.specs.Modules.{stands}
-use Rattle.strm_types.specs.Names.{same_module}
-use Rattle.strm_laws.specs.Stacked.{module_name}
+use Rattle.strm_image.proofs.Prelude.{◌≡◌, ℕ, zero, suc, ◌||◌, List, [], ◌∷◌, map, refl, ap, replicate}
+use Rattle.strm_image.specs.Prelude.{ModuleName, stands, same_module, module_name}
 use Rattle.strm_image.specs.declared.modules.ModuleText.{ModuleText}
 use Rattle.strm_image.specs.Modules.{has_name}
 use Rattle.strm_image.specs.ModuleTexts.{module_now, modules_now, names_now}

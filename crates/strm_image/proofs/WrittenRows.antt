@@ -1,19 +1,12 @@
 -- The texts of the formats in pieces, as writers put them.
-use Rattle.std.proofs.Common.{◌≡◌, ◌∙◌, ℕ, suc, ◌+◌, ◌<◌, Bool, true, false, cond, List, [], ◌∷◌, ◌++◌, length, drop, get_or, refl, sym, ap, arith, append_assoc}
+use Rattle.strm_image.proofs.Prelude.{◌≡◌, ◌∙◌, ℕ, suc, ◌+◌, ◌<◌, Bool, true, false, cond, List, [], ◌∷◌, ◌++◌, length, drop, get_or, refl, sym, ap}
+use Rattle.strm_image.proofs.Prelude.{arith, append_assoc, append-nil, flat_map-cons}
+use Rattle.strm_image.specs.Prelude.{BANDS, QueueName, Marks, Discipline, Message, Ptem, Flow, Queue, OfPtem, OfPckt, Standing, ldterm_stands}
 use Rattle.std.specs.List.{flat_map}
 use Rattle.std.proofs.Math.Seq.{drop-cons}
-use Rattle.std.proofs.lemmas.List.{append-nil, drop_all}
-use Rattle.std.proofs.lemmas.List.Concat.{flat_map-cons}
-use Rattle.strm_types.specs.declared.limits.TheConstants.{BANDS}
+use Rattle.std.proofs.lemmas.List.{drop_all}
 use Rattle.strm_types.specs.declared.names.ModuleName.TheVariants as names
-use Rattle.strm_types.specs.declared.names.QueueName.{QueueName}
-use Rattle.strm_types.specs.declared.options.Marks.{Marks}
-use Rattle.strm_types.specs.Ldterms.{Discipline}
-use Rattle.strm_types.specs.Message.{Message}
 use Rattle.strm_types.specs.Pckts.{Pckt}
-use Rattle.strm_types.specs.Ptems.{Ptem}
-use Rattle.strm_types.specs.Queue.{Flow, Queue}
-use Rattle.strm_laws.specs.Stacked.{OfPtem, OfPckt, Standing, ldterm_stands}
 use Rattle.strm_image.specs.declared.versions.QueueKind.{QueueKind}
 use Rattle.strm_image.specs.declared.versions.Version.TheVariants.{Second}
 use Rattle.strm_image.specs.Codes.{module_kind, version}

@@ -1,12 +1,7 @@
 -- What the messages of a stream take and hold, and that this is what the ledger of a direction counts.
 use Rattle.std.specs.Prelude.{ℕ, ◌+◌, ◌==◌, Bool, List, length}
 use Rattle.std.specs.List.{sum, sum_by}
-use Rattle.strm_types.specs.declared.names.Way.{Way}
-use Rattle.strm_types.specs.declared.names.Way.TheVariants.{Up, Down}
-use Rattle.strm_types.specs.Message.{Message}
-use Rattle.strm_types.specs.Standings.{messages_at}
-use Rattle.strm_types.specs.Queue.{Queue}
-use Rattle.strm_laws.specs.Stacked.{Standing, module_line, module_queues}
+use Rattle.strm_image.specs.Prelude.{Way, Up, Down, Message, messages_at, Queue, Standing, module_line, module_queues}
 use Rattle.strm_image.specs.Image.{Account}
 use Rattle.strm_image.specs.Loads.{blocks_of, counted_of}
 use Rattle.strm_image.specs.Streams.{Laid}

@@ -2,26 +2,12 @@
 -- has that from the types of its fields, from the size of its pool, and from its ledgers.
 use Rattle.std.specs.Prelude.{◌≡◌, ◌<◌, ◌^◌, ◌+◌, ℕ, List, length, replicate, sum_by}
 use Rattle.std.specs.List.{AllByRecursion, sum}
-use Rattle.strm_types.specs.declared.books.Book.{Book}
-use Rattle.strm_types.specs.declared.both.Both.{Both}
-use Rattle.strm_types.specs.declared.limits.TheConstants.{BANDS}
-use Rattle.strm_types.specs.declared.names.Dir.{Dir}
-use Rattle.strm_types.specs.declared.names.Dir.TheVariants.{MasterToSlave, SlaveToMaster}
-use Rattle.strm_types.specs.declared.rules.Fates.{Fates}
-use Rattle.strm_types.specs.declared.rules.TheConstants.{RULES}
-use Rattle.strm_types.specs.declared.slots.Slot.TheVariants.{Free, Waiting, Answered}
-use Rattle.strm_types.specs.declared.termios.Termios.{Termios}
-use Rattle.strm_types.specs.declared.winsize.Winsize.{Winsize}
-use Rattle.strm_types.specs.Both.{AllSides, get, twice}
-use Rattle.strm_types.specs.Message.{Message, part}
-use Rattle.strm_types.specs.Names.{side_from}
-use Rattle.strm_types.specs.Queue.{IsOrdered, Queue, bytes_of}
-use Rattle.strm_types.specs.Rules.{fates_of}
-use Rattle.strm_types.specs.Slots.{PlainSlot}
-use Rattle.strm_laws.specs.Ledgers.{inline, queued}
+use Rattle.strm_image.specs.Prelude.{Book, Both, BANDS, Dir, MasterToSlave, SlaveToMaster, Fates, RULES, Free, Waiting, Answered, Termios, Winsize}
+use Rattle.strm_image.specs.Prelude.{get, Message, part, side_from, IsOrdered, Queue, bytes_of, fates_of, PlainSlot, inline, queued, Module, OfLdterm}
+use Rattle.strm_image.specs.Prelude.{OfPtem, OfPckt, Standing, State, Stream, book, queues_of}
+use Rattle.strm_types.specs.Both.{AllSides, twice}
 use Rattle.strm_laws.specs.Restorable.{Restorable}
-use Rattle.strm_laws.specs.Stacked.{Module, OfLdterm, OfPtem, OfPckt, Standing}
-use Rattle.strm_laws.specs.State.{AreOrdered, State, Stream, book, opening, queues_of}
+use Rattle.strm_laws.specs.State.{AreOrdered, opening}
 use Rattle.strm_image.specs.Image.{Imaged}
 
 -- the lengths of a message's parts have 32 bits

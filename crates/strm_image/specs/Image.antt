@@ -1,27 +1,11 @@
 -- The image of a pair: the text of its plain state and of what has gone by each rule, and which of them have one.
 use Rattle.std.specs.Prelude.{ℕ, ◌+◌, Bool, true, false, not, ◌&&◌, ◌||◌, ◌==◌, nat_lt, List, [], ◌∷◌, ◌++◌}
 use Rattle.std.specs.List.{list_all, sum}
-use Rattle.strm_types.specs.declared.books.Book.{Book}
-use Rattle.strm_types.specs.declared.both.Both.{Both}
-use Rattle.strm_types.specs.declared.names.Dir.{Dir}
-use Rattle.strm_types.specs.declared.names.Dir.TheVariants.{MasterToSlave, SlaveToMaster}
+use Rattle.strm_image.specs.Prelude.{Book, Both, Dir, MasterToSlave, SlaveToMaster, Openness, Place, QueueName, Side, Way, Up, Down, RULES, get}
+use Rattle.strm_image.specs.Prelude.{stands, has_service, is_enabled, is_open, same_way, side_from, is_none_left, is_free, queued, inline, Standing}
+use Rattle.strm_image.specs.Prelude.{module_name, State, Stream, book, stream}
 use Rattle.strm_types.specs.declared.names.ModuleName.TheVariants as modules
-use Rattle.strm_types.specs.declared.names.Openness.{Openness}
-use Rattle.strm_types.specs.declared.names.Place.{Place}
 use Rattle.strm_types.specs.declared.names.Place.TheVariants as places
-use Rattle.strm_types.specs.declared.names.QueueName.{QueueName}
-use Rattle.strm_types.specs.declared.names.Side.{Side}
-use Rattle.strm_types.specs.declared.names.Way.{Way}
-use Rattle.strm_types.specs.declared.names.Way.TheVariants.{Up, Down}
-use Rattle.strm_types.specs.declared.rules.TheConstants.{RULES}
-use Rattle.strm_types.specs.Both.{get}
-use Rattle.strm_types.specs.Modules.{stands}
-use Rattle.strm_types.specs.Names.{has_service, is_enabled, is_open, same_way, side_from}
-use Rattle.strm_types.specs.Queue.{is_none_left}
-use Rattle.strm_types.specs.Slots.{is_free}
-use Rattle.strm_laws.specs.Ledgers.{queued, inline}
-use Rattle.strm_laws.specs.Stacked.{Standing, module_name}
-use Rattle.strm_laws.specs.State.{State, Stream, book, stream}
 use Rattle.strm_image.specs.declared.versions.Version.{Version}
 use Rattle.strm_image.specs.declared.versions.Version.TheVariants.{First, Second}
 use Rattle.strm_image.specs.Codes.{flag, openness, place, side, version, way}

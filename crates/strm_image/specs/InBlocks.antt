@@ -1,7 +1,6 @@
 -- Messages in blocks: what holds of how they stand in a store, without saying which one.
 use Rattle.std.specs.Prelude.{◌≡◌, ◌≤◌, ◌+◌, ◌-◌, ◌*◌, ℕ, true, List, length, Option, is_some}
-use Rattle.strm_types.specs.declared.limits.TheConstants.{BLOCK_SIZE}
-use Rattle.strm_types.specs.Message.{Message}
+use Rattle.strm_image.specs.Prelude.{BLOCK_SIZE, Message}
 use Rattle.strm_image.specs.Messages.{bytes_in, is_ioctl_kind, message_parts}
 
 -- a part in so many blocks, one at least where it is there: each has at most 256 bytes

@@ -1,3 +1,4 @@
+pub mod Prelude
 pub mod Format
 pub mod Sinks
 pub mod Codes

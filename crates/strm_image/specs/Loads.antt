@@ -1,8 +1,6 @@
 -- How many blocks messages take, and how many bytes of them the ledgers count.
 use Rattle.std.specs.Prelude.{ℕ, ◌+◌, ◌-◌, ◌/◌, if◌then◌else◌, List, length, slice_set, sum_by, max, Option, None, Some}
-use Rattle.strm_types.specs.declared.limits.TheConstants.{BLOCK_SIZE}
-use Rattle.strm_types.specs.Message.{Message, cells_of}
-use Rattle.strm_types.specs.Queue.{Flow}
+use Rattle.strm_image.specs.Prelude.{BLOCK_SIZE, Message, cells_of, Flow}
 use Rattle.strm_image.specs.declared.versions.Load.{Load}
 use Rattle.strm_image.specs.Messages.{Parts, bytes_in, is_ioctl_kind, message_parts}
 

@@ -1,14 +1,8 @@
 -- The text of a message and of the messages of a queue, and which of them have one.
 use Rattle.std.specs.Prelude.{ℕ, Bool, true, false, not, ◌&&◌, ◌||◌, ◌==◌, nat_lt, nat_le, if◌then◌else◌, List, [], length, Option, None, Some, unwrap_or, is_some}
-use Rattle.strm_types.specs.declared.kinds.MsgKind.{MsgKind}
-use Rattle.strm_types.specs.declared.kinds.MsgKind.TheVariants.{Ioctl, Iocack, Iocnak}
-use Rattle.strm_types.specs.declared.limits.TheConstants.{BANDS, HIGH_PRIORITY_RANK}
+use Rattle.strm_image.specs.Prelude.{MsgKind, Ioctl, Iocack, Iocnak, BANDS, HIGH_PRIORITY_RANK, crosses, is_data_kind, is_control_kind, waits_there}
+use Rattle.strm_image.specs.Prelude.{Message, is_high_priority, rank_of}
 use Rattle.strm_types.specs.Commands.{is_ioctl}
-use Rattle.strm_types.specs.Drivers.{crosses}
-use Rattle.strm_types.specs.Flush.{is_data_kind}
-use Rattle.strm_types.specs.Kinds.{is_control_kind}
-use Rattle.strm_types.specs.Ldterms.{waits_there}
-use Rattle.strm_types.specs.Message.{Message, is_high_priority, rank_of}
 use Rattle.strm_image.specs.declared.versions.QueueKind.{QueueKind}
 use Rattle.strm_image.specs.declared.versions.QueueKind.TheVariants as queues
 use Rattle.strm_image.specs.declared.versions.Version.{Version}

@@ -1,11 +1,8 @@
 -- Modules in a text, seen as plain values.
 use Rattle.std.specs.Prelude.{ℕ, List, map}
-use Rattle.strm_types.specs.declared.names.ModuleName.{ModuleName}
-use Rattle.strm_types.specs.Ldterms.{Discipline, Ldterm, by_itself, pair_of}
-use Rattle.strm_types.specs.Pckts.{new_pckt}
-use Rattle.strm_types.specs.Ptems.{Ptem}
-use Rattle.strm_types.specs.Standings.{QueuePair}
-use Rattle.strm_laws.specs.Stacked.{OfPtem, OfPckt, Standing, ldterm_stands, module_name}
+use Rattle.strm_image.specs.Prelude.{ModuleName, Discipline, by_itself, new_pckt, Ptem, QueuePair, OfPtem, OfPckt, Standing, ldterm_stands}
+use Rattle.strm_image.specs.Prelude.{module_name}
+use Rattle.strm_types.specs.Ldterms.{Ldterm, pair_of}
 use Rattle.strm_image.specs.declared.modules.LdtermText.{LdtermText}
 use Rattle.strm_image.specs.declared.modules.ModuleText.{ModuleText}
 use Rattle.strm_image.specs.declared.modules.ModuleText.TheVariants as texts

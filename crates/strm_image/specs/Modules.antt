@@ -1,21 +1,12 @@
 -- The text of the modules of a stream.
 use Rattle.std.specs.Prelude.{ℕ, Bool, true, false, ◌&&◌, not, nat_le, List, [], ◌∷◌, ◌++◌, None, is_some}
 use Rattle.std.specs.List.{list_any}
-use Rattle.strm_types.specs.declared.limits.TheConstants.{MODULES}
-use Rattle.strm_types.specs.declared.names.ModuleName.{ModuleName}
+use Rattle.strm_image.specs.Prelude.{MODULES, ModuleName, COLUMN_MAX, Termios, Winsize, Between, Discipline, by_itself, same_module, new_pckt, Ptem}
+use Rattle.strm_image.specs.Prelude.{Queue, ldterm_rests, Module, OfPtem, OfPckt, Standing, ldterm_stands, module_name, discipline_of}
 use Rattle.strm_types.specs.declared.names.ModuleName.TheVariants as names
-use Rattle.strm_types.specs.declared.output.TheConstants.{COLUMN_MAX}
-use Rattle.strm_types.specs.declared.termios.Termios.{Termios}
-use Rattle.strm_types.specs.declared.winsize.Winsize.{Winsize}
-use Rattle.strm_types.specs.Ldterms.{Between, Discipline, by_itself}
-use Rattle.strm_types.specs.Names.{place_of, same_module}
+use Rattle.strm_types.specs.Names.{place_of}
 use Rattle.strm_types.specs.Standings.{has_queues}
-use Rattle.strm_types.specs.Pckts.{new_pckt}
-use Rattle.strm_types.specs.Ptems.{Ptem, new_ptem}
-use Rattle.strm_types.specs.Queue.{Queue}
-use Rattle.strm_laws.specs.LdtermTurns.{ldterm_rests}
-use Rattle.strm_laws.specs.Stacked.{Module, OfPtem, OfPckt, Standing, ldterm_stands, module_name}
-use Rattle.strm_laws.specs.TurnCalls.{discipline_of}
+use Rattle.strm_types.specs.Ptems.{new_ptem}
 use Rattle.strm_image.specs.declared.versions.QueueKind.TheVariants as queues
 use Rattle.strm_image.specs.declared.versions.Version.{Version}
 use Rattle.strm_image.specs.Codes.{flag, module_kind}

@@ -1,9 +1,6 @@
 -- The text of a queue: its flags, the flow control of its bands, and its messages.
 use Rattle.std.specs.Prelude.{◌≡◌, ◌<◌, ℕ, zero, suc, ◌+◌, ◌-◌, Bool, true, false, not, ◌&&◌, ◌==◌, nat_lt, nat_le, if◌then◌else◌, List, [], ◌∷◌, ◌++◌, length, drop, take, replicate, slice_index_or}
-use Rattle.strm_types.specs.declared.limits.TheConstants.{BANDS}
-use Rattle.strm_types.specs.declared.options.Marks.{Marks}
-use Rattle.strm_types.specs.Message.{Message}
-use Rattle.strm_types.specs.Queue.{Flow, Queue}
+use Rattle.strm_image.specs.Prelude.{BANDS, Marks, Message, Flow, Queue}
 use Rattle.strm_image.specs.declared.versions.QueueKind.{QueueKind}
 use Rattle.strm_image.specs.declared.versions.QueueKind.TheVariants as queues
 use Rattle.strm_image.specs.declared.versions.Version.{Version}

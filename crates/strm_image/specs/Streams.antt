@@ -1,14 +1,7 @@
 -- The text of a stream: its head, its modules and its driver.
 use Rattle.std.specs.Prelude.{ℕ, ◌+◌, Bool, true, false, not, ◌&&◌, ◌||◌, ◌==◌, nat_le, nat_lt, if◌then◌else◌, List, [], ◌∷◌, ◌++◌}
-use Rattle.strm_types.specs.declared.limits.TheConstants.{IOCTL_MAX}
-use Rattle.strm_types.specs.declared.modes.ControlMode.{ControlMode}
-use Rattle.strm_types.specs.declared.modes.ReadMode.{ReadMode}
-use Rattle.strm_types.specs.declared.slots.Slot.TheVariants.{Free, Waiting, Answered}
-use Rattle.strm_types.specs.Heads.{Head}
-use Rattle.strm_types.specs.Queue.{Queue}
-use Rattle.strm_types.specs.Signals.{is_signal, has_signal}
-use Rattle.strm_types.specs.Slots.{PlainSlot}
-use Rattle.strm_laws.specs.Stacked.{Standing}
+use Rattle.strm_image.specs.Prelude.{IOCTL_MAX, ControlMode, ReadMode, Free, Waiting, Answered, Head, Queue, is_signal, has_signal, PlainSlot}
+use Rattle.strm_image.specs.Prelude.{Standing}
 use Rattle.strm_image.specs.declared.versions.QueueKind.TheVariants as queues
 use Rattle.strm_image.specs.declared.versions.SlotKind.{SlotKind}
 use Rattle.strm_image.specs.declared.versions.SlotKind.TheVariants as slots

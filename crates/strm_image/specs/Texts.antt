@@ -1,8 +1,6 @@
 -- What stands in a text, seen as plain values.
 use Rattle.std.specs.Prelude.{◌≡◌, ◌<◌, ◌^◌, ℕ, true, List, [], length, Option, None, Some, option_map}
-use Rattle.strm_types.specs.declared.limits.TheConstants.{HIGH_PRIORITY_RANK}
-use Rattle.strm_types.specs.Message.{Message}
-use Rattle.strm_types.specs.Queue.{Flow}
+use Rattle.strm_image.specs.Prelude.{HIGH_PRIORITY_RANK, Message, Flow}
 use Rattle.strm_image.specs.declared.messages.MessageText.{MessageText}
 use Rattle.strm_image.specs.declared.passed.FlowsText.{FlowsText}
 use Rattle.strm_image.specs.declared.passed.MessagesText.{MessagesText}

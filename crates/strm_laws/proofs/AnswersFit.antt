@@ -1,34 +1,18 @@
 -- No answer has more bytes than its call may have.
-use Rattle.std.proofs.Common.{ℕ, ◌≡◌, ◌≤◌, ◌+◌, Bool, true, false, cond, List, length, refl, arith, length-append}
-use Rattle.std.specs.Prelude.{◌==◌, min, Option, None, Some, option_map}
-use Rattle.std.proofs.lemmas.List.{length-map}
-use Rattle.strm_types.specs.declared.events.Caller.{Caller}
-use Rattle.strm_types.specs.declared.events.Event.TheVariants.{Look, Read, Get, Ioctl, IoctlResult, Signals}
-use Rattle.strm_types.specs.declared.answers.Answer.TheVariants.{Done, Bytes, Nak}
-use Rattle.strm_types.specs.declared.ioctls.TheConstants.{TIOCGPGRP}
-use Rattle.strm_types.specs.declared.refusals.Refusal.TheVariants.{Einval}
-use Rattle.strm_types.specs.declared.limits.TheConstants.{READ_MAX, CONTENT_MAX, IOCTL_MAX}
-use Rattle.strm_types.specs.declared.modes.Wanted.{Wanted}
-use Rattle.strm_types.specs.declared.names.ModuleName.{ModuleName}
-use Rattle.strm_types.specs.declared.names.Side.{Side}
-use Rattle.strm_types.specs.declared.names.Way.TheVariants.{Down}
-use Rattle.strm_types.specs.declared.slots.Slot.TheVariants.{Free, Waiting, Answered}
-use Rattle.strm_types.specs.Events.{Request, content_of}
+use Rattle.strm_laws.proofs.Prelude.{ℕ, ◌≡◌, ◌≤◌, ◌+◌, Bool, true, false, cond, List, length, refl, arith, length-append, ◌==◌, min, Option, None}
+use Rattle.strm_laws.proofs.Prelude.{Some, option_map, length-map, head_draw-most, signals-fit}
+use Rattle.strm_laws.specs.Prelude.{Caller, Look, Read, Get, IoctlResult, Signals, Done, Bytes, Nak, TIOCGPGRP, Einval, READ_MAX, IOCTL_MAX, Wanted}
+use Rattle.strm_laws.specs.Prelude.{ModuleName, Side, Down, Free, Waiting, Request, content_of, Cells, bytes_of, head_get, asking, ioctl_message}
+use Rattle.strm_laws.specs.Prelude.{word_bytes, asks_group, group_reply, sets_group, content_max, part, head_draw, PlainSlot, answer_bytes}
+use Rattle.strm_laws.specs.Prelude.{gives_nothing, told_of}
+use Rattle.strm_types.specs.declared.events.Event.TheVariants.{Ioctl}
+use Rattle.strm_types.specs.declared.limits.TheConstants.{CONTENT_MAX}
+use Rattle.strm_types.specs.declared.slots.Slot.TheVariants.{Answered}
 use Rattle.strm_laws.specs.Calls.{Outcome, called, get_at, ioctl_begun, ioctl_sent, name_told, performed, read_at}
-use Rattle.strm_types.specs.Cells.{Cells, bytes_of}
-use Rattle.strm_types.specs.Gets.{head_get}
-use Rattle.strm_types.specs.Ioctls.{asking, ioctl_message, word_bytes}
-use Rattle.strm_types.specs.JobControl.{asks_group, group_reply, sets_group}
-use Rattle.strm_types.specs.Journal.{content_max}
-use Rattle.strm_types.specs.Message.{part}
 use Rattle.strm_laws.specs.Pushes.{top_on}
-use Rattle.strm_types.specs.Reads.{head_draw}
-use Rattle.strm_types.specs.Slots.{PlainSlot, answer_bytes, gives_nothing, told_of}
 use Rattle.strm_laws.specs.State.{State, stream}
 use Rattle.strm_laws.specs.Within.{AreWithin}
 use Rattle.strm_laws.proofs.GetKeeps.{get-control, get-data}
-use Rattle.strm_types.proofs.ReadKeeps.{head_draw-most}
-use Rattle.strm_types.proofs.SignalRoom.{signals-fit}
 use Rattle.strm_laws.proofs.Stopping.{of-called}
 use Rattle.strm_laws.proofs.WithinSteps.{begun-within, delivered-within}
 

@@ -1,24 +1,14 @@
 -- The answer of an ioctl is given once.
-use Rattle.std.proofs.Common.{ℕ, ◌≡◌, ◌⊎◌, inl, inr, Bool, true, false, cond, List, refl, ap, ◌∙◌, arith}
-use Rattle.std.specs.Prelude.{◌==◌, Option, None, Some}
-use Rattle.std.proofs.lemmas.Bool.Decides.{nat_tests}
-use Rattle.strm_types.specs.declared.answers.Answer.TheVariants.{Done, Bytes, Nak, Pending}
-use Rattle.strm_types.specs.declared.events.Caller.{Caller}
-use Rattle.strm_types.specs.declared.events.Event.TheVariants.{Ioctl, IoctlResult}
-use Rattle.strm_types.specs.declared.ioctls.TheConstants.{TIOCGPGRP}
-use Rattle.strm_types.specs.declared.names.Side.{Side}
-use Rattle.strm_types.specs.declared.names.Side.TheVariants.{Master, Slave}
-use Rattle.strm_types.specs.declared.refusals.Refusal.{Refusal}
-use Rattle.strm_types.specs.declared.refusals.Refusal.TheVariants.{Einval, Eagain}
-use Rattle.strm_types.specs.declared.slots.Slot.TheVariants.{Free, Waiting, Answered}
-use Rattle.strm_types.specs.Events.{Reply}
+use Rattle.strm_laws.proofs.Prelude.{ℕ, ◌≡◌, ◌⊎◌, inl, inr, Bool, true, false, cond, List, refl, ap, ◌∙◌, arith, ◌==◌, Option, None, Some, nat_tests}
+use Rattle.strm_laws.specs.Prelude.{Done, Bytes, Nak, Caller, IoctlResult, TIOCGPGRP, Side, Master, Slave, Refusal, Einval, Eagain, Free, Waiting}
+use Rattle.strm_laws.specs.Prelude.{Reply, Cells, word_bytes, asks_group, group_reply, sets_group, unless, PlainSlot, gives_nothing, is_free}
+use Rattle.strm_laws.specs.Prelude.{result_refusal, slot_behind, told_of}
+use Rattle.strm_types.specs.declared.answers.Answer.TheVariants.{Pending}
+use Rattle.strm_types.specs.declared.events.Event.TheVariants.{Ioctl}
+use Rattle.strm_types.specs.declared.slots.Slot.TheVariants.{Answered}
 use Rattle.strm_laws.specs.Calls.{called, group_at, ioctl_at, ioctl_sent, ioctl_told}
-use Rattle.strm_types.specs.Cells.{Cells}
-use Rattle.strm_types.specs.Ioctls.{word_bytes}
-use Rattle.strm_types.specs.JobControl.{asks_group, group_reply, sets_group}
 use Rattle.strm_laws.specs.Refusals.{refused_by_state}
-use Rattle.strm_types.specs.Refused.{unless}
-use Rattle.strm_types.specs.Slots.{PlainSlot, gives_nothing, is_free, result_refusal, slot_behind, told_of, unless_same}
+use Rattle.strm_types.specs.Slots.{unless_same}
 use Rattle.strm_laws.specs.State.{State, stream, with_ioctl}
 
 -- a slot that is answered is free behind that

@@ -1,59 +1,35 @@
 -- What stands on the queues of a pair and in its lines, with what has gone, is what its books say: of each direction, and of each byte.
-use Rattle.std.proofs.Common.{ℕ, zero, suc, ◌≡◌, ◌<◌, ◌≤◌, ◌^◌, ◌+◌, Bool, true, false, cond, List, [], ◌∷◌, ◌++◌, length, refl, sym, ap, subst, ◌∙◌, length-append, arith}
-use Rattle.std.specs.Prelude.{◌&&◌, ◌||◌, nat_lt, count_by, drop, min, take, Option, None, Some}
-use Rattle.std.proofs.lemmas.Bool.Decides.{nat_tests}
-use Rattle.std.proofs.lemmas.List.{length-drop, length-take}
-use Rattle.strm_types.specs.declared.books.Book.{Book}
+use Rattle.strm_laws.proofs.Prelude.{ℕ, zero, suc, ◌≡◌, ◌<◌, ◌≤◌, ◌+◌, Bool, true, false, cond, List, [], ◌∷◌, ◌++◌, length, refl, sym, ap, subst}
+use Rattle.strm_laws.proofs.Prelude.{◌∙◌, length-append, arith, ◌&&◌, ◌||◌, nat_lt, count_by, min, Option, None, Some, nat_tests, length-drop}
+use Rattle.strm_laws.proofs.Prelude.{length-take, made-long}
+use Rattle.strm_laws.specs.Prelude.{Book, Called, Turned, Caller, FlushQueues, Band, Shut, Push, Pop, Write, Read, Put, Get, READ_MAX, Prio, Dir}
+use Rattle.strm_laws.specs.Prelude.{MasterToSlave, SlaveToMaster, Side, Master, Slave, Down, Einval, Erange, EndClosed, Spot, with_written, Request}
+use Rattle.strm_laws.specs.Prelude.{Cells, cells_written, Fate, Goes, Comes, of_all, asked_of, flush_bytes, flush_message, asking, ioctl_message}
+use Rattle.strm_laws.specs.Prelude.{asks_group, PlainEntry, Message, cells_of, data_message, part, direction_from, direction_of, head_of, is_open}
+use Rattle.strm_laws.specs.Prelude.{is_no_prio, is_too_long, put_refusal, or_else, chunk_count, chunks_of, mode_message}
+use Rattle.std.proofs.Common.{◌^◌}
+use Rattle.std.specs.Prelude.{drop, take}
 use Rattle.strm_types.specs.declared.books.TheConstants.{BOOK_MAX}
-use Rattle.strm_types.specs.declared.entries.Entry.TheVariants.{Called, Turned}
-use Rattle.strm_types.specs.declared.events.Caller.{Caller}
-use Rattle.strm_types.specs.declared.events.FlushQueues.{FlushQueues}
-use Rattle.strm_types.specs.declared.kinds.Band.{Band}
-use Rattle.strm_types.specs.declared.events.Event.TheVariants.{Shut, Push, Pop, Flush, Write, Read, Put, Get, Ioctl}
-use Rattle.strm_types.specs.declared.limits.TheConstants.{CONTROL_MAX, DATA_MAX, READ_MAX}
-use Rattle.strm_types.specs.declared.modes.Prio.{Prio}
-use Rattle.strm_types.specs.declared.names.Dir.{Dir}
-use Rattle.strm_types.specs.declared.names.Dir.TheVariants.{MasterToSlave, SlaveToMaster}
-use Rattle.strm_types.specs.declared.names.Side.{Side}
-use Rattle.strm_types.specs.declared.names.Side.TheVariants.{Master, Slave}
-use Rattle.strm_types.specs.declared.names.Way.TheVariants.{Down}
-use Rattle.strm_types.specs.declared.refusals.Refusal.TheVariants.{Einval, Erange}
-use Rattle.strm_types.specs.declared.rules.Rule.TheVariants.{EndClosed}
-use Rattle.strm_types.specs.declared.spots.Spot.{Spot}
+use Rattle.strm_types.specs.declared.events.Event.TheVariants.{Flush, Ioctl}
+use Rattle.strm_types.specs.declared.limits.TheConstants.{CONTROL_MAX, DATA_MAX}
 use Rattle.strm_types.specs.Books as books
-use Rattle.strm_types.specs.Books.{with_written}
-use Rattle.strm_types.specs.Events.{Request}
 use Rattle.strm_laws.specs.Calls.{Outcome, called, delivers, group_at, ioctl_at, ioctl_begun, ioctl_sent, ioctl_told, message_put, performed, put_at, write_sent, wrote}
-use Rattle.strm_types.specs.Cells.{Cells, cells_written}
 use Rattle.strm_laws.specs.Closes.{closed_at, driver_emptied, ended, head_emptied, hung_up_at, stream_emptied}
-use Rattle.strm_types.specs.Deliver.{Fate, Goes, Comes}
-use Rattle.strm_types.specs.Emptied.{of_all}
-use Rattle.strm_types.specs.Flushing.{asked_of, flush_bytes, flush_message}
-use Rattle.strm_types.specs.Ioctls.{asking, ioctl_message}
-use Rattle.strm_types.specs.JobControl.{asks_group}
-use Rattle.strm_types.specs.Journal.{PlainEntry}
 use Rattle.strm_laws.specs.Kept.{count_came, gone}
 use Rattle.strm_laws.specs.Ledgers.{FewBooked}
-use Rattle.strm_types.specs.Message.{Message, cells_of, data_message, part}
-use Rattle.strm_types.specs.Names.{direction_from, direction_of, head_of, is_open}
 use Rattle.strm_laws.specs.Places.{weight_made}
-use Rattle.strm_types.specs.PutMsg.{is_no_prio, is_too_long, put_refusal}
 use Rattle.strm_laws.specs.Pushes.{head_above, named_by}
 use Rattle.strm_laws.specs.Puts.{delivered, flushed_on}
 use Rattle.strm_laws.specs.Refusals.{blocks_asked, in_range, refused_at_once, refused_by_state, unfit}
-use Rattle.strm_types.specs.Refused.{or_else}
 use Rattle.strm_laws.specs.Stacked.{Standing}
 use Rattle.strm_laws.specs.State.{State, book, stream, with_book, with_stream}
 use Rattle.strm_laws.specs.Step.{after}
 use Rattle.strm_laws.specs.Turns.{turned}
-use Rattle.strm_types.specs.Write.{chunk_count, chunks_of}
-use Rattle.strm_types.specs.Options.{mode_message}
 use Rattle.strm_laws.specs.Writes.{Wrote, below_head, cells_sent, chunks_sent, is_full_below}
 use Rattle.strm_laws.proofs.Replay.{fitting-met}
 use Rattle.strm_laws.proofs.Stopping.{of-allowed, of-called}
 use Rattle.strm_laws.proofs.ChangesMake.{close-none, get-none, pop-none, push-none, read-none}
 use Rattle.strm_laws.proofs.InOrder.{AreNext, BooksMade, InOrder, Numbered, books-both}
-use Rattle.strm_types.proofs.MadeCells.{made-long}
 use Rattle.strm_laws.proofs.PushHolds.{Survives, modules_emptied-holds, pop-holds, push-holds}
 use Rattle.strm_laws.proofs.PutsBook.{SameBooks, books-are, booked-before, booked-behind, delivered-books, head-same, none-booked, nothing-booked}
 use Rattle.strm_laws.proofs.StepBooks.{turn-books}

@@ -1,17 +1,9 @@
 -- A pair as it is made is a base, and so is each state of a legal journal that begins at one.
-use Rattle.std.proofs.Common.{ℕ, ◌<◌, ◌^◌, List, [], ◌∷◌, ◌++◌, refl, arith}
-use Rattle.std.specs.Prelude.{Option, None, Some}
+use Rattle.strm_laws.proofs.Prelude.{ℕ, ◌<◌, List, [], ◌∷◌, ◌++◌, refl, arith, Option, None, Some}
+use Rattle.strm_laws.specs.Prelude.{Dir, MasterToSlave, SlaveToMaster, Side, Master, Slave, Fates, plain, PlainEntry, IsOrdered, Queue, no_fates}
+use Rattle.strm_laws.specs.Prelude.{QueuePair, stood}
+use Rattle.std.proofs.Common.{◌^◌}
 use Rattle.std.specs.List.{AllByRecursion}
-use Rattle.strm_types.specs.declared.names.Dir.{Dir}
-use Rattle.strm_types.specs.declared.names.Dir.TheVariants.{MasterToSlave, SlaveToMaster}
-use Rattle.strm_types.specs.declared.names.Side.{Side}
-use Rattle.strm_types.specs.declared.names.Side.TheVariants.{Master, Slave}
-use Rattle.strm_types.specs.declared.rules.Fates.{Fates}
-use Rattle.strm_types.specs.Cells.{plain}
-use Rattle.strm_types.specs.Journal.{PlainEntry}
-use Rattle.strm_types.specs.Queue.{IsOrdered, Queue}
-use Rattle.strm_types.specs.Rules.{no_fates}
-use Rattle.strm_types.specs.Standings.{QueuePair, stood}
 use Rattle.strm_laws.specs.Bases.{IsBase}
 use Rattle.strm_laws.specs.Kept.{NothingUnread, told_by}
 use Rattle.strm_laws.specs.Ledgers.{Balanced, FewBooked}

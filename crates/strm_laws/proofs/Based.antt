@@ -1,26 +1,15 @@
 -- What stands in a state with the origins of a base: how often a test is passed there by bytes that are numbered, and that the bytes are the base's.
-use Rattle.std.proofs.Common.{ℕ, ◌≡◌, ◌+◌, Bool, true, false, List, [], ◌∷◌, ◌++◌, length, map, refl, ap, ◌∙◌, arith}
-use Rattle.std.specs.Prelude.{count_by, flat_map, sum_by, option_map, Option, None, Some}
+use Rattle.strm_laws.proofs.Prelude.{ℕ, ◌≡◌, ◌+◌, Bool, true, false, List, [], ◌∷◌, ◌++◌, length, map, refl, ap, ◌∙◌, arith, count_by, flat_map}
+use Rattle.strm_laws.proofs.Prelude.{sum_by, option_map, Option, None, Some, sum_by-cons, each-side, count-join, weight-take}
+use Rattle.strm_laws.specs.Prelude.{Dir, MasterToSlave, SlaveToMaster, Side, Master, Slave, Way, Up, Down, Tagged, tagged, Message, cells_of}
+use Rattle.strm_laws.specs.Prelude.{map_message, part, weight_of, QueuePair, map_pair, messages_at, messages_on, stood, direction_at, is_open, Queue}
+use Rattle.strm_laws.specs.Prelude.{map_messages, map_queue, weight}
 use Rattle.std.specs.List.{AllByRecursion}
-use Rattle.std.proofs.lemmas.List.Sums.{sum_by-cons}
-use Rattle.strm_types.specs.declared.names.Dir.{Dir}
-use Rattle.strm_types.specs.declared.names.Dir.TheVariants.{MasterToSlave, SlaveToMaster}
-use Rattle.strm_types.specs.declared.names.Side.{Side}
-use Rattle.strm_types.specs.declared.names.Side.TheVariants.{Master, Slave}
-use Rattle.strm_types.specs.declared.names.Way.{Way}
-use Rattle.strm_types.specs.declared.names.Way.TheVariants.{Up, Down}
-use Rattle.strm_types.specs.Cells.{Tagged, tagged}
-use Rattle.strm_types.specs.Message.{Message, cells_of, map_message, part, weight_of}
-use Rattle.strm_types.specs.Standings.{QueuePair, map_pair, messages_at, messages_on, stood}
-use Rattle.strm_types.specs.Names.{direction_at, is_open}
-use Rattle.strm_types.specs.Queue.{Queue, map_messages, map_queue, weight}
 use Rattle.strm_laws.specs.Based.{based, cells_in, held_by, held_in, number, number_message, number_messages, number_module, number_modules, number_pair, number_queue, number_stream}
 use Rattle.strm_laws.specs.Kept.{AreIdle, NothingUnread, state_weight, stream_weight}
 use Rattle.strm_laws.specs.Ledgers.{base_count, inline, queued}
 use Rattle.strm_laws.specs.Stacked.{Module, Standing, IsAtRest, map_module, module_line, module_weight, modules_weight, queues_weight}
 use Rattle.strm_laws.specs.State.{State, Stream, map_state, map_stream}
-use Rattle.strm_types.proofs.BySide.{each-side}
-use Rattle.strm_types.proofs.Weights.{count-join, weight-take}
 use Rattle.strm_laws.proofs.LawfulKinds.{plainly}
 use Rattle.strm_laws.proofs.StandingLdterms.{number-forgets}
 

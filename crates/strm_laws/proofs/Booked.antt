@@ -1,15 +1,8 @@
 -- What is booked of cells that were made, and what their counts tell, which go modulo 2^64.
-use Rattle.std.proofs.Common.{ℕ, ◌≡◌, ◌<◌, ◌+◌, ◌-◌, List, [], ◌∷◌, length, refl, ap, ◌∙◌, arith}
-use Rattle.std.specs.Prelude.{◌%◌, ◌^◌}
-use Rattle.strm_types.specs.declared.names.Dir.{Dir}
-use Rattle.strm_types.specs.declared.names.Dir.TheVariants.{MasterToSlave, SlaveToMaster}
-use Rattle.strm_types.specs.declared.names.QueueName.{QueueName}
-use Rattle.strm_types.specs.declared.names.Side.{Side}
-use Rattle.strm_types.specs.declared.names.Side.TheVariants.{Master, Slave}
-use Rattle.strm_types.specs.declared.rules.Fates.{Fates}
-use Rattle.strm_types.specs.Books.{with_made}
-use Rattle.strm_types.specs.Deliver.{Fate, Goes, Comes, counted_with, tallied}
-use Rattle.strm_types.specs.Input.{made_of}
+use Rattle.strm_laws.proofs.Prelude.{ℕ, ◌≡◌, ◌<◌, ◌+◌, ◌-◌, List, [], ◌∷◌, length, refl, ap, ◌∙◌, arith, ◌^◌}
+use Rattle.strm_laws.specs.Prelude.{Dir, MasterToSlave, SlaveToMaster, QueueName, Side, Master, Slave, Fates, with_made, Fate, Goes, Comes}
+use Rattle.strm_laws.specs.Prelude.{counted_with, tallied, made_of}
+use Rattle.std.specs.Prelude.{◌%◌}
 use Rattle.strm_laws.specs.Puts.{booked}
 use Rattle.strm_laws.specs.State.{State, Stream, book, with_stream, with_book}
 

@@ -1,9 +1,7 @@
 -- A delivery from any spot of a pair ends, whatever modules stand there, and takes few blocks where each stands on a side once.
-use Rattle.std.proofs.Common.{◌≡◌, ◌<◌, ◌≤◌, true, false, refl, arith}
-use Rattle.std.proofs.lemmas.Bool.{false≢true}
-use Rattle.strm_types.specs.declared.limits.TheConstants.{HOPS, MODULES}
-use Rattle.strm_types.specs.Budgets.{beyond, budget, most}
-use Rattle.strm_types.specs.Shapes.{At}
+use Rattle.strm_laws.proofs.Prelude.{◌≡◌, ◌<◌, ◌≤◌, true, false, refl, arith, false≢true}
+use Rattle.strm_laws.specs.Prelude.{HOPS, MODULES, beyond, budget, At}
+use Rattle.strm_types.specs.Budgets.{most}
 use Rattle.strm_laws.specs.SideCosts.{all_stacks, costs, side_budget, stack_fits}
 use Rattle.strm_laws.specs.StackCosts.{StandOnce, Stands, stands_on}
 use Rattle.strm_laws.proofs.StacksFit.{budget-most, fronts-once}

@@ -1,23 +1,10 @@
 -- Neither a push nor a pop, a close, a read or a get makes a cell.
-use Rattle.std.proofs.Common.{ℕ, ◌≡◌, Bool, true, false, cond, List, [], ◌∷◌, ◌++◌, refl, arith}
-use Rattle.std.specs.Prelude.{Option, None, Some}
-use Rattle.strm_types.specs.declared.modes.ControlMode.{ControlMode}
-use Rattle.strm_types.specs.declared.modes.ReadMode.{ReadMode}
-use Rattle.strm_types.specs.declared.modes.Wanted.{Wanted}
-use Rattle.strm_types.specs.declared.names.Dir.{Dir}
-use Rattle.strm_types.specs.declared.names.Side.{Side}
-use Rattle.strm_types.specs.declared.names.Side.TheVariants.{Master, Slave}
-use Rattle.strm_types.specs.declared.rules.Rule.{Rule}
-use Rattle.strm_types.specs.declared.rules.Rule.TheVariants.{EndClosed, ModulePopped}
+use Rattle.strm_laws.proofs.Prelude.{ℕ, ◌≡◌, Bool, true, false, cond, List, [], ◌∷◌, ◌++◌, refl, arith, Option, None, Some}
+use Rattle.strm_laws.specs.Prelude.{ControlMode, ReadMode, Wanted, Dir, Side, Master, Slave, Rule, EndClosed, ModulePopped, Fate, of_all, get_gone}
+use Rattle.strm_laws.specs.Prelude.{gets_none, Message, mode_message, read_gone, takes_none}
 use Rattle.strm_laws.specs.Closes.{and_then, closed_at, driver_emptied, head_emptied, stream_emptied}
-use Rattle.strm_types.specs.Deliver.{Fate}
-use Rattle.strm_types.specs.Emptied.{of_all}
-use Rattle.strm_types.specs.GetQueues.{get_gone, gets_none}
-use Rattle.strm_types.specs.Message.{Message}
-use Rattle.strm_types.specs.Options.{mode_message}
 use Rattle.strm_laws.specs.Places.{weight_made}
 use Rattle.strm_laws.specs.Pushes.{all_taken, head_above, modules_emptied, mode_behind, mode_on_push, mode_put, popped, pushed_named, top_on, top_taken, with_modules}
-use Rattle.strm_types.specs.Reads.{read_gone, takes_none}
 use Rattle.strm_laws.specs.Stacked.{Standing, module_name}
 use Rattle.strm_laws.specs.State.{State, stream}
 use Rattle.strm_laws.proofs.DeliveryKeeps.{made-append}

@@ -1,21 +1,12 @@
 -- Forgetting the origins of cells commutes with flushes and closes.
-use Rattle.std.proofs.Common.{◌≡◌, Bool, true, false, cond, map, refl, ap, ◌∙◌}
-use Rattle.std.proofs.lemmas.List.{map-append}
-use Rattle.strm_types.specs.declared.names.Side.{Side}
-use Rattle.strm_types.specs.declared.names.Side.TheVariants.{Master, Slave}
-use Rattle.strm_types.specs.declared.rules.Rule.{Rule}
-use Rattle.strm_types.specs.declared.rules.Rule.TheVariants.{EndClosed}
+use Rattle.strm_laws.proofs.Prelude.{◌≡◌, Bool, true, false, cond, map, refl, ap, ◌∙◌, map-append, map-set}
+use Rattle.strm_laws.specs.Prelude.{Side, Master, Slave, Rule, EndClosed, Carried, Choice, of_all, queue_behind, is_open, map_carried, map_fate}
 use Rattle.strm_laws.specs.Closes.{and_then, closed_at, driver_emptied, ended, head_emptied, hung_up_at, stream_emptied}
-use Rattle.strm_types.specs.Deliver.{Carried}
-use Rattle.strm_types.specs.Emptied.{Choice, of_all, queue_behind}
-use Rattle.strm_types.specs.Names.{is_open}
-use Rattle.strm_types.specs.Origins.{map_carried, map_fate}
 use Rattle.strm_laws.specs.Pushes.{modules_emptied}
 use Rattle.strm_laws.specs.State.{State, map_state, map_stream, stream, with_driver_queue, with_head_queue, with_stream}
 use Rattle.strm_laws.proofs.Earlier.{before_driver-forgets, before_head-forgets}
 use Rattle.strm_laws.proofs.EmptiedForgets.{gone-forgets, queue_behind-forgets, stream-forgets, writer_goes-forgets}
 use Rattle.strm_laws.proofs.PushForgets.{modules_emptied-forgets}
-use Rattle.strm_types.proofs.BySide.{map-set}
 
 -- what a close of the master takes away
 abbrev both_emptied : {E : Type 0} → State E → Carried E (State E)

@@ -1,29 +1,19 @@
 -- Closes lose no byte: what they take from queues and modules is what they say has gone. And what holds of a pair otherwise holds
 -- behind them.
-use Rattle.std.proofs.Common.{ℕ, ◌≡◌, ◌+◌, Bool, true, false, cond, List, [], ◌∷◌, refl, ap, ◌∙◌, arith, subst, sym}
+use Rattle.strm_laws.proofs.Prelude.{ℕ, ◌≡◌, ◌+◌, Bool, true, false, cond, List, [], ◌∷◌, refl, ap, ◌∙◌, arith, subst, sym, get-set-same}
+use Rattle.strm_laws.specs.Prelude.{Side, Master, Slave, EndClosed, Dir, Up, Carried, of_all, queue_behind, is_open, direction_at, weight, Head}
+use Rattle.strm_laws.specs.Prelude.{new_head, Closed}
 use Rattle.std.specs.List.{AllByRecursion}
-use Rattle.strm_types.specs.declared.names.Side.{Side}
-use Rattle.strm_types.specs.declared.names.Side.TheVariants.{Master, Slave}
-use Rattle.strm_types.specs.declared.rules.Rule.TheVariants.{EndClosed}
-use Rattle.strm_types.specs.declared.names.Dir.{Dir}
-use Rattle.strm_types.specs.declared.names.Way.TheVariants.{Up}
 use Rattle.strm_laws.specs.Closes.{and_then, closed_at, driver_emptied, ended, head_emptied, hung_up_at, stream_emptied}
-use Rattle.strm_types.specs.Deliver.{Carried}
-use Rattle.strm_types.specs.Emptied.{of_all, queue_behind}
 use Rattle.strm_laws.specs.Kept.{state_weight}
-use Rattle.strm_types.specs.Names.{is_open, direction_at}
 use Rattle.strm_laws.specs.Places.{weight_gone, weight_made}
 use Rattle.strm_laws.specs.Pushes.{all_taken, modules_emptied, top_taken}
-use Rattle.strm_types.specs.Queue.{weight}
 use Rattle.strm_laws.specs.Stacked.{Standing, IsAtRest}
-use Rattle.strm_types.specs.Heads.{Head, new_head}
 use Rattle.strm_laws.specs.State.{State, stream, with_stream, Stream, with_head_queue}
 use Rattle.strm_laws.proofs.DeliveryKeeps.{gone-append, made-append}
 use Rattle.strm_laws.proofs.EmptiedKeeps.{and_then-keeps, behind-all, driver_emptied-keeps, head_emptied-keeps}
 use Rattle.strm_laws.proofs.PushKeeps.{modules_emptied-keeps}
-use Rattle.strm_types.proofs.BySide.{get-set-same}
 use Rattle.strm_laws.proofs.StreamWeights.{same-weighs, stream-weighs}
-use Rattle.strm_types.specs.declared.names.Openness.TheVariants.{Closed}
 
 -- the modules of a side
 abbrev AreIdleAt : {C : Type 0} → Side → State C → Type 0

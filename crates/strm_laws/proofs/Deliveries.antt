@@ -1,21 +1,10 @@
 -- Deliveries in a pair, and with them flushes of a stream, lose no cell, and leave a side that isn't open nothing to be read.
-use Rattle.std.proofs.Common.{◌≡◌, ◌+◌, Bool, arith}
-use Rattle.std.specs.Prelude.{Option}
-use Rattle.strm_types.specs.declared.events.FlushQueues.{FlushQueues}
-use Rattle.strm_types.specs.declared.kinds.Band.{Band}
-use Rattle.strm_types.specs.declared.limits.TheConstants.{HOPS}
-use Rattle.strm_types.specs.declared.names.Side.{Side}
-use Rattle.strm_types.specs.declared.names.Way.TheVariants.{Down}
-use Rattle.strm_types.specs.declared.spots.Spot.{Spot}
-use Rattle.strm_types.specs.declared.names.Dir.{Dir}
-use Rattle.strm_types.specs.Cells.{Cells}
-use Rattle.strm_types.specs.Names.{direction_from}
-use Rattle.strm_types.specs.Flushing.{asked_of, flush_bytes, flush_message}
+use Rattle.strm_laws.proofs.Prelude.{◌≡◌, ◌+◌, Bool, arith, Option}
+use Rattle.strm_laws.specs.Prelude.{FlushQueues, Band, HOPS, Side, Down, Spot, Dir, Cells, direction_from, asked_of, flush_bytes, flush_message}
+use Rattle.strm_laws.specs.Prelude.{Message, weight_of, shape_of}
 use Rattle.strm_laws.specs.Kept.{state_weight}
-use Rattle.strm_types.specs.Message.{Message, weight_of}
 use Rattle.strm_laws.specs.Places.{weight_gone, weight_made, direction_to}
 use Rattle.strm_laws.specs.Puts.{SameButMade, delivered, flushed_on, put_in}
-use Rattle.strm_types.specs.Shapes.{shape_of}
 use Rattle.strm_laws.specs.SideCosts.{costs}
 use Rattle.strm_laws.specs.StackCosts.{stands_of}
 use Rattle.strm_laws.specs.State.{State}

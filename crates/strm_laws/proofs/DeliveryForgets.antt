@@ -1,9 +1,7 @@
 -- A delivery does the same to what is mapped.
-use Rattle.std.proofs.Common.{ℕ, zero, suc, ◌≡◌, List, [], ◌∷◌, ◌++◌, map, refl, ap}
-use Rattle.strm_types.specs.Message.{Message}
-use Rattle.strm_types.specs.declared.spots.Spot.{Spot}
-use Rattle.strm_types.specs.Deliver.{Parcel, Took, Carried, in_turn, carried}
-use Rattle.strm_types.specs.Origins.{map_parcel, map_fate, map_carried, PutsAgree, CarriesAgree}
+use Rattle.strm_laws.proofs.Prelude.{ℕ, zero, suc, ◌≡◌, List, [], ◌∷◌, ◌++◌, map, refl, ap}
+use Rattle.strm_laws.specs.Prelude.{Message, Spot, Parcel, Took, Carried, in_turn, carried, map_parcel, map_fate, map_carried, PutsAgree}
+use Rattle.strm_types.specs.Origins.{CarriesAgree}
 
 pub map-join : {A B : Type 0} (h : A → B) (xs ys : List A) → map h (xs ++ ys) ≡ map h xs ++ map h ys
 map-join h [] ys = refl

@@ -1,15 +1,11 @@
 -- A delivery keeps all cells.
-use Rattle.std.proofs.Common.{ℕ, zero, suc, ◌≡◌, ◌<◌, ◌+◌, Bool, List, [], ◌∷◌, ◌++◌, refl, subst, ◌∙◌, arith}
-use Rattle.std.specs.Prelude.{min, sum_by}
+use Rattle.strm_laws.proofs.Prelude.{ℕ, zero, suc, ◌≡◌, ◌<◌, ◌+◌, Bool, List, [], ◌∷◌, ◌++◌, refl, subst, ◌∙◌, arith, min, sum_by, PutHolds}
+use Rattle.strm_laws.proofs.Prelude.{carried-holds}
+use Rattle.strm_laws.specs.Prelude.{Message, Spot, Dir, Costed, Costs, Within, beyond, budget, cost_of, Parcel, Fate, Took, Carried, in_turn, carried}
+use Rattle.strm_laws.specs.Prelude.{At}
 use Rattle.std.specs.List.{AllByRecursion}
-use Rattle.strm_types.specs.Message.{Message}
-use Rattle.strm_types.specs.declared.spots.Spot.{Spot}
-use Rattle.strm_types.specs.declared.names.Dir.{Dir}
-use Rattle.strm_types.specs.Budgets.{Costed, Costs, Within, beyond, budget, cost_of}
-use Rattle.strm_types.specs.Deliver.{Parcel, Fate, Took, Carried, in_turn, carried}
-use Rattle.strm_types.specs.Shapes.{At, at_of}
+use Rattle.strm_types.specs.Shapes.{at_of}
 use Rattle.strm_types.proofs.CostsOf.{cost-more}
-use Rattle.strm_types.proofs.DeliveryHolds.{PutHolds, carried-holds}
 use Rattle.strm_laws.specs.Places.{weight_sent, weight_gone, weight_made, PutKeeps, CarryKeeps, KeepsFrom}
 
 module _ {C : Type 0} (p : Dir → C → Bool) where

@@ -1,46 +1,14 @@
 -- What holds of each stream of a pair holds behind each step, where it holds of a stream that changes as steps change it.
-use Rattle.std.proofs.Common.{ℕ, ◌≡◌, Bool, true, false, cond, List, [], ◌∷◌, refl, subst, arith}
-use Rattle.std.specs.Prelude.{Option, None, Some, min}
-use Rattle.strm_types.specs.declared.answers.Turn.{Turn}
-use Rattle.strm_types.specs.declared.entries.Entry.TheVariants.{Called, Turned}
-use Rattle.strm_types.specs.declared.events.Caller.{Caller}
-use Rattle.strm_types.specs.declared.events.Event.TheVariants.{OpenMaster, OpenSlave, Shut, Push, Pop, Flush, Write, Read, Put, Get, Mode, Ioctl, IoctlResult, Signals}
-use Rattle.strm_types.specs.declared.limits.TheConstants.{READ_MAX}
-use Rattle.strm_types.specs.declared.modes.ControlMode.{ControlMode}
+use Rattle.strm_laws.proofs.Prelude.{ℕ, ◌≡◌, Bool, true, false, cond, List, [], ◌∷◌, refl, subst, arith, Option, None, Some, min, set-all}
+use Rattle.strm_laws.specs.Prelude.{Turn, Called, Turned, Caller, OpenMaster, OpenSlave, Shut, Push, Pop, Write, Read, Put, Get, Mode, IoctlResult}
+use Rattle.strm_laws.specs.Prelude.{Signals, READ_MAX, ControlMode, Prio, ReadMode, ModuleName, Openness, Open, Closed, QueueName, Side, Master}
+use Rattle.strm_laws.specs.Prelude.{Slave, Way, Up, Down, EndClosed, Free, Waiting, Spot, AllSides, Cells, cells_written, Took, of_all, queue_behind}
+use Rattle.strm_laws.specs.Prelude.{Request, asked_of, flush_bytes, flush_message, get_queue, head_put, new_head, asking, ioctl_message, asks_group}
+use Rattle.strm_laws.specs.Prelude.{group_behind, PlainEntry, Message, with_waiting, direction_from, is_open, mode_message, Queue, read_queue}
+use Rattle.strm_laws.specs.Prelude.{or_else, PlainSlot, slot_behind}
+use Rattle.strm_types.specs.declared.events.Event.TheVariants.{Flush, Ioctl}
 use Rattle.strm_types.specs.declared.modes.Mode as modes
 use Rattle.strm_types.specs.declared.modes.Mode.TheVariants as chosen
-use Rattle.strm_types.specs.declared.modes.Prio.{Prio}
-use Rattle.strm_types.specs.declared.modes.ReadMode.{ReadMode}
-use Rattle.strm_types.specs.declared.names.ModuleName.{ModuleName}
-use Rattle.strm_types.specs.declared.names.Openness.{Openness}
-use Rattle.strm_types.specs.declared.names.Openness.TheVariants.{Open, Closed}
-use Rattle.strm_types.specs.declared.names.QueueName.{QueueName}
-use Rattle.strm_types.specs.declared.names.Side.{Side}
-use Rattle.strm_types.specs.declared.names.Side.TheVariants.{Master, Slave}
-use Rattle.strm_types.specs.declared.names.Way.{Way}
-use Rattle.strm_types.specs.declared.names.Way.TheVariants.{Up, Down}
-use Rattle.strm_types.specs.declared.rules.Rule.TheVariants.{EndClosed}
-use Rattle.strm_types.specs.declared.slots.Slot.TheVariants.{Free, Waiting}
-use Rattle.strm_types.specs.declared.spots.Spot.{Spot}
-use Rattle.strm_types.specs.Both.{AllSides}
-use Rattle.strm_types.specs.Cells.{Cells, cells_written}
-use Rattle.strm_types.specs.Deliver.{Took}
-use Rattle.strm_types.specs.Emptied.{of_all, queue_behind}
-use Rattle.strm_types.specs.Events.{Request}
-use Rattle.strm_types.specs.Flushing.{asked_of, flush_bytes, flush_message}
-use Rattle.strm_types.specs.GetQueues.{get_queue}
-use Rattle.strm_types.specs.Heads.{head_put, new_head}
-use Rattle.strm_types.specs.Ioctls.{asking, ioctl_message}
-use Rattle.strm_types.specs.JobControl.{asks_group, group_behind}
-use Rattle.strm_types.specs.Journal.{PlainEntry}
-use Rattle.strm_types.specs.Message.{Message}
-use Rattle.strm_types.specs.ModuleQueues.{with_waiting}
-use Rattle.strm_types.specs.Names.{direction_from, is_open}
-use Rattle.strm_types.specs.Options.{mode_message}
-use Rattle.strm_types.specs.Queue.{Queue}
-use Rattle.strm_types.specs.Reads.{read_queue}
-use Rattle.strm_types.specs.Refused.{or_else}
-use Rattle.strm_types.specs.Slots.{PlainSlot, slot_behind}
 use Rattle.strm_laws.specs.Calls.{Outcome, group_at, ioctl_begun, ioctl_sent, message_put, mode_set, performed, put_at}
 use Rattle.strm_laws.specs.Closes.{closed_at, driver_emptied, ended, head_emptied, hung_up_at, stream_emptied}
 use Rattle.strm_laws.specs.Pushes.{head_above, module_named, named_by, popped, pushed_named}
@@ -50,7 +18,6 @@ use Rattle.strm_laws.specs.Stacked.{Standing}
 use Rattle.strm_laws.specs.State.{State, Stream, book, stream, with_driver_queue, with_head_queue, with_ioctl, with_stream}
 use Rattle.strm_laws.specs.Step.{Step}
 use Rattle.strm_laws.specs.Turns.{turned, with_driver}
-use Rattle.strm_types.proofs.BySide.{set-all}
 use Rattle.strm_laws.proofs.EmptiedKeeps.{behind-none}
 use Rattle.strm_laws.proofs.PushHolds.{Survives, modules_emptied-holds, pop-holds, pushed-holds}
 use Rattle.strm_laws.proofs.PutParts.{Stays, waiting}

@@ -1,17 +1,9 @@
 -- The nearest earlier queue is the same where the origins of cells are forgotten, and where no module stands it is the one by name.
-use Rattle.std.proofs.Common.{ℕ, suc, arith, ◌≡◌, ◌-◌, false, cond, List, [], ◌∷◌, length, map, take, drop, refl, ap, ◌∙◌}
-use Rattle.std.specs.Prelude.{min, nat_le, Option, None, Some, is_some, option_map}
-use Rattle.std.proofs.lemmas.Bool.Decides.{nat_tests}
-use Rattle.std.proofs.lemmas.List.{take-map, drop-map, length-map}
-use Rattle.strm_types.specs.declared.limits.TheConstants.{MODULES}
-use Rattle.strm_types.specs.declared.names.Side.{Side}
-use Rattle.strm_types.specs.declared.names.Side.TheVariants.{Master, Slave}
-use Rattle.strm_types.specs.declared.names.Way.{Way}
-use Rattle.strm_types.specs.declared.names.Way.TheVariants.{Up, Down}
+use Rattle.strm_laws.proofs.Prelude.{ℕ, suc, arith, ◌≡◌, ◌-◌, false, cond, List, [], ◌∷◌, length, map, take, drop, refl, ap, ◌∙◌, min, nat_le, Option}
+use Rattle.strm_laws.proofs.Prelude.{None, Some, is_some, option_map, nat_tests, take-map, drop-map, length-map}
+use Rattle.strm_laws.specs.Prelude.{MODULES, Side, Master, Slave, Way, Up, Down, place_before, place_past, has_queues, QueuePair, map_pair, place_of}
 use Rattle.strm_laws.specs.Earlier.{NoModules, before_among, before_at, before_driver, before_head, modules_on, places_of}
-use Rattle.strm_types.specs.ModuleQueues.{first_place, last_place, place_before, place_past}
-use Rattle.strm_types.specs.Standings.{has_queues, QueuePair, map_pair}
-use Rattle.strm_types.specs.Names.{place_of}
+use Rattle.strm_types.specs.ModuleQueues.{first_place, last_place}
 use Rattle.strm_laws.specs.Stacked.{Standing, map_module, module_name}
 use Rattle.strm_laws.specs.State.{State, stream, map_state}
 use Rattle.strm_laws.proofs.LawfulKinds.{lawful}

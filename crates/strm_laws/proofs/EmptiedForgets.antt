@@ -1,14 +1,9 @@
 -- Forgetting the origins of cells commutes with what is taken off a queue.
-use Rattle.std.proofs.Common.{ℕ, ◌≡◌, Bool, true, false, cond, List, [], ◌∷◌, ◌++◌, map, refl, sym, ap, ◌∙◌, arith}
-use Rattle.std.specs.Prelude.{not}
-use Rattle.std.proofs.lemmas.List.{map-append}
-use Rattle.std.proofs.lemmas.List.Sums.{sum_by-cons}
-use Rattle.strm_types.specs.declared.kinds.MsgKind.{MsgKind}
-use Rattle.strm_types.specs.declared.names.Side.{Side}
-use Rattle.strm_types.specs.declared.names.Side.TheVariants.{Master, Slave}
-use Rattle.strm_types.specs.Emptied.{Choice, stayed, cells_gone, emptied, none_goes, queue_behind, writer_goes}
-use Rattle.strm_types.specs.Message.{Message, cells_of, size_of, map_message}
-use Rattle.strm_types.specs.Queue.{Queue, bytes_of, relieved, relieves, map_messages, map_queue}
+use Rattle.strm_laws.proofs.Prelude.{ℕ, ◌≡◌, Bool, true, false, cond, List, [], ◌∷◌, ◌++◌, map, refl, sym, ap, ◌∙◌, arith, not, map-append}
+use Rattle.strm_laws.proofs.Prelude.{sum_by-cons}
+use Rattle.strm_laws.specs.Prelude.{MsgKind, Side, Master, Slave, Choice, stayed, cells_gone, emptied, none_goes, queue_behind, writer_goes, Message}
+use Rattle.strm_laws.specs.Prelude.{cells_of, size_of, map_message, Queue, relieved, relieves, map_messages, map_queue}
+use Rattle.strm_types.specs.Queue.{bytes_of}
 use Rattle.strm_laws.specs.State.{State, stream, map_stream, map_state}
 use Rattle.strm_laws.proofs.Forgetting.{kind-forgets, named_band-forgets, cells-forget, size-forgets, none-forgets, relieved-forgets, relieves_from-forgets}
 

@@ -1,21 +1,13 @@
 -- Queues that are emptied, and closes, lose no byte: what they take from the queues is what they say has gone.
-use Rattle.std.proofs.Common.{ℕ, ◌≡◌, ◌+◌, Bool, true, false, cond, List, [], ◌∷◌, ◌++◌, refl, ap, ◌∙◌, arith}
-use Rattle.std.specs.Prelude.{not, count_by}
-use Rattle.strm_types.specs.declared.names.Side.{Side}
-use Rattle.strm_types.specs.declared.rules.Rule.{Rule}
-use Rattle.strm_types.specs.declared.names.Dir.{Dir}
-use Rattle.strm_types.specs.declared.names.Way.TheVariants.{Up, Down}
-use Rattle.strm_types.specs.Names.{direction_at}
-use Rattle.strm_types.specs.Deliver.{Carried}
+use Rattle.strm_laws.proofs.Prelude.{ℕ, ◌≡◌, ◌+◌, Bool, true, false, cond, List, [], ◌∷◌, ◌++◌, refl, ap, ◌∙◌, arith, not, count_by, weight-take}
+use Rattle.strm_laws.proofs.Prelude.{count-join, weight-whole}
+use Rattle.strm_laws.specs.Prelude.{Side, Rule, Dir, Up, Down, direction_at, Carried, Choice, of_all, stayed, cells_gone, emptied, none_goes}
+use Rattle.strm_laws.specs.Prelude.{queue_behind, Message, cells_of, Queue, weight, relieved}
 use Rattle.strm_laws.specs.Closes.{head_emptied, driver_emptied, and_then}
-use Rattle.strm_types.specs.Emptied.{Choice, of_all, stayed, cells_gone, emptied, none_goes, queue_behind}
 use Rattle.strm_laws.specs.Kept.{state_weight}
-use Rattle.strm_types.specs.Message.{Message, cells_of}
 use Rattle.strm_laws.specs.Places.{weight_gone, weight_made}
-use Rattle.strm_types.specs.Queue.{Queue, weight, relieved}
 use Rattle.strm_laws.specs.State.{State, stream, with_head_queue, with_driver_queue}
 use Rattle.strm_laws.proofs.DeliveryKeeps.{gone-append, made-append}
-use Rattle.strm_types.proofs.Weights.{weight-take, count-join, weight-whole}
 use Rattle.strm_laws.proofs.StreamWeights.{stream-weighs}
 
 module _ {C : Type 0} where

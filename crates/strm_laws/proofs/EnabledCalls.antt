@@ -1,45 +1,18 @@
 -- Over a call enabled queues exist, and none is enabled twice: those of a module that is taken off go with it (streamio(7I): I_PUSH, I_POP; close(2)).
-use Rattle.std.proofs.Common.{ℕ, ◌≡◌, Bool, true, false, cond, List, [], ◌∷◌, map, refl, sym, subst, ap, ◌∙◌}
-use Rattle.std.proofs.lemmas.Bool.{false≢true}
-use Rattle.std.specs.Prelude.{◌&&◌, ◌||◌, not, min, slice_index_or, Option, None, Some}
+use Rattle.strm_laws.proofs.Prelude.{ℕ, ◌≡◌, Bool, true, false, cond, List, [], ◌∷◌, map, refl, sym, subst, ap, ◌∙◌, false≢true, ◌&&◌, ◌||◌, not, min}
+use Rattle.strm_laws.proofs.Prelude.{slice_index_or, Option, None, Some, once-without}
+use Rattle.strm_laws.specs.Prelude.{Caller, OpenMaster, OpenSlave, Shut, Push, Pop, Write, Read, Put, Get, Mode, IoctlResult, Signals, READ_MAX, Prio}
+use Rattle.strm_laws.specs.Prelude.{ReadMode, ModuleName, Open, Closed, Place, Ldterm, Driver, QueueName, Side, Master, Slave, Way, Up, Down, Rule}
+use Rattle.strm_laws.specs.Prelude.{EndClosed, ModulePopped, Spot, Free, Cells, cells_written, of_all, queue_behind, writer_goes, Request, asked_of}
+use Rattle.strm_laws.specs.Prelude.{flush_bytes, flush_message, get_lets_go, get_queue, new_head, asking, ioctl_message, asks_group, group_behind}
+use Rattle.strm_laws.specs.Prelude.{Message, has_queues, without_module, direction_from, driver_of, enable_some, is_open, place_of, same_place}
+use Rattle.strm_laws.specs.Prelude.{same_queue, same_side, same_way, without, mode_message, is_none_left, read_lets_go, read_queue, slot_behind}
 use Rattle.std.specs.List.{AllByRecursion, list_any}
-use Rattle.strm_types.specs.declared.events.Caller.{Caller}
-use Rattle.strm_types.specs.declared.events.Event.TheVariants.{OpenMaster, OpenSlave, Shut, Push, Pop, Flush, Write, Read, Put, Get, Mode, Ioctl, IoctlResult, Signals}
-use Rattle.strm_types.specs.declared.limits.TheConstants.{READ_MAX}
+use Rattle.strm_types.specs.declared.events.Event.TheVariants.{Flush, Ioctl}
 use Rattle.strm_types.specs.declared.modes.Mode as modes
 use Rattle.strm_types.specs.declared.modes.Mode.TheVariants as chosen
-use Rattle.strm_types.specs.declared.modes.Prio.{Prio}
-use Rattle.strm_types.specs.declared.modes.ReadMode.{ReadMode}
-use Rattle.strm_types.specs.declared.names.ModuleName.{ModuleName}
 use Rattle.strm_types.specs.declared.names.ModuleName.TheVariants as names
-use Rattle.strm_types.specs.declared.names.Openness.TheVariants.{Open, Closed}
-use Rattle.strm_types.specs.declared.names.Place.{Place}
-use Rattle.strm_types.specs.declared.names.Place.TheVariants.{Head, Ldterm, Driver}
-use Rattle.strm_types.specs.declared.names.QueueName.{QueueName}
-use Rattle.strm_types.specs.declared.names.Side.{Side}
-use Rattle.strm_types.specs.declared.names.Side.TheVariants.{Master, Slave}
-use Rattle.strm_types.specs.declared.names.Way.{Way}
-use Rattle.strm_types.specs.declared.names.Way.TheVariants.{Up, Down}
-use Rattle.strm_types.specs.declared.rules.Rule.{Rule}
-use Rattle.strm_types.specs.declared.rules.Rule.TheVariants.{EndClosed, ModulePopped}
-use Rattle.strm_types.specs.declared.spots.Spot.{Spot}
-use Rattle.strm_types.specs.declared.slots.Slot.TheVariants.{Free}
-use Rattle.strm_types.specs.Cells.{Cells, cells_written}
-use Rattle.strm_types.specs.Emptied.{of_all, queue_behind, writer_goes}
-use Rattle.strm_types.specs.Events.{Request}
-use Rattle.strm_types.specs.Flushing.{asked_of, flush_bytes, flush_message}
-use Rattle.strm_types.specs.GetQueues.{get_lets_go, get_queue}
-use Rattle.strm_types.specs.Heads.{new_head}
-use Rattle.strm_types.specs.Ioctls.{asking, ioctl_message}
-use Rattle.strm_types.specs.JobControl.{asks_group, group_behind}
-use Rattle.strm_types.specs.Message.{Message}
-use Rattle.strm_types.specs.Standings.{has_queues}
-use Rattle.strm_types.specs.Modules.{without_module}
-use Rattle.strm_types.specs.Names.{direction_from, driver_of, enable_some, is_open, place_of, same_place, same_queue, same_side, same_way, without}
-use Rattle.strm_types.specs.Options.{mode_message}
-use Rattle.strm_types.specs.Queue.{is_none_left}
-use Rattle.strm_types.specs.Reads.{read_lets_go, read_queue}
-use Rattle.strm_types.specs.Slots.{slot_behind}
+use Rattle.strm_types.specs.declared.names.Place.TheVariants.{Head}
 use Rattle.strm_laws.specs.Calls.{group_at, ioctl_at, ioctl_begun, ioctl_called, ioctl_sent, message_put, mode_set, performed, put_at}
 use Rattle.strm_laws.specs.Closes.{closed_at, driver_emptied, ended, head_emptied, hung_up_at, stream_emptied}
 use Rattle.strm_laws.specs.Earlier.{before_at, before_driver, before_head, driver_place, places_of, queue_named}
@@ -49,7 +22,6 @@ use Rattle.strm_laws.specs.Restorable.{AreEnabled, IsThere, is_ldterm, is_there_
 use Rattle.strm_laws.specs.StackCosts.{Stands, stands_of, stands_on}
 use Rattle.strm_laws.specs.Stacked.{Standing, module_name}
 use Rattle.strm_laws.specs.State.{State, Stream, book, stream, with_driver_queue, with_head_queue, with_ioctl, with_stream}
-use Rattle.strm_types.proofs.EnabledNames.{once-without}
 use Rattle.strm_laws.proofs.EnabledExist.{MayBe, any-noted, before-there, if-there, index-there, more-among, noted-there, some-there}
 use Rattle.strm_laws.proofs.EnabledPuts.{Enabled, delivered-enabled, head-enabled, stream-enabled}
 use Rattle.strm_laws.proofs.GoodCalls.{with-get}

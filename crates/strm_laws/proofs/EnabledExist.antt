@@ -1,29 +1,21 @@
 -- Enabled queues exist: each is a driver's, or one of an ldterm that stands on its side, and none is enabled twice. So it stays over puts and turns,
 -- which change no module's name (STREAMS Programming Guide, "Service Procedures"; qenable(9F)).
-use Rattle.std.proofs.Common.{ℕ, zero, suc, ◌≡◌, ◌-◌, Bool, true, false, cond, List, [], ◌∷◌, ◌++◌, map, refl, ap, subst}
-use Rattle.std.specs.Prelude.{◌||◌, not, min, nat_le, slice_index_or, length, Option, None, Some}
+use Rattle.strm_laws.proofs.Prelude.{ℕ, zero, suc, ◌≡◌, ◌-◌, Bool, true, false, cond, List, [], ◌∷◌, ◌++◌, map, refl, ap, subst, ◌||◌, not, min}
+use Rattle.strm_laws.proofs.Prelude.{nat_le, slice_index_or, Option, None, Some, once-without, same_queue-sound}
+use Rattle.strm_laws.specs.Prelude.{ModuleName, Place, Ldterm, Driver, QueueName, Side, Master, Slave, Way, Up, Down, Note, Enable, Room, MODULES}
+use Rattle.strm_laws.specs.Prelude.{place_before, driver_of, enable_found, enable_if, enable_some, is_enabled, other, same_queue, without, place_of}
+use Rattle.std.specs.Prelude.{length}
 use Rattle.std.specs.List.{AllByRecursion, list_any}
-use Rattle.strm_types.specs.declared.names.ModuleName.{ModuleName}
 use Rattle.strm_types.specs.declared.names.ModuleName.TheVariants as names
-use Rattle.strm_types.specs.declared.names.Place.{Place}
-use Rattle.strm_types.specs.declared.names.Place.TheVariants.{Head, Ldterm, Driver}
-use Rattle.strm_types.specs.declared.names.QueueName.{QueueName}
-use Rattle.strm_types.specs.declared.names.Side.{Side}
-use Rattle.strm_types.specs.declared.names.Side.TheVariants.{Master, Slave}
-use Rattle.strm_types.specs.declared.names.Way.{Way}
-use Rattle.strm_types.specs.declared.names.Way.TheVariants.{Up, Down}
-use Rattle.strm_types.specs.declared.spots.Note.{Note}
-use Rattle.strm_types.specs.declared.spots.Note.TheVariants.{Enable, Room}
-use Rattle.strm_types.specs.declared.limits.TheConstants.{MODULES}
-use Rattle.strm_types.specs.ModuleQueues.{place_before}
-use Rattle.strm_types.specs.Names.{driver_of, enable, enable_found, enable_if, enable_some, is_enabled, other, same_queue, without, place_of}
+use Rattle.strm_types.specs.declared.names.Place.TheVariants.{Head}
+use Rattle.strm_types.specs.Names.{enable}
 use Rattle.strm_laws.specs.Earlier.{before_at, before_by, before_modules, places_of, queue_named}
 use Rattle.strm_laws.specs.Puts.{noted}
 use Rattle.strm_laws.specs.Restorable.{AreEnabled, IsThere, is_ldterm, is_there_among}
 use Rattle.strm_laws.specs.StackCosts.{Stands, stands_of, stands_on}
 use Rattle.strm_laws.specs.Stacked.{Standing, module_name}
 use Rattle.strm_laws.specs.State.{State, stream}
-use Rattle.strm_types.proofs.EnabledNames.{once-added, once-without, same_queue-sound}
+use Rattle.strm_types.proofs.EnabledNames.{once-added}
 
 -- what may name a queue names one that is there
 abbrev pub MayBe : Stands → Option QueueName → Type 0

@@ -1,35 +1,16 @@
 -- Over a delivery and a turn enabled queues exist, and none is enabled twice.
-use Rattle.std.proofs.Common.{ℕ, zero, suc, ◌≡◌, ◌+◌, ◌-◌, ◌*◌, Bool, true, false, cond, List, [], ◌∷◌, map, refl, ◌∙◌}
-use Rattle.std.specs.Prelude.{◌==◌, ◌&&◌, ◌||◌, not, slice_index_or, Option, None, Some}
-use Rattle.strm_types.specs.declared.answers.Turn.{Turn}
-use Rattle.strm_types.specs.declared.ioctls.Ioc.{Ioc}
-use Rattle.strm_types.specs.declared.kinds.MsgKind.{MsgKind}
-use Rattle.strm_types.specs.declared.kinds.MsgKind.TheVariants.{Data, Proto, Sig, Ctl, Ioctl, Setopts, Iocack, Iocnak, Pcproto, Pcsig, Read, Flush, Stop, Start, Hangup, Error}
-use Rattle.strm_types.specs.declared.limits.TheConstants.{HOPS}
-use Rattle.strm_types.specs.declared.names.Place.{Place}
-use Rattle.strm_types.specs.declared.names.Place.TheVariants.{Head, Ldterm, Driver}
-use Rattle.strm_types.specs.declared.names.QueueName.{QueueName}
-use Rattle.strm_types.specs.declared.names.Side.{Side}
-use Rattle.strm_types.specs.declared.names.Way.{Way}
-use Rattle.strm_types.specs.declared.names.Way.TheVariants.{Up, Down}
-use Rattle.strm_types.specs.declared.spots.Across.{Across}
-use Rattle.strm_types.specs.declared.spots.Asks.{Asks}
+use Rattle.strm_laws.proofs.Prelude.{ℕ, zero, suc, ◌≡◌, ◌+◌, ◌-◌, ◌*◌, Bool, true, false, cond, List, [], ◌∷◌, map, refl, ◌∙◌, ◌==◌, ◌&&◌, ◌||◌, not}
+use Rattle.strm_laws.proofs.Prelude.{slice_index_or, Option, None, Some, PutHolds, carried-holds, in_turn-holds}
+use Rattle.strm_laws.specs.Prelude.{Turn, Ioc, MsgKind, Data, Proto, Sig, Ctl, Ioctl, Setopts, Iocack, Iocnak, Pcproto, Pcsig, Flush, Hangup, Error}
+use Rattle.strm_laws.specs.Prelude.{HOPS, Place, Ldterm, Driver, QueueName, Side, Way, Up, Down, Across, Asks, Enable, Room, Spot, Cells, Acted}
+use Rattle.strm_laws.specs.Prelude.{carried, in_turn, answered, bottom_across, crosses, driver_put, flush_down, freed, ioctl_put, own_flushed}
+use Rattle.strm_laws.specs.Prelude.{put_across, put_down, reader_flush, taken_in, of_data, writer_goes, asked_by, Head as TheHead, head_flushed}
+use Rattle.strm_laws.specs.Prelude.{head_put, passed_by, is_doubled, obeyed, waits_for_readers, read_ioc, Message, band_of, has_parts, size_of}
+use Rattle.strm_laws.specs.Prelude.{at_place, place_past, with_waiting, put_among, driver_of, is_enabled, is_master, is_open, other, without, Queue}
+use Rattle.strm_laws.specs.Prelude.{is_none_left, left_with, put_enables, relieves, end_relieves, has_more, turn_ended}
+use Rattle.strm_types.specs.declared.kinds.MsgKind.TheVariants.{Read, Stop, Start}
+use Rattle.strm_types.specs.declared.names.Place.TheVariants.{Head}
 use Rattle.strm_types.specs.declared.spots.Asks.TheVariants as asked
-use Rattle.strm_types.specs.declared.spots.Note.TheVariants.{Enable, Room}
-use Rattle.strm_types.specs.declared.spots.Spot.{Spot}
-use Rattle.strm_types.specs.Cells.{Cells}
-use Rattle.strm_types.specs.Deliver.{Acted, carried, in_turn}
-use Rattle.strm_types.specs.Drivers.{answered, bottom_across, crosses, driver_put, flush_down, freed, ioctl_put, own_flushed, put_across, put_down, reader_flush, taken_in}
-use Rattle.strm_types.specs.Emptied.{of_data, writer_goes}
-use Rattle.strm_types.specs.Flushing.{asked_by}
-use Rattle.strm_types.specs.Heads.{Head as TheHead, head_flushed, head_put, passed_by, is_doubled, obeyed, waits_for_readers}
-use Rattle.strm_types.specs.Ioctls.{read_ioc}
-use Rattle.strm_types.specs.Message.{Message, band_of, has_parts, size_of}
-use Rattle.strm_types.specs.ModuleQueues.{at_place, place_past, with_waiting}
-use Rattle.strm_types.specs.Modules.{put_among}
-use Rattle.strm_types.specs.Names.{driver_of, is_enabled, is_master, is_open, other, without}
-use Rattle.strm_types.specs.Queue.{Queue, is_none_left, left_with, put_enables, relieves}
-use Rattle.strm_types.specs.Service.{end_relieves, has_more, turn_ended}
 use Rattle.strm_laws.specs.Earlier.{before_driver, driver_place, places_of}
 use Rattle.strm_laws.specs.ModuleTurns.{again_at, asked_turn, bytes_at, call_at, calls, made_below, module_called, moved_on, moved_within, place_named, queue_ended, turned_named, turned_there, waits_there}
 use Rattle.strm_laws.specs.Past.{has_room_past, waits_on, writer_waits}
@@ -39,7 +20,6 @@ use Rattle.strm_laws.specs.StackCosts.{Stands, stands_of}
 use Rattle.strm_laws.specs.Stacked.{Standing, module_asks, module_name, module_puts, module_rests}
 use Rattle.strm_laws.specs.State.{State, Stream, stream, with_driver_queue, with_stream}
 use Rattle.strm_laws.specs.Turns.{driver_serves, held_back, is_stopped_across, moved_across, turned, turned_at, turned_queue, up_across, with_driver}
-use Rattle.strm_types.proofs.DeliveryHolds.{PutHolds, carried-holds, in_turn-holds}
 use Rattle.strm_laws.proofs.EnabledExist.{AreNoted, among-there, any-noted, before-there, if-there, index-there, noted-there, some-there, without-there}
 use Rattle.strm_laws.proofs.GoodTurns.{calls-either, outcome-holds}
 use Rattle.strm_laws.proofs.PutParts.{booked-holds, either-holds, parts-hold}

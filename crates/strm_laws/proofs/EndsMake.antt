@@ -1,25 +1,9 @@
 -- No head and no driver makes a cell.
-use Rattle.std.proofs.Common.{ℕ, ◌≡◌, Bool, true, false, cond, List, refl}
-use Rattle.std.specs.Prelude.{◌==◌, ◌&&◌, ◌||◌, Option, None, Some}
-use Rattle.strm_types.specs.declared.flushing.FlushAsked.{FlushAsked}
-use Rattle.strm_types.specs.declared.ioctls.Ioc.{Ioc}
-use Rattle.strm_types.specs.declared.kinds.MsgKind.{MsgKind}
-use Rattle.strm_types.specs.declared.kinds.MsgKind.TheVariants.{Flush, Ioctl}
-use Rattle.strm_types.specs.declared.names.Side.{Side}
-use Rattle.strm_types.specs.declared.names.Way.{Way}
-use Rattle.strm_types.specs.declared.names.Way.TheVariants.{Up, Down}
-use Rattle.strm_types.specs.declared.spots.Across.{Across}
-use Rattle.strm_types.specs.declared.spots.Spot.{Spot}
-use Rattle.strm_types.specs.declared.names.Dir.{Dir}
-use Rattle.strm_types.specs.Deliver.{Acted}
-use Rattle.strm_types.specs.Drivers.{answered, crosses, driver_put, flush_down, freed, ioctl_put, own_flushed, put_across, put_down, taken_in}
-use Rattle.strm_types.specs.Flushing.{asked_by}
-use Rattle.strm_types.specs.Heads.{head_flushed, head_put, is_doubled, obeyed, passed_by, Head}
-use Rattle.strm_types.specs.Ioctls.{read_ioc}
-use Rattle.strm_types.specs.Message.{Message, has_parts}
-use Rattle.strm_types.specs.Names.{is_master}
+use Rattle.strm_laws.proofs.Prelude.{ℕ, ◌≡◌, Bool, true, false, cond, List, refl, ◌==◌, ◌&&◌, ◌||◌, Option, None, Some}
+use Rattle.strm_laws.specs.Prelude.{FlushAsked, Ioc, MsgKind, Flush, Ioctl, Side, Way, Up, Down, Across, Spot, Dir, Acted, answered, crosses}
+use Rattle.strm_laws.specs.Prelude.{driver_put, flush_down, freed, ioctl_put, own_flushed, put_across, put_down, taken_in, asked_by, head_flushed}
+use Rattle.strm_laws.specs.Prelude.{head_put, is_doubled, obeyed, passed_by, Head, read_ioc, Message, has_parts, is_master, Queue}
 use Rattle.strm_laws.specs.Places.{weight_made}
-use Rattle.strm_types.specs.Queue.{Queue}
 
 module _ {C : Type 0} (p : Dir → C → Bool) where
   abbrev MakesNone : {S : Type 0} → Acted C S → Type 0

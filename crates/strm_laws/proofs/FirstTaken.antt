@@ -1,10 +1,9 @@
 -- What is taken is the first message.
-use Rattle.std.proofs.Common.{ℕ, ◌≡◌, ◌≤◌, ◌+◌, Bool, List, [], ◌∷◌, refl, sym, ap, subst, ◌∙◌}
-use Rattle.std.specs.Prelude.{if◌then◌else◌, ◌==◌, Option, None, Some}
+use Rattle.strm_laws.proofs.Prelude.{ℕ, ◌≡◌, ◌≤◌, ◌+◌, Bool, List, [], ◌∷◌, refl, sym, ap, subst, ◌∙◌, if◌then◌else◌, ◌==◌, Option, None, Some}
+use Rattle.strm_laws.proofs.Prelude.{weight-take}
+use Rattle.strm_laws.specs.Prelude.{Message, rank_of, weight_of, map_message, lane, IsOrdered, weight, map_messages}
 use Rattle.std.specs.List.{AllByRecursion}
-use Rattle.strm_types.specs.Message.{Message, rank_of, weight_of, map_message}
-use Rattle.strm_types.specs.Queue.{lane, IsOrdered, take_first, weight, map_messages}
-use Rattle.strm_types.proofs.Weights.{weight-take}
+use Rattle.strm_types.specs.Queue.{take_first}
 
 module _ {C : Type 0} where
   -- what was taken in front of the rest

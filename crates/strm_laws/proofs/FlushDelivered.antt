@@ -1,37 +1,19 @@
 -- An M_FLUSH that goes down from the head of a side takes what the queues that it reaches say, where no module stands.
-use Rattle.std.proofs.Common.{ℕ, suc, ◌≡◌, Bool, true, false, cond, List, [], ◌∷◌, ◌++◌, refl, ap, ◌∙◌, append_assoc, append-nil}
-use Rattle.std.specs.Prelude.{nat_le, Option, None, Some}
-use Rattle.strm_types.specs.declared.events.FlushQueues.{FlushQueues}
+use Rattle.strm_laws.proofs.Prelude.{ℕ, suc, ◌≡◌, Bool, true, false, cond, List, [], ◌∷◌, ◌++◌, refl, ap, ◌∙◌, append-nil, nat_le, Option, None, Some}
+use Rattle.strm_laws.proofs.Prelude.{set-all}
+use Rattle.strm_laws.specs.Prelude.{FlushQueues, FlushAsked, Band, MODULES, Place, QueueName, Side, Master, Slave, Way, Up, Down, Flushed, EndClosed}
+use Rattle.strm_laws.specs.Prelude.{Room, Spot, Cells, Acted, Carried, Fate, Goes, Parcel, Took, carried, in_turn, flush_across, flush_down, freed}
+use Rattle.strm_laws.specs.Prelude.{own_flushed, reader_flush, Choice, of_data, queue_behind, writer_goes, asked_by, asked_of, flush_bytes}
+use Rattle.strm_laws.specs.Prelude.{flush_message, read_flush, flush_up, cells_of, direction_at, enable_some, is_open, other, Queue}
+use Rattle.std.proofs.Common.{append_assoc}
 use Rattle.strm_types.specs.declared.events.FlushQueues.TheVariants.{Read, Write, Both}
-use Rattle.strm_types.specs.declared.flushing.FlushAsked.{FlushAsked}
-use Rattle.strm_types.specs.declared.kinds.Band.{Band}
-use Rattle.strm_types.specs.declared.limits.TheConstants.{MODULES}
-use Rattle.strm_types.specs.declared.names.Place.{Place}
 use Rattle.strm_types.specs.declared.names.Place.TheVariants as places
-use Rattle.strm_types.specs.declared.names.QueueName.{QueueName}
-use Rattle.strm_types.specs.declared.names.Side.{Side}
-use Rattle.strm_types.specs.declared.names.Side.TheVariants.{Master, Slave}
-use Rattle.strm_types.specs.declared.names.Way.{Way}
-use Rattle.strm_types.specs.declared.names.Way.TheVariants.{Up, Down}
-use Rattle.strm_types.specs.declared.rules.Rule.TheVariants.{Flushed, EndClosed}
-use Rattle.strm_types.specs.declared.spots.Note.TheVariants.{Room}
-use Rattle.strm_types.specs.declared.spots.Spot.{Spot}
-use Rattle.strm_types.specs.Cells.{Cells}
-use Rattle.strm_types.specs.Deliver.{Acted, Carried, Fate, Goes, Parcel, Took, carried, in_turn}
-use Rattle.strm_types.specs.Drivers.{flush_across, flush_down, freed, own_flushed, reader_flush}
 use Rattle.strm_laws.specs.Closes.{and_then, driver_behind, driver_emptied, head_behind, head_emptied}
 use Rattle.strm_laws.specs.Earlier.{NoModules, driver_place, modules_on}
-use Rattle.strm_types.specs.Emptied.{Choice, of_data, queue_behind, writer_goes}
 use Rattle.strm_laws.specs.FlushEffect.{none_gone, reached, write_flushed, read_flushed, flush_effect}
-use Rattle.strm_types.specs.Flushing.{asked_by, asked_of, flush_bytes, flush_message, read_flush}
-use Rattle.strm_types.specs.Heads.{flush_up}
-use Rattle.strm_types.specs.Message.{cells_of}
-use Rattle.strm_types.specs.Names.{direction_at, enable_some, is_open, other}
 use Rattle.strm_laws.specs.Puts.{across_of, earlier_at, flushed_on, noted, put_at_module, put_in}
-use Rattle.strm_types.specs.Queue.{Queue}
 use Rattle.strm_laws.specs.State.{State, stream, with_stream, with_head_queue, with_driver_queue}
 use Rattle.strm_laws.proofs.Earlier.{few-behind, none-on}
-use Rattle.strm_types.proofs.BySide.{set-all}
 
 -- what the bytes of an M_FLUSH ask for is what they were made of
 pub bytes-ask : (what : FlushQueues) (band : Option Band) → asked_by (flush_bytes (asked_of what band)) ≡ asked_of what band

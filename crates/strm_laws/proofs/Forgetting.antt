@@ -1,11 +1,9 @@
 -- Forgetting the origins of cells commutes with what is done to them.
-use Rattle.std.proofs.Common.{ℕ, suc, ◌≡◌, List, [], ◌∷◌, length, map, refl, sym, ap, arith}
-use Rattle.std.specs.Prelude.{if◌then◌else◌, ◌==◌, nat_le, Option, None, Some, option_map}
-use Rattle.std.proofs.lemmas.List.{length-map, map-append}
-use Rattle.std.proofs.lemmas.List.Sums.{sum_by-cons}
-use Rattle.strm_types.specs.Message.{Message, part, rank_of, band_of, cells_of, size_of, data_message, map_message}
-use Rattle.strm_types.specs.Queue.{Queue, Flow, put, put_back, put_on, put_enables, count_of, is_full, flow_of, relieved, relieved_from, relieves_from, map_messages, map_queue}
-use Rattle.strm_types.specs.Queue.{is_none_left}
+use Rattle.strm_laws.proofs.Prelude.{ℕ, suc, ◌≡◌, List, [], ◌∷◌, length, map, refl, sym, ap, arith, if◌then◌else◌, ◌==◌, nat_le, Option, None, Some}
+use Rattle.strm_laws.proofs.Prelude.{option_map, length-map, map-append, sum_by-cons}
+use Rattle.strm_laws.specs.Prelude.{Message, part, rank_of, band_of, cells_of, size_of, data_message, map_message, Queue, Flow, put, put_back, put_on}
+use Rattle.strm_laws.specs.Prelude.{put_enables, count_of, is_full, relieved, relieved_from, map_messages, map_queue, is_none_left}
+use Rattle.strm_types.specs.Queue.{flow_of, relieves_from}
 use Rattle.strm_types.proofs.Ranked.{put-map, put_back-map}
 
 module _ {C D : Type 0} (f : C → D) where

@@ -1,52 +1,28 @@
 -- Forgetting the origins of cells commutes with whole calls, whole turns and the replay of a journal.
-use Rattle.std.proofs.Common.{ℕ, ◌≡◌, Bool, true, false, cond, List, [], ◌∷◌, length, map, take, refl, sym, ap, ◌∙◌}
-use Rattle.std.specs.Prelude.{min, not, Option, None, Some, option_map}
-use Rattle.std.proofs.lemmas.List.{length-map, take-map}
-use Rattle.strm_types.specs.declared.limits.TheConstants.{READ_MAX}
-use Rattle.strm_types.specs.declared.answers.Answer.TheVariants.{Count, Msg, Sizes}
-use Rattle.strm_types.specs.declared.answers.Turn.{Turn}
-use Rattle.strm_types.specs.declared.entries.Entry.TheVariants.{Called, Turned}
-use Rattle.strm_types.specs.declared.events.Caller.{Caller}
-use Rattle.strm_types.specs.declared.events.Event.TheVariants.{OpenMaster, Unlock, OpenSlave, Shut, Push, Pop, Look, Flush, Write, Read, Put, Get, Mode, Nread, Ioctl, IoctlResult}
+use Rattle.strm_laws.proofs.Prelude.{ℕ, ◌≡◌, Bool, true, false, cond, List, [], ◌∷◌, length, map, take, refl, sym, ap, ◌∙◌, min, not, Option, None}
+use Rattle.strm_laws.proofs.Prelude.{Some, option_map, length-map, take-map, written-plain, bytes-plain, written-bytes, map-set}
+use Rattle.strm_laws.specs.Prelude.{READ_MAX, Count, Msg, Sizes, Turn, Called, Turned, Caller, OpenMaster, Unlock, OpenSlave, Shut, Push, Pop, Look}
+use Rattle.strm_laws.specs.Prelude.{Write, Read, Put, Get, Mode, Nread, IoctlResult, Prio, Wanted, ModuleName, Side, Master, Slave, Open, Place}
+use Rattle.strm_laws.specs.Prelude.{QueueName, Cells, AreCells, plain, cells_written, bytes_of, driver_of, direction_from, direction_of, head_of}
+use Rattle.strm_laws.specs.Prelude.{without, enable_if, Got, prio_got, first_data, head_get, map_got, get_queue, Message, cells_of, part, map_message}
+use Rattle.strm_laws.specs.Prelude.{map_fate, map_messages, Head, new_head, with_written, Drawn, head_draw, read_queue, asks_group, stop_in}
+use Rattle.strm_laws.specs.Prelude.{StopSignal, Request, Reply, PlainEntry, Carried}
+use Rattle.strm_types.specs.declared.events.Event.TheVariants.{Flush, Ioctl}
 use Rattle.strm_types.specs.declared.events.Event.TheVariants as events
 use Rattle.strm_types.specs.declared.modes.Mode as modes
 use Rattle.strm_types.specs.declared.modes.Mode.TheVariants as chosen
-use Rattle.strm_types.specs.declared.modes.Prio.{Prio}
-use Rattle.strm_types.specs.declared.modes.Wanted.{Wanted}
-use Rattle.strm_types.specs.declared.names.ModuleName.{ModuleName}
-use Rattle.strm_types.specs.declared.names.Side.{Side}
-use Rattle.strm_types.specs.declared.names.Side.TheVariants.{Master, Slave}
-use Rattle.strm_types.specs.declared.names.Openness.TheVariants.{Open}
-use Rattle.strm_types.specs.declared.names.Place.{Place}
 use Rattle.strm_types.specs.declared.names.Place.TheVariants as places
-use Rattle.strm_types.specs.declared.names.QueueName.{QueueName}
-use Rattle.strm_types.specs.Cells.{Cells, AreCells, plain, cells_written, bytes_of}
-use Rattle.strm_types.specs.Names.{driver_of, direction_from, direction_of, head_of, without, enable_if}
-use Rattle.strm_types.specs.Gets.{Got, prio_got, first_data, head_get, map_got}
-use Rattle.strm_types.specs.GetQueues.{get_queue}
-use Rattle.strm_types.specs.Message.{Message, cells_of, part, map_message}
-use Rattle.strm_types.specs.Origins.{map_fate}
-use Rattle.strm_types.specs.Queue.{map_messages}
-use Rattle.strm_types.specs.Heads.{Head, new_head}
 use Rattle.strm_laws.specs.State.{State, stream, with_stream, with_head_queue, book, with_book, map_state, map_stream}
-use Rattle.strm_types.specs.Books.{with_written}
 use Rattle.strm_laws.specs.Writes.{Wrote, cells_sent}
-use Rattle.strm_types.specs.Reads.{Drawn, head_draw, read_queue}
 use Rattle.strm_laws.specs.TurnOutcomes.{TurnOutcome, map_turn_outcome}
 use Rattle.strm_laws.specs.Turns.{turned_at, turned}
 use Rattle.strm_laws.specs.Calls.{Outcome, called, done, get_at, group_at, ioctl_at, ioctl_sent, ioctl_told, map_outcome, message_put, mode_set, name_told, or_stopped, performed, put_at, read_at, sizes_at, takes, tells, wrote}
 use Rattle.strm_laws.specs.Refusals.{stop_of}
-use Rattle.strm_types.specs.JobControl.{asks_group, stop_in}
-use Rattle.strm_types.specs.declared.signals.StopSignal.{StopSignal}
-use Rattle.strm_types.specs.Events.{Request, Reply}
-use Rattle.strm_types.specs.Journal.{PlainEntry}
 use Rattle.strm_laws.specs.Step.{after, replay}
-use Rattle.strm_types.specs.Deliver.{Carried}
 use Rattle.strm_laws.proofs.Earlier.{before_head-forgets}
 use Rattle.strm_laws.proofs.Forgetting.{none-forgets}
 use Rattle.strm_laws.proofs.ClosesForget.{closed_at-forgets}
 use Rattle.strm_laws.proofs.WriteSteps.{cells_sent-forgets}
-use Rattle.strm_types.proofs.PlainCells.{written-plain, bytes-plain, written-bytes}
 use Rattle.strm_laws.proofs.IoctlCalls.{ioctl_told-forgets, sent-forgets, signals-forget}
 use Rattle.strm_laws.proofs.ModuleTurnForgets.{module_turned-forgets}
 use Rattle.strm_laws.proofs.PushForgets.{pop-forgets, push-forgets, top-forgets}
@@ -57,7 +33,6 @@ use Rattle.strm_laws.proofs.PutMessages.{put_at-forgets, put_came-forgets}
 use Rattle.strm_laws.proofs.ReadForgets.{body-forgets, head_draw-forgets, read_gone-forgets, read_queue-forgets, read_lets_go-forgets}
 use Rattle.strm_laws.proofs.Stopping.{hold-same}
 use Rattle.strm_laws.proofs.TurnForgets.{driver_turned-forgets}
-use Rattle.strm_types.proofs.BySide.{map-set}
 use Rattle.strm_laws.proofs.EmptiedForgets.{stream-forgets}
 
 -- what a write makes of what was sent

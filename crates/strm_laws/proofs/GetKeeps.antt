@@ -1,20 +1,14 @@
 -- What a get gives and what it leaves is what stood there, and forgetting the origins of cells commutes with gets.
-use Rattle.std.proofs.Common.{ℕ, zero, suc, ◌≡◌, ◌≤◌, ◌+◌, Bool, true, false, cond, List, [], ◌∷◌, length, map, take, drop, refl, sym, ap, ◌∙◌, arith}
-use Rattle.std.specs.Prelude.{count_by, nat_lt, ◌||◌, Option, None, Some, option_map}
-use Rattle.std.proofs.lemmas.Bool.Decides.{nat_tests}
-use Rattle.std.proofs.lemmas.List.{take-map, length-map, length-take, take_all}
-use Rattle.strm_types.specs.declared.modes.Wanted.{Wanted}
+use Rattle.strm_laws.proofs.Prelude.{ℕ, zero, suc, ◌≡◌, ◌≤◌, ◌+◌, Bool, true, false, cond, List, [], ◌∷◌, length, map, take, drop, refl, sym, ap, ◌∙◌}
+use Rattle.strm_laws.proofs.Prelude.{arith, count_by, nat_lt, ◌||◌, Option, None, Some, option_map, nat_tests, take-map, length-map, length-take}
+use Rattle.strm_laws.proofs.Prelude.{weight-put_back, count-joined}
+use Rattle.strm_laws.specs.Prelude.{Wanted, Refusal, Eagain, Message, part, cells_of, weight_of, map_message, weight, put_back, map_messages}
+use Rattle.strm_laws.specs.Prelude.{rest_with, Got, is_wanted, got_none, left_behind, parts_of, head_get, get_refusal, map_got}
+use Rattle.std.proofs.lemmas.List.{take_all}
 use Rattle.strm_types.specs.declared.modes.Wanted.TheVariants.{Any, High, Band}
-use Rattle.strm_types.specs.declared.refusals.Refusal.{Refusal}
-use Rattle.strm_types.specs.declared.refusals.Refusal.TheVariants.{Eagain}
-use Rattle.strm_types.specs.Message.{Message, part, cells_of, weight_of, map_message}
-use Rattle.strm_types.specs.Queue.{weight, put_back, map_messages}
-use Rattle.strm_types.specs.Reads.{rest_with}
-use Rattle.strm_types.specs.Gets.{Got, is_wanted, got_none, left_behind, parts_of, head_get, get_refusal, map_got}
-use Rattle.strm_types.proofs.Weights.{weight-put_back}
 use Rattle.strm_laws.proofs.Forgetting.{put_back-forgets}
 use Rattle.strm_laws.proofs.ReadForgets.{control-forgets, body-forgets, rest_with-forgets, dropped-forget}
-use Rattle.strm_types.proofs.Drawing.{cells-rest_with, count-joined, weight-one, weight-cells, weight-parted}
+use Rattle.strm_types.proofs.Drawing.{cells-rest_with, weight-one, weight-cells, weight-parted}
 
 take-none : {C : Type 0} (n : ℕ) → take {A = C} n [] ≡ []
 take-none zero = refl

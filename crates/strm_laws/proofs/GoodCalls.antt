@@ -1,46 +1,17 @@
 -- A call on a pair of good streams leaves them good, where its band is one that queues have and nothing refuses it.
-use Rattle.std.proofs.Common.{ℕ, suc, ◌≡◌, ◌≤◌, Bool, true, false, cond, List, [], ◌∷◌, length, map, refl, sym, ap, ◌∙◌, arith}
-use Rattle.std.proofs.lemmas.Bool.{false≢true, and_parts}
-use Rattle.std.proofs.lemmas.Bool.Decides.{nat_tests}
-use Rattle.std.specs.Prelude.{◌||◌, not, nat_le, nat_lt, min, Option, None, Some}
-use Rattle.strm_types.specs.declared.events.Caller.{Caller}
-use Rattle.strm_types.specs.declared.events.Event.TheVariants.{OpenMaster, OpenSlave, Shut, Push, Pop, Flush, Write, Read, Put, Get, Mode, Ioctl, IoctlResult, Signals}
-use Rattle.strm_types.specs.declared.limits.TheConstants.{IOCTL_END, IOCTL_MAX, MODULES, READ_MAX}
+use Rattle.strm_laws.proofs.Prelude.{ℕ, suc, ◌≡◌, ◌≤◌, Bool, true, false, cond, List, [], ◌∷◌, length, map, refl, sym, ap, ◌∙◌, arith, false≢true}
+use Rattle.strm_laws.proofs.Prelude.{and_parts, nat_tests, ◌||◌, not, nat_le, nat_lt, min, Option, None, Some, each-side}
+use Rattle.strm_laws.specs.Prelude.{Caller, OpenMaster, OpenSlave, Shut, Push, Pop, Write, Read, Put, Get, Mode, IoctlResult, Signals, IOCTL_END}
+use Rattle.strm_laws.specs.Prelude.{IOCTL_MAX, MODULES, READ_MAX, Prio, ModuleName, Open, Closed, QueueName, Side, Master, Slave, Down, Einval}
+use Rattle.strm_laws.specs.Prelude.{Erange, Rule, EndClosed, Free, Waiting, Spot, Cells, cells_written, Carried, slot_dropped, of_all, queue_behind}
+use Rattle.strm_laws.specs.Prelude.{Request, asked_of, flush_bytes, flush_message, get_queue, Head, head_put, new_head, asking, ioctl_message}
+use Rattle.strm_laws.specs.Prelude.{asks_group, group_behind, is_body_kind, is_control_kind, Message, data_message, is_high_priority, is_part, stands}
+use Rattle.strm_laws.specs.Prelude.{direction_from, is_open, mode_message, is_no_prio, is_too_long, put_message, put_refusal, read_queue, or_else}
+use Rattle.strm_laws.specs.Prelude.{unless, slot_behind, chunk_count, chunks_of}
+use Rattle.strm_types.specs.declared.events.Event.TheVariants.{Flush, Ioctl}
 use Rattle.strm_types.specs.declared.modes.Mode as modes
 use Rattle.strm_types.specs.declared.modes.Mode.TheVariants as chosen
-use Rattle.strm_types.specs.declared.modes.Prio.{Prio}
 use Rattle.strm_types.specs.declared.modes.Prio.TheVariants as prios
-use Rattle.strm_types.specs.declared.names.ModuleName.{ModuleName}
-use Rattle.strm_types.specs.declared.names.Openness.TheVariants.{Open, Closed}
-use Rattle.strm_types.specs.declared.names.QueueName.{QueueName}
-use Rattle.strm_types.specs.declared.names.Side.{Side}
-use Rattle.strm_types.specs.declared.names.Side.TheVariants.{Master, Slave}
-use Rattle.strm_types.specs.declared.names.Way.TheVariants.{Down}
-use Rattle.strm_types.specs.declared.refusals.Refusal.TheVariants.{Einval, Erange}
-use Rattle.strm_types.specs.declared.rules.Rule.{Rule}
-use Rattle.strm_types.specs.declared.rules.Rule.TheVariants.{EndClosed}
-use Rattle.strm_types.specs.declared.slots.Slot.TheVariants.{Free, Waiting}
-use Rattle.strm_types.specs.declared.spots.Spot.{Spot}
-use Rattle.strm_types.specs.Cells.{Cells, cells_written}
-use Rattle.strm_types.specs.Deliver.{Carried}
-use Rattle.strm_types.specs.Dropped.{slot_dropped}
-use Rattle.strm_types.specs.Emptied.{of_all, queue_behind}
-use Rattle.strm_types.specs.Events.{Request}
-use Rattle.strm_types.specs.Flushing.{asked_of, flush_bytes, flush_message}
-use Rattle.strm_types.specs.GetQueues.{get_queue}
-use Rattle.strm_types.specs.Heads.{Head, head_put, new_head}
-use Rattle.strm_types.specs.Ioctls.{asking, ioctl_message}
-use Rattle.strm_types.specs.JobControl.{asks_group, group_behind}
-use Rattle.strm_types.specs.Kinds.{is_body_kind, is_control_kind}
-use Rattle.strm_types.specs.Message.{Message, data_message, is_high_priority, is_part}
-use Rattle.strm_types.specs.Modules.{stands}
-use Rattle.strm_types.specs.Names.{direction_from, is_open}
-use Rattle.strm_types.specs.Options.{mode_message}
-use Rattle.strm_types.specs.PutMsg.{is_no_prio, is_too_long, put_message, put_refusal}
-use Rattle.strm_types.specs.Reads.{read_queue}
-use Rattle.strm_types.specs.Refused.{or_else, unless}
-use Rattle.strm_types.specs.Slots.{slot_behind}
-use Rattle.strm_types.specs.Write.{chunk_count, chunks_of}
 use Rattle.strm_laws.specs.Calls.{group_at, ioctl_at, ioctl_begun, ioctl_called, ioctl_sent, message_put, mode_set, performed, put_at}
 use Rattle.strm_laws.specs.Closes.{closed_at, driver_emptied, ended, head_emptied, hung_up_at, stream_emptied}
 use Rattle.strm_laws.specs.Pushes.{all_taken, head_above, may_stand, module_named, named_by, pushed_named, top_taken, with_modules}
@@ -50,7 +21,6 @@ use Rattle.strm_laws.specs.Restorable.{GoodHead, GoodMessage, GoodModules, GoodS
 use Rattle.strm_laws.specs.Stacked.{Standing, module_name}
 use Rattle.strm_laws.specs.State.{State, Stream, book, opening, stream, with_driver_queue, with_head_queue, with_ioctl, with_stream}
 use Rattle.strm_laws.specs.Writes.{Wrote, below_head, chunks_sent, is_full_below}
-use Rattle.strm_types.proofs.BySide.{each-side}
 use Rattle.strm_laws.proofs.GoodHeads.{data-good, flush-good, ioctl-good, mode-good}
 use Rattle.strm_laws.proofs.GoodQueues.{behind-good, new-good}
 use Rattle.strm_laws.proofs.GoodReads.{get-good, read-good}

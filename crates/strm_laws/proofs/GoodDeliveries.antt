@@ -1,16 +1,7 @@
 -- What every put of a good message keeps, where it sends good ones on, a delivery of a good message keeps.
-use Rattle.std.proofs.Common.{ℕ, zero, suc, Bool, true, false, cond, List, [], ◌∷◌, ◌++◌}
+use Rattle.strm_laws.proofs.Prelude.{ℕ, zero, suc, Bool, true, false, cond, List, [], ◌∷◌, ◌++◌, ◌==◌, ◌&&◌, nat_le}
+use Rattle.strm_laws.specs.Prelude.{HOPS, MODULES, Side, Way, Up, Down, Spot, Cells, Carried, Parcel, Took, carried, in_turn, is_bare_flush, Message}
 use Rattle.std.specs.List.{AllByRecursion}
-use Rattle.std.specs.Prelude.{◌==◌, ◌&&◌, nat_le}
-use Rattle.strm_types.specs.declared.limits.TheConstants.{HOPS, MODULES}
-use Rattle.strm_types.specs.declared.names.Side.{Side}
-use Rattle.strm_types.specs.declared.names.Way.{Way}
-use Rattle.strm_types.specs.declared.names.Way.TheVariants.{Up, Down}
-use Rattle.strm_types.specs.declared.spots.Spot.{Spot}
-use Rattle.strm_types.specs.Cells.{Cells}
-use Rattle.strm_types.specs.Deliver.{Carried, Parcel, Took, carried, in_turn}
-use Rattle.strm_types.specs.Flushing.{is_bare_flush}
-use Rattle.strm_types.specs.Message.{Message}
 use Rattle.strm_laws.specs.Earlier.{modules_on}
 use Rattle.strm_laws.specs.Puts.{delivered, passed_up, put_at_driver, put_at_head, put_at_module, put_behind, put_below, put_in}
 use Rattle.strm_laws.specs.State.{State}

@@ -1,26 +1,10 @@
 -- What is put at a driver leaves its queue good, and what it sends is good (ptm(7D), pts(7D)).
-use Rattle.std.proofs.Common.{◌≡◌, Bool, true, false, cond, refl, ap, subst, ◌∙◌}
-use Rattle.std.proofs.lemmas.Bool.{false≢true}
-use Rattle.std.specs.Prelude.{◌==◌, ◌&&◌, ◌||◌, Option, None, Some}
-use Rattle.strm_types.specs.declared.flushing.FlushAsked.{FlushAsked}
-use Rattle.strm_types.specs.declared.ioctls.Ioc.{Ioc}
-use Rattle.strm_types.specs.declared.kinds.MsgKind.{MsgKind}
-use Rattle.strm_types.specs.declared.kinds.MsgKind.TheVariants.{Data, Proto, Sig, Ctl, Ioctl, Setopts, Iocack, Iocnak, Pcproto, Pcsig, Read, Flush, Stop, Start, Hangup, Error}
-use Rattle.strm_types.specs.declared.names.Side.{Side}
-use Rattle.strm_types.specs.declared.names.Way.{Way}
-use Rattle.strm_types.specs.declared.names.Way.TheVariants.{Up, Down}
-use Rattle.strm_types.specs.declared.spots.Across.{Across}
-use Rattle.strm_types.specs.declared.spots.Spot.{Spot}
-use Rattle.strm_types.specs.Commands.{is_ioctl}
-use Rattle.strm_types.specs.Deliver.{Acted}
-use Rattle.strm_types.specs.Drivers.{answered, bottom_across, crosses, driver_across, driver_put, flush_across, flush_down, freed, ioctl_put, own_flushed, put_across, put_down, reader_flush, taken_in}
-use Rattle.strm_types.specs.Emptied.{of_data}
-use Rattle.strm_types.specs.Flushing.{asked_by, read_flush}
-use Rattle.strm_types.specs.Ioctls.{read_ioc}
-use Rattle.strm_types.specs.Kinds.{is_body_kind, is_control_kind}
-use Rattle.strm_types.specs.Message.{Message, has_parts}
-use Rattle.strm_types.specs.Names.{is_master}
-use Rattle.strm_types.specs.Queue.{Queue}
+use Rattle.strm_laws.proofs.Prelude.{◌≡◌, Bool, true, false, cond, refl, ap, subst, ◌∙◌, false≢true, ◌==◌, ◌&&◌, ◌||◌, Option, None, Some}
+use Rattle.strm_laws.specs.Prelude.{FlushAsked, Ioc, MsgKind, Data, Proto, Sig, Ctl, Ioctl, Setopts, Iocack, Iocnak, Pcproto, Pcsig, Flush, Hangup}
+use Rattle.strm_laws.specs.Prelude.{Error, Side, Way, Up, Down, Across, Spot, is_ioctl, Acted, answered, bottom_across, crosses, driver_across}
+use Rattle.strm_laws.specs.Prelude.{driver_put, flush_across, flush_down, freed, ioctl_put, own_flushed, put_across, put_down, reader_flush, taken_in}
+use Rattle.strm_laws.specs.Prelude.{of_data, asked_by, read_flush, read_ioc, is_body_kind, is_control_kind, Message, has_parts, is_master, Queue}
+use Rattle.strm_types.specs.declared.kinds.MsgKind.TheVariants.{Read, Stop, Start}
 use Rattle.strm_laws.specs.Restorable.{GoodMessage, GoodQueue, StandsOn, is_part_kind, stands_below}
 use Rattle.strm_laws.proofs.GoodDeliveries.{AreGood, all-join}
 use Rattle.strm_laws.proofs.GoodHeads.{flush-good, nak-good, with-parts}

@@ -1,29 +1,17 @@
 -- What comes up to a head leaves it good, and what it sends down is good (STREAMS Programming Guide, "Stream Head").
-use Rattle.std.proofs.Common.{ℕ, ◌≡◌, ◌≤◌, Bool, true, false, cond, List, [], ◌∷◌, length, refl, sym, ◌∙◌, arith}
-use Rattle.std.proofs.lemmas.Bool.{false≢true}
+use Rattle.strm_laws.proofs.Prelude.{ℕ, ◌≡◌, ◌≤◌, Bool, true, false, cond, List, [], ◌∷◌, length, refl, sym, ◌∙◌, arith, false≢true, ◌==◌, ◌||◌}
+use Rattle.strm_laws.proofs.Prelude.{Option, None, Some}
+use Rattle.strm_laws.specs.Prelude.{FlushAsked, Ioc, MsgKind, Data, Proto, Sig, Ctl, Ioctl, Setopts, Iocack, Iocnak, Pcproto, Pcsig, Flush, Hangup}
+use Rattle.strm_laws.specs.Prelude.{Error, IOCTL_MAX, ReadMode, ByteStream, MessageKeep, MessageDiscard, Side, Down, Marks, Spot, Acted, of_data}
+use Rattle.strm_laws.specs.Prelude.{asked_by, flush_bytes, flush_message, Head, flush_up, head_flushed, head_put, is_doubled, nak_down, obeyed}
+use Rattle.strm_laws.specs.Prelude.{passed_by, turned_round, waits_for_readers, ioc_bytes, ioctl_message, nak_message, read_ioc, is_control_kind}
+use Rattle.strm_laws.specs.Prelude.{is_body_kind, Message, data_message, has_parts, is_high_priority, is_part, mode_message, options_in, bare}
 use Rattle.std.proofs.lemmas.List.{length-append}
-use Rattle.std.specs.Prelude.{◌==◌, ◌+◌, ◌||◌, Option, None, Some}
-use Rattle.strm_types.specs.declared.flushing.FlushAsked.{FlushAsked}
-use Rattle.strm_types.specs.declared.ioctls.Ioc.{Ioc}
-use Rattle.strm_types.specs.declared.kinds.MsgKind.{MsgKind}
-use Rattle.strm_types.specs.declared.kinds.MsgKind.TheVariants.{Data, Proto, Sig, Ctl, Ioctl, Setopts, Iocack, Iocnak, Pcproto, Pcsig, Read, Flush, Stop, Start, Hangup, Error}
-use Rattle.strm_types.specs.declared.limits.TheConstants.{IOCTL_MAX}
-use Rattle.strm_types.specs.declared.modes.ReadMode.{ReadMode}
-use Rattle.strm_types.specs.declared.modes.ReadMode.TheVariants.{ByteStream, MessageKeep, MessageDiscard}
-use Rattle.strm_types.specs.declared.names.Side.{Side}
-use Rattle.strm_types.specs.declared.names.Way.TheVariants.{Down}
-use Rattle.strm_types.specs.declared.options.Marks.{Marks}
+use Rattle.std.specs.Prelude.{◌+◌}
+use Rattle.strm_types.specs.declared.kinds.MsgKind.TheVariants.{Read, Stop, Start}
 use Rattle.strm_types.specs.declared.options.Options.{Options}
-use Rattle.strm_types.specs.declared.spots.Spot.{Spot}
-use Rattle.strm_types.specs.Deliver.{Acted}
-use Rattle.strm_types.specs.Emptied.{of_data}
-use Rattle.strm_types.specs.Flushing.{asked_by, flush_bytes, flush_message}
-use Rattle.strm_types.specs.Heads.{Head, flush_up, head_flushed, head_put, is_doubled, nak_down, obeyed, passed_by, turned_round, waits_for_readers, with_options}
-use Rattle.strm_types.specs.Ioctls.{ioc_bytes, ioctl_message, nak_message, read_ioc, refused}
-use Rattle.strm_types.specs.Kinds.{is_control_kind, is_body_kind}
-use Rattle.strm_types.specs.Message.{Message, data_message, has_parts, is_high_priority, is_part}
-use Rattle.strm_types.specs.Options.{mode_message, options_in}
-use Rattle.strm_types.specs.Typing.{bare}
+use Rattle.strm_types.specs.Heads.{with_options}
+use Rattle.strm_types.specs.Ioctls.{refused}
 use Rattle.strm_laws.specs.Restorable.{GoodHead, GoodMessage, StandsOn, has_header, is_part_kind, sets_options}
 use Rattle.strm_laws.proofs.GoodDeliveries.{AreGood}
 use Rattle.strm_laws.proofs.GoodQueues.{behind-good, put-good}

@@ -1,39 +1,21 @@
 -- A call of ldterm's service procedures leaves it good, and what it sends is good (ldterm(7M); termio(7I)).
-use Rattle.std.proofs.Common.{ℕ, zero, suc, ◌≡◌, ◌≤◌, ◌+◌, ◌-◌, ◌*◌, Bool, true, false, cond, List, [], ◌∷◌, ◌++◌, length, take, drop, map, refl, sym, ap, ◌∙◌, arith}
-use Rattle.std.proofs.lemmas.Bool.Decides.{nat_tests}
-use Rattle.std.proofs.lemmas.Bool.{false≢true}
-use Rattle.std.proofs.lemmas.List.{length-append, length-take}
-use Rattle.std.specs.Prelude.{◌&&◌, not, nat_lt, Option, None, Some, option_map, unwrap_or}
+use Rattle.strm_laws.proofs.Prelude.{ℕ, zero, suc, ◌≡◌, ◌≤◌, ◌+◌, ◌-◌, ◌*◌, Bool, true, false, cond, List, [], ◌∷◌, ◌++◌, length, take, drop, map}
+use Rattle.strm_laws.proofs.Prelude.{refl, sym, ap, ◌∙◌, arith, nat_tests, false≢true, length-take, ◌&&◌, not, nat_lt, Option, None, Some, option_map}
+use Rattle.strm_laws.proofs.Prelude.{unwrap_or, posts-low, Ordered-put_back}
+use Rattle.strm_laws.specs.Prelude.{FlushAsked, Key, LINE_MAX, MsgKind, Data, Way, Up, Down, COLUMN_MAX, LineFull, LineOver, Flushed, SignalKey, Spot}
+use Rattle.strm_laws.specs.Prelude.{Cells, cells_made, Acted, Parcel, onward, flush_bytes, flush_message, back_on, begins_next, cells_left, finished}
+use Rattle.strm_laws.specs.Prelude.{input_begins, is_data, left_of, made_of, next_stage, passes, stage_at, stages, stages_done, then_on, to_treat}
+use Rattle.strm_laws.specs.Prelude.{treats, with_left, restarts, is_body_kind, is_control_kind, ldterm_serves, Discipline, Stage, Between, Begun}
+use Rattle.strm_laws.specs.Prelude.{Answered, queue_at, sends, waits_there, ErasesByte, ErasesWord, Types, edited, has_room, without_end}
+use Rattle.strm_laws.specs.Prelude.{without_last, without_word, Message, cells_of, data_message, rank_of, posts, Outgoing, outgoing, output_dir}
+use Rattle.strm_laws.specs.Prelude.{output_serves, posted, unchanged, with_given, IsOrdered, Queue, is_full, is_none_left, left_with, put_back}
+use Rattle.strm_laws.specs.Prelude.{icanon, imaxbel, noflsh, opost, added, bare, begins, both_ways, dropped, echo_dir, echo_grows, echo_lost}
+use Rattle.strm_laws.specs.Prelude.{echo_stands, echoed, gathered_up, grown, is_blank_cell, is_lnext, lost, sigint, signals, sigquit, sigtstp}
+use Rattle.strm_laws.specs.Prelude.{strikes, stroke_at, struck, up_alone}
+use Rattle.std.proofs.lemmas.List.{length-append}
 use Rattle.std.specs.List.{AllByRecursion}
-use Rattle.strm_types.specs.declared.flushing.FlushAsked.{FlushAsked}
-use Rattle.strm_types.specs.declared.keys.Key.{Key}
 use Rattle.strm_types.specs.declared.keys.Key.TheVariants as keys
-use Rattle.strm_types.specs.declared.keys.TheConstants.{LINE_MAX}
-use Rattle.strm_types.specs.declared.kinds.MsgKind.{MsgKind}
-use Rattle.strm_types.specs.declared.kinds.MsgKind.TheVariants.{Data}
 use Rattle.strm_types.specs.declared.kinds.MsgKind.TheVariants as kinds
-use Rattle.strm_types.specs.declared.names.Way.{Way}
-use Rattle.strm_types.specs.declared.names.Way.TheVariants.{Up, Down}
-use Rattle.strm_types.specs.declared.output.TheConstants.{COLUMN_MAX}
-use Rattle.strm_types.specs.declared.rules.Rule.TheVariants.{LineFull, LineOver, Flushed, SignalKey}
-use Rattle.strm_types.specs.declared.spots.Spot.{Spot}
-use Rattle.strm_types.specs.Cells.{Cells, cells_made}
-use Rattle.strm_types.specs.Deliver.{Acted, Parcel, onward}
-use Rattle.strm_types.specs.Flushing.{flush_bytes, flush_message}
-use Rattle.strm_types.specs.Input.{back_on, begins_next, cells_left, finished, input_begins, is_data, left_of, made_of, next_stage, passes, stage_at, stages, stages_done, then_on, to_treat, treats, with_left}
-use Rattle.strm_types.specs.Keys.{restarts}
-use Rattle.strm_types.specs.Kinds.{is_body_kind, is_control_kind}
-use Rattle.strm_types.specs.LdtermServes.{ldterm_serves}
-use Rattle.strm_types.specs.Ldterms.{Discipline, Stage, Between, Begun, Answered, queue_at, sends, waits_there}
-use Rattle.strm_types.specs.Lines.{ErasesByte, ErasesWord, Types, edited, has_room, without_end, without_last, without_word}
-use Rattle.strm_types.specs.Message.{Message, cells_of, data_message, rank_of}
-use Rattle.strm_types.specs.Output.{posts}
-use Rattle.strm_types.specs.OutputTurns.{Outgoing, outgoing, output_dir, output_serves, posted, unchanged, with_given}
-use Rattle.strm_types.specs.Queue.{IsOrdered, Queue, is_full, is_none_left, left_with, put_back}
-use Rattle.strm_types.specs.Termios.{icanon, imaxbel, noflsh, opost}
-use Rattle.strm_types.specs.Typing.{added, bare, begins, both_ways, dropped, echo_dir, echo_grows, echo_lost, echo_stands, echoed, gathered_up, grown, is_blank_cell, is_lnext, lost, sigint, signals, sigquit, sigtstp, strikes, stroke_at, struck, up_alone}
-use Rattle.strm_types.proofs.Outputs.{posts-low}
-use Rattle.strm_types.proofs.Ranked.{Ordered-put_back}
 use Rattle.strm_laws.specs.Restorable.{GoodMessage, GoodQueue, IsWork, StandsOn, goes_out, is_part_kind}
 use Rattle.strm_laws.proofs.GoodDeliveries.{AreGood, all-join}
 use Rattle.strm_laws.proofs.GoodHeads.{data-good, flush-good, signal-good, start-good, stop-good}

@@ -1,36 +1,14 @@
 -- What is put at ldterm leaves it good, and what it sends of a good message is good (ldterm(7M)).
-use Rattle.std.proofs.Common.{ℕ, ◌≡◌, ◌≤◌, Bool, true, false, cond, List, [], ◌∷◌, length, refl, arith}
-use Rattle.std.proofs.lemmas.Bool.{false≢true}
-use Rattle.std.specs.Prelude.{◌==◌, ◌&&◌, ◌||◌, not, Option, None, Some, unwrap_or}
-use Rattle.strm_types.specs.declared.flushing.FlushAsked.{FlushAsked}
-use Rattle.strm_types.specs.declared.ioctls.Ioc.{Ioc}
-use Rattle.strm_types.specs.declared.ioctls.TheConstants.{TCSETSF}
-use Rattle.strm_types.specs.declared.keys.TheConstants.{LINE_MAX}
-use Rattle.strm_types.specs.declared.output.TheConstants.{COLUMN_MAX}
-use Rattle.strm_types.specs.declared.kinds.Band.{Band}
-use Rattle.strm_types.specs.declared.kinds.MsgKind.{MsgKind}
-use Rattle.strm_types.specs.declared.names.Way.{Way}
-use Rattle.strm_types.specs.declared.names.Way.TheVariants.{Up, Down}
-use Rattle.strm_types.specs.declared.spots.Spot.{Spot}
-use Rattle.strm_types.specs.declared.termios.Termios.{Termios}
-use Rattle.strm_types.specs.Acks.{payload}
-use Rattle.strm_types.specs.Commands.{is_acked, is_ioctl, sets_termios}
-use Rattle.strm_types.specs.Deliver.{Acted, onward}
-use Rattle.strm_types.specs.Emptied.{of_data}
-use Rattle.strm_types.specs.Flushing.{asked_by, flush_message, is_flush, read_flush}
-use Rattle.strm_types.specs.Ioctls.{read_ioc}
-use Rattle.strm_types.specs.LdtermPuts.{goes_on, ldterm_puts, passes_on_way, told_by_header, told_termios, waits_behind, waits_on}
-use Rattle.strm_types.specs.LdtermStands.{disciplined}
-use Rattle.strm_types.specs.Ldterms.{Discipline, Ldterm, both, flush_passes, line_flushed, queue_at, queue_flushed, queued_at, read_flushed, sends, takes_band_0, waits_there, with_queue_at, without_line, write_flushed}
-use Rattle.strm_types.specs.Message.{Message, has_parts}
-use Rattle.strm_types.specs.Options.{mode_message}
-use Rattle.strm_types.specs.Queue.{Queue}
-use Rattle.strm_types.specs.Service.{line_gone}
-use Rattle.strm_types.specs.Standings.{QueuePair, new_pair}
-use Rattle.strm_types.specs.TakenUp.{ends_lines, input_flushed, line_up, read_mode_of, taken_up, termios_taken}
-use Rattle.strm_types.specs.Termios.{read_termios, tostop}
-use Rattle.strm_types.specs.Typing.{up_alone}
-use Rattle.strm_types.specs.declared.rules.Rule.TheVariants.{Flushed}
+use Rattle.strm_laws.proofs.Prelude.{ℕ, ◌≡◌, ◌≤◌, Bool, true, false, cond, List, [], ◌∷◌, length, refl, arith, false≢true, ◌==◌, ◌&&◌, ◌||◌, not}
+use Rattle.strm_laws.proofs.Prelude.{Option, None, Some, unwrap_or}
+use Rattle.strm_laws.specs.Prelude.{FlushAsked, Ioc, TCSETSF, LINE_MAX, COLUMN_MAX, Band, MsgKind, Way, Up, Down, Spot, Termios, payload, is_acked}
+use Rattle.strm_laws.specs.Prelude.{is_ioctl, sets_termios, Acted, onward, of_data, asked_by, flush_message, is_flush, read_flush, read_ioc, goes_on}
+use Rattle.strm_laws.specs.Prelude.{ldterm_puts, passes_on_way, told_by_header, told_termios, waits_behind, waits_on, disciplined, Discipline, both}
+use Rattle.strm_laws.specs.Prelude.{flush_passes, line_flushed, queue_at, queue_flushed, queued_at, read_flushed, sends, takes_band_0, waits_there}
+use Rattle.strm_laws.specs.Prelude.{with_queue_at, without_line, write_flushed, Message, has_parts, mode_message, Queue, line_gone, QueuePair}
+use Rattle.strm_laws.specs.Prelude.{new_pair, ends_lines, input_flushed, line_up, read_mode_of, taken_up, termios_taken, read_termios, tostop}
+use Rattle.strm_laws.specs.Prelude.{up_alone, Flushed}
+use Rattle.strm_types.specs.Ldterms.{Ldterm}
 use Rattle.strm_laws.specs.Restorable.{GoodLdterm, GoodMessage, GoodModule, GoodPair, GoodQueue, IsWhole, IsWork, StandsOn, goes_out}
 use Rattle.strm_laws.specs.Stacked.{ldterm_stands}
 use Rattle.strm_laws.proofs.GoodDeliveries.{AreGood, all-join}

@@ -1,33 +1,20 @@
 -- What is put at ptem and at pckt leaves them good, and what they send of good messages is good (ptem(7M), pckt(7M)).
-use Rattle.std.proofs.Common.{ℕ, ◌≡◌, ◌≤◌, ◌<◌, Bool, true, false, cond, List, [], ◌∷◌, length, refl, sym, subst, arith}
-use Rattle.std.proofs.lemmas.Bool.{false≢true, and_parts}
-use Rattle.std.proofs.lemmas.List.{length-append, length-drop}
-use Rattle.std.proofs.lemmas.Bool.Decides.{nat_tests}
+use Rattle.strm_laws.proofs.Prelude.{ℕ, ◌≡◌, ◌≤◌, ◌<◌, Bool, true, false, cond, List, [], ◌∷◌, length, refl, sym, subst, arith, false≢true, and_parts}
+use Rattle.strm_laws.proofs.Prelude.{length-drop, nat_tests, ◌==◌, not, Option, None, Some}
+use Rattle.strm_laws.specs.Prelude.{Ioc, TCGETS, TIOCGWINSZ, TIOCSIGNAL, TIOCSWINSZ, MsgKind, Ioctl, BANDS, IOCTL_MAX, Way, Up, Down, Spot, Termios}
+use Rattle.strm_laws.specs.Prelude.{Winsize, ack_message, payload, Cells, is_asked, is_ioctl, sets_termios, Acted, onward, asked_by, asking}
+use Rattle.strm_laws.specs.Prelude.{ioc_bytes, read_ioc, is_body_kind, is_control_kind, Message, band_of, has_parts, is_high_priority, flush_passed}
+use Rattle.strm_laws.specs.Prelude.{is_flush_passed, is_packed, packet, pckt_on_way, pckt_packs, pckt_passes, pckt_puts, Ptem, acks, asked_above}
+use Rattle.strm_laws.specs.Prelude.{asked_below, asked_by_header, asked_on_way, naks, ptem_passes, ptem_puts, set_above, signal_told, signals_up}
+use Rattle.strm_laws.specs.Prelude.{sigwinch, termios_set, window_set, window_told, signal_in, read_termios, termios_bytes, read_winsize}
+use Rattle.strm_laws.specs.Prelude.{same_winsize, winsize_bytes}
+use Rattle.std.proofs.lemmas.List.{length-append}
 use Rattle.std.proofs.lemmas.Option.{same_Some}
-use Rattle.std.specs.Prelude.{◌==◌, ◌+◌, not, drop, Option, None, Some}
-use Rattle.strm_types.specs.declared.ioctls.Ioc.{Ioc}
-use Rattle.strm_types.specs.declared.ioctls.TheConstants.{TCGETS, TIOCGWINSZ, TIOCSIGNAL, TIOCSWINSZ}
-use Rattle.strm_types.specs.declared.kinds.MsgKind.{MsgKind}
-use Rattle.strm_types.specs.declared.kinds.MsgKind.TheVariants.{Ioctl}
-use Rattle.strm_types.specs.declared.limits.TheConstants.{BANDS, IOCTL_MAX}
-use Rattle.strm_types.specs.declared.names.Way.{Way}
-use Rattle.strm_types.specs.declared.names.Way.TheVariants.{Up, Down}
-use Rattle.strm_types.specs.declared.spots.Spot.{Spot}
-use Rattle.strm_types.specs.declared.termios.Termios.{Termios}
-use Rattle.strm_types.specs.declared.winsize.Winsize.{Winsize}
-use Rattle.strm_types.specs.Acks.{ack_message, acked, payload}
-use Rattle.strm_types.specs.Cells.{Cells}
-use Rattle.strm_types.specs.Commands.{is_asked, is_ioctl, sets_termios}
-use Rattle.strm_types.specs.Deliver.{Acted, onward}
-use Rattle.strm_types.specs.Flushing.{asked_by}
-use Rattle.strm_types.specs.Ioctls.{asking, ioc_bytes, read_ioc, word_at}
-use Rattle.strm_types.specs.Kinds.{is_body_kind, is_control_kind}
-use Rattle.strm_types.specs.Message.{Message, band_of, has_parts, is_high_priority}
-use Rattle.strm_types.specs.Pckts.{flush_passed, is_flush_passed, is_packed, packet, pckt_on_way, pckt_packs, pckt_passes, pckt_puts, writers_flush}
-use Rattle.strm_types.specs.Ptems.{Ptem, acks, asked_above, asked_below, asked_by_header, asked_on_way, naks, ptem_passes, ptem_puts, set_above, signal_told, signals_up, sigwinch, termios_set, window_set, window_signal, window_told}
-use Rattle.strm_types.specs.Signals.{signal_in}
-use Rattle.strm_types.specs.Termios.{read_termios, termios_bytes}
-use Rattle.strm_types.specs.Winsizes.{read_winsize, same_winsize, winsize_bytes}
+use Rattle.std.specs.Prelude.{◌+◌, drop}
+use Rattle.strm_types.specs.Acks.{acked}
+use Rattle.strm_types.specs.Ioctls.{word_at}
+use Rattle.strm_types.specs.Pckts.{writers_flush}
+use Rattle.strm_types.specs.Ptems.{window_signal}
 use Rattle.strm_laws.specs.Restorable.{GoodMessage, IsWhole, has_header}
 use Rattle.strm_laws.proofs.GoodDeliveries.{AreGood, all-join}
 use Rattle.strm_laws.proofs.GoodHeads.{flush-good, header-long, ioctl-good, nak-good, signal-good}

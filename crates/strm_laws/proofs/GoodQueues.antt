@@ -1,15 +1,10 @@
 -- A queue of good messages with marks in order stays one as puts, flushes, takes and waiting writers change it.
-use Rattle.std.proofs.Common.{ℕ, zero, suc, ◌≤◌, ◌<◌, Bool, true, false, cond, List, [], ◌∷◌}
-use Rattle.std.specs.Prelude.{◌&&◌, ◌^◌, nat_le, nat_lt, replicate}
+use Rattle.strm_laws.proofs.Prelude.{ℕ, zero, suc, ◌≤◌, ◌<◌, Bool, true, false, cond, List, [], ◌∷◌, ◌&&◌, ◌^◌, nat_le, nat_lt, replicate}
+use Rattle.strm_laws.proofs.Prelude.{Ordered-put}
+use Rattle.strm_laws.specs.Prelude.{MsgKind, BANDS, Choice, emptied, none_goes, queue_behind, Message, rank_of, with_waiting, Flow, Queue, count_of}
+use Rattle.strm_laws.specs.Prelude.{new_queue, put, put_back, put_on, relieved, relieved_from, turn_ended}
 use Rattle.std.specs.List.{AllByRecursion}
-use Rattle.strm_types.specs.declared.kinds.MsgKind.{MsgKind}
-use Rattle.strm_types.specs.declared.limits.TheConstants.{BANDS}
-use Rattle.strm_types.specs.Emptied.{Choice, emptied, none_goes, queue_behind}
-use Rattle.strm_types.specs.Message.{Message, rank_of}
-use Rattle.strm_types.specs.ModuleQueues.{with_waiting}
-use Rattle.strm_types.specs.Queue.{Flow, Queue, count_of, new_queue, put, put_back, put_on, relieved, relieved_from, with_writer_at}
-use Rattle.strm_types.specs.Service.{turn_ended}
-use Rattle.strm_types.proofs.Ranked.{Ordered-put}
+use Rattle.strm_types.specs.Queue.{with_writer_at}
 use Rattle.strm_laws.specs.Restorable.{AreMarks, GoodQueue, StandsOn}
 use Rattle.strm_laws.proofs.QueueOrder.{all-stayed, stayed-order}
 

@@ -1,24 +1,14 @@
 -- What a read and a get leave at a head is good (read(2), getmsg(2); streamio(7I): I_SRDOPT).
-use Rattle.std.proofs.Common.{ℕ, zero, suc, ◌≡◌, ◌<◌, Bool, true, false, cond, List, [], ◌∷◌, ◌++◌, length, drop, refl, sym, subst, ◌∙◌, arith}
-use Rattle.std.proofs.lemmas.Bool.{false≢true}
-use Rattle.std.specs.Prelude.{◌==◌, ◌||◌, nat_lt, Option, None, Some}
+use Rattle.strm_laws.proofs.Prelude.{ℕ, zero, suc, ◌≡◌, ◌<◌, Bool, true, false, cond, List, [], ◌∷◌, ◌++◌, length, drop, refl, sym, subst, ◌∙◌, arith}
+use Rattle.strm_laws.proofs.Prelude.{false≢true, ◌==◌, ◌||◌, nat_lt, Option, None, Some, of-each}
+use Rattle.strm_laws.specs.Prelude.{MsgKind, Data, Proto, Pcproto, BANDS, ControlMode, Refuse, Discard, ReadMode, ByteStream, MessageKeep}
+use Rattle.strm_laws.specs.Prelude.{MessageDiscard, Wanted, get_queue, gets_none, none_got, queue_got, got_none, head_get, is_wanted, left_behind}
+use Rattle.strm_laws.specs.Prelude.{parts_of, is_body_kind, is_control_kind, Message, band_of, is_high_priority, is_part, part, IsOrdered, Queue}
+use Rattle.strm_laws.specs.Prelude.{is_none_left, left_with, relieved, Drawn, all_cells, and_more, control_gone, drawn, emptied_of, front_of}
+use Rattle.strm_laws.specs.Prelude.{head_draw, is_passed, is_refused, no_cells, none_went, offered, queue_drawn, read_queue, rest_after, rest_with}
+use Rattle.strm_laws.specs.Prelude.{shown, stopped, takes_none, wanted_after}
 use Rattle.std.specs.List.{AllByRecursion}
-use Rattle.strm_types.specs.declared.kinds.MsgKind.{MsgKind}
-use Rattle.strm_types.specs.declared.kinds.MsgKind.TheVariants.{Data, Proto, Pcproto}
-use Rattle.strm_types.specs.declared.limits.TheConstants.{BANDS}
-use Rattle.strm_types.specs.declared.modes.ControlMode.{ControlMode}
-use Rattle.strm_types.specs.declared.modes.ControlMode.TheVariants.{Refuse, Discard}
 use Rattle.strm_types.specs.declared.modes.ControlMode.TheVariants as controls
-use Rattle.strm_types.specs.declared.modes.ReadMode.{ReadMode}
-use Rattle.strm_types.specs.declared.modes.ReadMode.TheVariants.{ByteStream, MessageKeep, MessageDiscard}
-use Rattle.strm_types.specs.declared.modes.Wanted.{Wanted}
-use Rattle.strm_types.specs.GetQueues.{get_queue, gets_none, none_got, queue_got}
-use Rattle.strm_types.specs.Gets.{got_none, head_get, is_wanted, left_behind, parts_of}
-use Rattle.strm_types.specs.Kinds.{is_body_kind, is_control_kind}
-use Rattle.strm_types.specs.Message.{Message, band_of, is_high_priority, is_part, part}
-use Rattle.strm_types.specs.Queue.{IsOrdered, Queue, is_none_left, left_with, relieved}
-use Rattle.strm_types.specs.Reads.{Drawn, all_cells, and_more, control_gone, drawn, emptied_of, front_of, head_draw, is_passed, is_refused, no_cells, none_went, offered, queue_drawn, read_queue, rest_after, rest_with, shown, stopped, takes_none, wanted_after}
-use Rattle.strm_types.proofs.Drawing.{of-each}
 use Rattle.strm_laws.specs.Restorable.{GoodMessage, GoodQueue, StandsOn, is_part_kind}
 use Rattle.strm_laws.proofs.GoodDeliveries.{all-join}
 use Rattle.strm_laws.proofs.GoodQueues.{all-put_back, relieved-good}

@@ -1,35 +1,16 @@
 -- What is put in a pair of good streams leaves them good, and what is sent on is good: so is all that comes of a delivery.
-use Rattle.std.proofs.Common.{ℕ, zero, suc, ◌≡◌, ◌≤◌, ◌-◌, Bool, true, false, cond, List, [], ◌∷◌, length, map, refl, sym, ap, subst, ◌∙◌, arith}
-use Rattle.std.proofs.lemmas.Bool.{false≢true}
-use Rattle.std.proofs.lemmas.List.{length-map}
-use Rattle.std.specs.Prelude.{Some}
+use Rattle.strm_laws.proofs.Prelude.{ℕ, zero, suc, ◌≡◌, ◌≤◌, ◌-◌, Bool, true, false, cond, List, [], ◌∷◌, length, map, refl, sym, ap, subst, ◌∙◌}
+use Rattle.strm_laws.proofs.Prelude.{arith, false≢true, length-map, Some, set-all}
+use Rattle.strm_laws.specs.Prelude.{IOCTL_END, Dir, ModuleName, QueueName, Side, Up, EndClosed, Spot, with_made, AllSides, Cells, Acted, Goes, Took}
+use Rattle.strm_laws.specs.Prelude.{driver_put, Head, head_put, Message, cells_of, act_among, change_among, put_among, direction_at, is_open, Queue}
 use Rattle.std.specs.List.{AllByRecursion}
-use Rattle.strm_types.specs.declared.limits.TheConstants.{IOCTL_END}
-use Rattle.strm_types.specs.declared.names.Dir.{Dir}
-use Rattle.strm_types.specs.declared.names.ModuleName.{ModuleName}
-use Rattle.strm_types.specs.declared.names.QueueName.{QueueName}
-use Rattle.strm_types.specs.declared.names.Side.{Side}
 use Rattle.strm_types.specs.declared.names.Place.TheVariants as places
-use Rattle.strm_types.specs.declared.names.Way.TheVariants.{Up}
-use Rattle.strm_types.specs.declared.rules.Rule.TheVariants.{EndClosed}
-use Rattle.strm_types.specs.declared.spots.Spot.{Spot}
-use Rattle.strm_types.specs.Books.{with_made}
-use Rattle.strm_types.specs.Both.{AllSides}
-use Rattle.strm_types.specs.Cells.{Cells}
-use Rattle.strm_types.specs.Deliver.{Acted, Goes, Took}
-use Rattle.strm_types.specs.Drivers.{driver_put}
-use Rattle.strm_types.specs.Heads.{Head, head_put}
-use Rattle.strm_types.specs.Message.{Message, cells_of}
-use Rattle.strm_types.specs.Modules.{act_among, change_among, put_among}
-use Rattle.strm_types.specs.Names.{direction_at, is_open}
-use Rattle.strm_types.specs.Queue.{Queue}
 use Rattle.strm_laws.specs.Earlier.{driver_place}
 use Rattle.strm_laws.specs.Puts.{across_of, earlier_at, made_above, module_acted, noted, put_at_driver, put_at_head, put_at_module}
 use Rattle.strm_laws.specs.Restorable.{GoodHead, GoodMessage, GoodModule, GoodModules, GoodQueue, GoodStream, stands_below}
 use Rattle.strm_laws.specs.StackCosts.{EachOnce}
 use Rattle.strm_laws.specs.Stacked.{Standing, module_name, module_puts}
 use Rattle.strm_laws.specs.State.{State, Stream, book, stream, with_book, with_driver_queue, with_stream}
-use Rattle.strm_types.proofs.BySide.{set-all}
 use Rattle.strm_laws.proofs.GoodDeliveries.{AreGood, GoodParts, GoodTook}
 use Rattle.strm_laws.proofs.GoodDrivers.{driver-good}
 use Rattle.strm_laws.proofs.GoodHeads.{head-good}

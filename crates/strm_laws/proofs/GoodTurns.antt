@@ -1,29 +1,12 @@
 -- A turn of a pair of good streams leaves them good.
-use Rattle.std.proofs.Common.{ℕ, zero, suc, ◌≡◌, ◌+◌, ◌-◌, ◌*◌, Bool, true, false, cond, List, [], ◌∷◌}
-use Rattle.std.specs.Prelude.{◌==◌, not, is_some, Option, None, Some}
+use Rattle.strm_laws.proofs.Prelude.{ℕ, zero, suc, ◌≡◌, ◌+◌, ◌-◌, ◌*◌, Bool, true, false, cond, List, [], ◌∷◌, ◌==◌, not, is_some, Option, None, Some}
+use Rattle.strm_laws.specs.Prelude.{Turn, MsgKind, HOPS, Place, Ldterm, Driver, QueueName, Side, Way, Up, Down, Asks, Spot, Cells, carried, in_turn}
+use Rattle.strm_laws.specs.Prelude.{Message, band_of, size_of, at_place, place_past, with_waiting, waits_there, QueuePair, pair_changed}
+use Rattle.strm_laws.specs.Prelude.{queue_changed, stood, change_among, is_open, other, place_of, without, IsOrdered, Queue, left_with, relieved}
+use Rattle.strm_laws.specs.Prelude.{turn_ended}
 use Rattle.std.specs.List.{AllByRecursion}
-use Rattle.strm_types.specs.declared.answers.Turn.{Turn}
-use Rattle.strm_types.specs.declared.kinds.MsgKind.{MsgKind}
-use Rattle.strm_types.specs.declared.limits.TheConstants.{HOPS}
-use Rattle.strm_types.specs.declared.names.Place.{Place}
-use Rattle.strm_types.specs.declared.names.Place.TheVariants.{Head, Ldterm, Driver}
-use Rattle.strm_types.specs.declared.names.QueueName.{QueueName}
-use Rattle.strm_types.specs.declared.names.Side.{Side}
-use Rattle.strm_types.specs.declared.names.Way.{Way}
-use Rattle.strm_types.specs.declared.names.Way.TheVariants.{Up, Down}
-use Rattle.strm_types.specs.declared.spots.Asks.{Asks}
+use Rattle.strm_types.specs.declared.names.Place.TheVariants.{Head}
 use Rattle.strm_types.specs.declared.spots.Asks.TheVariants as asked
-use Rattle.strm_types.specs.declared.spots.Spot.{Spot}
-use Rattle.strm_types.specs.Cells.{Cells}
-use Rattle.strm_types.specs.Deliver.{carried, in_turn}
-use Rattle.strm_types.specs.Message.{Message, band_of, size_of}
-use Rattle.strm_types.specs.ModuleQueues.{at_place, place_past, with_waiting}
-use Rattle.strm_types.specs.Ldterms.{waits_there}
-use Rattle.strm_types.specs.Standings.{QueuePair, pair_changed, queue_changed, stood}
-use Rattle.strm_types.specs.Modules.{change_among}
-use Rattle.strm_types.specs.Names.{is_open, other, place_of, without}
-use Rattle.strm_types.specs.Queue.{IsOrdered, Queue, left_with, relieved}
-use Rattle.strm_types.specs.Service.{turn_ended}
 use Rattle.strm_laws.specs.Earlier.{driver_place}
 use Rattle.strm_laws.specs.ModuleTurns.{Calls, again_at, asked_turn, bytes_at, call_at, calls, made_below, module_called, moved_on, moved_within, place_named, queue_ended, turned_named, turned_there, waits_there as writers_wait}
 use Rattle.strm_laws.specs.Past.{has_room_past, waits_on, writer_waits}

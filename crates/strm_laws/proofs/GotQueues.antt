@@ -1,20 +1,12 @@
 -- The queue of a head behind a get: what goes and what stays is what stood there, and forgetting the origins of cells commutes
 -- with it.
-use Rattle.std.proofs.Common.{ℕ, ◌≡◌, ◌+◌, Bool, true, false, cond, List, [], ◌∷◌, map, refl, sym, ap, ◌∙◌, arith}
-use Rattle.std.specs.Prelude.{not, ◌&&◌, Option, None, Some, option_map}
-use Rattle.std.proofs.lemmas.List.{map-append}
-use Rattle.strm_types.specs.declared.modes.Wanted.{Wanted}
-use Rattle.strm_types.specs.declared.names.Dir.{Dir}
+use Rattle.strm_laws.proofs.Prelude.{ℕ, ◌≡◌, ◌+◌, Bool, true, false, cond, List, [], ◌∷◌, map, refl, sym, ap, ◌∙◌, arith, not, ◌&&◌, Option, None}
+use Rattle.strm_laws.proofs.Prelude.{Some, option_map, map-append, count-joined}
+use Rattle.strm_laws.specs.Prelude.{Wanted, Dir, Fate, Goes, gets_none, none_got, queue_got, get_queue, get_lets_go, get_gone, Got, head_get, map_got}
+use Rattle.strm_laws.specs.Prelude.{Message, part, map_fate, Queue, weight, left_with, relieved, map_messages, map_queue, no_cells}
 use Rattle.strm_types.specs.declared.rules.Rule.TheVariants as rules
-use Rattle.strm_types.specs.Deliver.{Fate, Goes}
-use Rattle.strm_types.specs.GetQueues.{gets_none, cells_got, none_got, queue_got, get_queue, writer_let_go, get_lets_go, get_gone}
-use Rattle.strm_types.specs.Gets.{Got, head_get, map_got}
-use Rattle.strm_types.specs.Message.{Message, part}
-use Rattle.strm_types.specs.Origins.{map_fate}
+use Rattle.strm_types.specs.GetQueues.{cells_got, writer_let_go}
 use Rattle.strm_laws.specs.Places.{weight_gone, weight_made}
-use Rattle.strm_types.specs.Queue.{Queue, weight, left_with, relieved, map_messages, map_queue}
-use Rattle.strm_types.specs.Reads.{no_cells}
-use Rattle.strm_types.proofs.Drawing.{count-joined}
 use Rattle.strm_laws.proofs.Forgetting.{relieved-forgets, relieves_from-forgets}
 use Rattle.strm_laws.proofs.GetKeeps.{get-kept, get-forgets, wanted-forgets}
 

@@ -1,15 +1,10 @@
 -- Cells that are told as made are the next ones of their direction, one after the other.
-use Rattle.std.proofs.Common.{ℕ, zero, suc, ◌≡◌, ◌+◌, Bool, true, List, [], ◌∷◌, ◌++◌, length, refl, sym, ap, subst, ◌∙◌, arith}
-use Rattle.std.specs.Prelude.{count_by}
-use Rattle.strm_types.specs.declared.names.Dir.{Dir}
-use Rattle.strm_types.specs.declared.names.Dir.TheVariants.{MasterToSlave, SlaveToMaster}
-use Rattle.strm_types.specs.Cells.{Cells, cells_made, cells_written}
-use Rattle.strm_types.specs.Deliver.{Carried, Fate, Goes, Comes, Parcel, Took, carried, in_turn}
-use Rattle.strm_types.specs.Message.{Message}
+use Rattle.strm_laws.proofs.Prelude.{ℕ, zero, suc, ◌≡◌, ◌+◌, Bool, true, List, [], ◌∷◌, ◌++◌, length, refl, sym, ap, subst, ◌∙◌, arith, count_by}
+use Rattle.strm_laws.proofs.Prelude.{count-join}
+use Rattle.strm_laws.specs.Prelude.{Dir, MasterToSlave, SlaveToMaster, Cells, cells_made, cells_written, Carried, Fate, Goes, Comes, Parcel, Took}
+use Rattle.strm_laws.specs.Prelude.{carried, in_turn, Message, Spot}
 use Rattle.strm_laws.specs.Places.{weight_made}
 use Rattle.strm_laws.specs.State.{State, book}
-use Rattle.strm_types.specs.declared.spots.Spot.{Spot}
-use Rattle.strm_types.proofs.Weights.{count-join}
 
 -- cells that are the next ones that are made in a direction, from the nth on
 pub record AreNext {C : Type 0} (cells : Cells C) (dir : Dir) (n : ℕ) (xs : List C) : Type 0 where

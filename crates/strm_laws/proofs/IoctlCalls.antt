@@ -1,28 +1,16 @@
 -- An ioctl on a side's stream loses no cell, leaves a side that isn't open nothing to be read, and forgetting the origins of
 -- cells commutes with it; and so with the calls that are told an answer, or the signals.
-use Rattle.std.proofs.Common.{ℕ, ◌≡◌, ◌+◌, Bool, List, refl, arith}
-use Rattle.strm_types.specs.declared.ioctls.Ioc.{Ioc}
-use Rattle.strm_types.specs.declared.names.Side.{Side}
-use Rattle.strm_types.specs.declared.names.Side.TheVariants.{Master, Slave}
-use Rattle.strm_types.specs.declared.names.Way.TheVariants.{Down}
-use Rattle.strm_types.specs.declared.spots.Spot.{Spot}
-use Rattle.strm_types.specs.declared.names.Dir.{Dir}
-use Rattle.strm_types.specs.Cells.{AreCells, Cells, plain}
-use Rattle.strm_types.specs.Names.{direction_from}
+use Rattle.strm_laws.proofs.Prelude.{ℕ, ◌≡◌, ◌+◌, Bool, List, refl, arith}
+use Rattle.strm_laws.specs.Prelude.{Ioc, Side, Master, Slave, Down, Spot, Dir, AreCells, Cells, plain, direction_from, asking, ioctl_message, Message}
+use Rattle.strm_laws.specs.Prelude.{cells_of, map_message, weight_of, map_carried, PlainSlot, Waiting, slot_behind}
 use Rattle.strm_laws.specs.Calls.{ioctl_begun, ioctl_sent, ioctl_told, signals_told, map_outcome}
-use Rattle.strm_types.specs.Ioctls.{asking, ioctl_message}
 use Rattle.strm_laws.specs.Kept.{state_weight}
-use Rattle.strm_types.specs.Message.{Message, cells_of, map_message, weight_of}
-use Rattle.strm_types.specs.Origins.{map_carried}
 use Rattle.strm_laws.specs.Places.{weight_gone, weight_made}
 use Rattle.strm_laws.specs.Puts.{delivered}
-use Rattle.strm_types.specs.Slots.{PlainSlot}
 use Rattle.strm_laws.specs.State.{State, map_state, with_ioctl, with_signals, stream}
 use Rattle.strm_laws.proofs.Deliveries.{delivered-keeps}
 use Rattle.strm_laws.proofs.PutsForget.{delivered-forgets}
 use Rattle.strm_laws.proofs.StreamWeights.{same-weighs}
-use Rattle.strm_types.specs.declared.slots.Slot.TheVariants.{Waiting}
-use Rattle.strm_types.specs.Slots.{slot_behind}
 
 abbrev below : Side → Spot
 below side = record { side = side; at = 1; way = Down }

@@ -1,17 +1,13 @@
 -- Stored entries and their bytes in one buffer.
-use Rattle.std.proofs.Common.{ℕ, suc, ◌≡◌, ◌≤◌, ◌+◌, List, [], ◌∷◌, ◌++◌, length, drop, refl, sym, ap, ◌∙◌, arith, length-append}
-use Rattle.std.specs.Prelude.{sum_by, Option, None, Some}
-use Rattle.std.proofs.lemmas.List.{take-append-le, drop-append-le, length-drop, length-take-le, nil_from_length}
-use Rattle.std.proofs.lemmas.List.Sums.{sum_by-cons}
+use Rattle.strm_laws.proofs.Prelude.{ℕ, suc, ◌≡◌, ◌≤◌, ◌+◌, List, [], ◌∷◌, ◌++◌, length, drop, refl, sym, ap, ◌∙◌, arith, length-append, sum_by}
+use Rattle.strm_laws.proofs.Prelude.{Option, None, Some, take-append-le, length-drop, sum_by-cons}
+use Rattle.strm_laws.specs.Prelude.{Called, Turned, Event, Answer, payload_of, content_of, part, part_len, part_in, event_len, answer_len, request_in}
+use Rattle.strm_laws.specs.Prelude.{reply_in, entry_in, room_of, room_used}
+use Rattle.std.proofs.lemmas.List.{drop-append-le, length-take-le, nil_from_length}
 use Rattle.strm_types.specs.declared.entries.Entry.{Entry}
-use Rattle.strm_types.specs.declared.entries.Entry.TheVariants.{Called, Turned}
-use Rattle.strm_types.specs.declared.events.Event.{Event}
 use Rattle.strm_types.specs.declared.events.Event.TheVariants as shapes
-use Rattle.strm_types.specs.declared.answers.Answer.{Answer}
 use Rattle.strm_types.specs.declared.answers.Answer.TheVariants as told
-use Rattle.strm_types.specs.Events.{payload_of, content_of}
-use Rattle.strm_types.specs.Message.{part}
-use Rattle.strm_types.specs.Journal.{part_len, part_in, event_len, answer_len, entry_len, request_in, reply_in, entry_in, entries_in, room_of, room_used}
+use Rattle.strm_types.specs.Journal.{entry_len, entries_in}
 
 -- bytes behind a part's own change nothing of it
 part_in-more : (o : Option ℕ) (bytes more : List ℕ) → part_len o ≤ length bytes → part_in o (bytes ++ more) ≡ part_in o bytes

@@ -1,15 +1,10 @@
 -- In every legal journal each byte that was booked, or stood at its base, has one place, and no other byte has any; and of each direction the
 -- books say how many bytes stand there and have gone.
-use Rattle.std.proofs.Common.{ℕ, suc, ◌≡◌, ◌+◌, Bool, true, false, cond, List, [], ◌∷◌, length, refl, ap, ◌∙◌, arith}
-use Rattle.std.specs.Prelude.{◌==◌, ◌&&◌, nat_le, nat_lt, count_by}
-use Rattle.std.proofs.lemmas.Bool.Decides.{nat_tests}
-use Rattle.strm_types.specs.declared.entries.Entry.TheVariants.{Called, Turned}
-use Rattle.strm_types.specs.declared.names.Dir.{Dir}
-use Rattle.strm_types.specs.declared.names.Dir.TheVariants.{MasterToSlave, SlaveToMaster}
-use Rattle.strm_types.specs.declared.names.Place.{Place}
-use Rattle.strm_types.specs.declared.names.Place.TheVariants.{Head, Ldterm, Driver}
-use Rattle.strm_types.specs.Cells.{Cells, Origin, Written, Made, Base, Tagged, cells_made, cells_written, tagged}
-use Rattle.strm_types.specs.Journal.{PlainEntry}
+use Rattle.strm_laws.proofs.Prelude.{ℕ, suc, ◌≡◌, ◌+◌, Bool, true, false, cond, List, [], ◌∷◌, length, refl, ap, ◌∙◌, arith, ◌==◌, ◌&&◌, nat_le}
+use Rattle.strm_laws.proofs.Prelude.{nat_lt, count_by, nat_tests, made-long, count-join}
+use Rattle.strm_laws.specs.Prelude.{Called, Turned, Dir, MasterToSlave, SlaveToMaster, Place, Ldterm, Driver, Cells, Origin, Written, Made, Base}
+use Rattle.strm_laws.specs.Prelude.{Tagged, cells_made, cells_written, tagged, PlainEntry}
+use Rattle.strm_types.specs.declared.names.Place.TheVariants.{Head}
 use Rattle.strm_laws.specs.Based.{based, number}
 use Rattle.strm_laws.specs.Kept.{AreIdle, MayTest, NothingUnread, gone, state_weight, tests_at}
 use Rattle.strm_laws.specs.LdtermWeights.{IgnoresMapping}
@@ -21,11 +16,9 @@ use Rattle.strm_laws.proofs.Balances.{step-counts, total, written-long}
 use Rattle.strm_laws.proofs.Based.{NumberedBase, all-counted, based-counted, based-idle, based-unread, none-counted}
 use Rattle.strm_laws.proofs.DeliveryKeeps.{gone-append}
 use Rattle.strm_laws.proofs.InOrder.{Numbered}
-use Rattle.strm_types.proofs.MadeCells.{made-long}
 use Rattle.strm_laws.proofs.Kept.{step-keeps}
 use Rattle.strm_laws.proofs.Unread.{step-unread}
 use Rattle.strm_laws.proofs.StepsIdle.{step-idle}
-use Rattle.strm_types.proofs.Weights.{count-join}
 
 module _ {C : Type 0} (cells : Cells C) (p : Dir → C → Bool) (numbered : Numbered cells p) (ignores : IgnoresMapping cells p) where
   may-test : (entry : PlainEntry) → MayTest cells p entry

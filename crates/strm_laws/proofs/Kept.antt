@@ -1,33 +1,16 @@
 -- No step of a pair loses a byte, or makes one that it doesn't tell.
-use Rattle.std.proofs.Common.{ℕ, ◌≡◌, ◌+◌, Bool, true, false, cond, List, [], refl, sym, ap, ◌∙◌, arith}
-use Rattle.std.specs.Prelude.{min, not, None, count_by}
-use Rattle.strm_types.specs.declared.limits.TheConstants.{READ_MAX}
-use Rattle.strm_types.specs.declared.entries.Entry.TheVariants.{Called, Turned}
-use Rattle.strm_types.specs.declared.events.Caller.{Caller}
-use Rattle.strm_types.specs.declared.events.Event.TheVariants.{OpenSlave, Shut, Push, Pop, Flush, Write, Read, Put, Get, Mode, Ioctl, IoctlResult, Signals}
+use Rattle.strm_laws.proofs.Prelude.{ℕ, ◌≡◌, ◌+◌, Bool, true, false, cond, List, [], refl, sym, ap, ◌∙◌, arith, min, not, None, count_by}
+use Rattle.strm_laws.proofs.Prelude.{head_draw-keeps}
+use Rattle.strm_laws.specs.Prelude.{READ_MAX, Called, Turned, Caller, OpenSlave, Shut, Push, Pop, Write, Read, Put, Get, Mode, IoctlResult, Signals}
+use Rattle.strm_laws.specs.Prelude.{Wanted, ControlMode, ReadMode, Dir, Side, Slave, Einval, Free, Up, Cells, cells_written, direction_from}
+use Rattle.strm_laws.specs.Prelude.{direction_of, head_of, is_open, direction_at, Message, Queue, weight, left_with, relieved, Drawn, head_draw}
+use Rattle.strm_laws.specs.Prelude.{none_went, queue_drawn, read_fates, read_gone, read_queue, takes_none, Request, get_queue, get_gone, asks_group}
+use Rattle.strm_laws.specs.Prelude.{group_behind, PlainEntry, or_else}
+use Rattle.strm_types.specs.declared.events.Event.TheVariants.{Flush, Ioctl}
 use Rattle.strm_types.specs.declared.modes.Mode as modes
 use Rattle.strm_types.specs.declared.modes.Mode.TheVariants as chosen
-use Rattle.strm_types.specs.declared.modes.Wanted.{Wanted}
-use Rattle.strm_types.specs.declared.modes.ControlMode.{ControlMode}
-use Rattle.strm_types.specs.declared.modes.ReadMode.{ReadMode}
-use Rattle.strm_types.specs.declared.names.Dir.{Dir}
-use Rattle.strm_types.specs.declared.names.Side.{Side}
-use Rattle.strm_types.specs.declared.names.Side.TheVariants.{Slave}
-use Rattle.strm_types.specs.declared.refusals.Refusal.TheVariants.{Einval}
-use Rattle.strm_types.specs.declared.slots.Slot.TheVariants.{Free}
-use Rattle.strm_types.specs.declared.names.Way.TheVariants.{Up}
-use Rattle.strm_types.specs.Cells.{Cells, cells_written}
-use Rattle.strm_types.specs.Names.{direction_from, direction_of, head_of, is_open, direction_at}
-use Rattle.strm_types.specs.Message.{Message}
-use Rattle.strm_types.specs.Queue.{Queue, weight, left_with, relieved}
 use Rattle.strm_laws.specs.State.{State, stream, book, with_head_queue}
-use Rattle.strm_types.specs.Reads.{Drawn, head_draw, none_went, queue_drawn, read_fates, read_gone, read_queue, takes_none}
-use Rattle.strm_types.specs.Events.{Request}
 use Rattle.strm_laws.specs.Calls.{Outcome, get_at, group_at, ioctl_at, mode_set, performed, read_at, write_sent, wrote}
-use Rattle.strm_types.specs.GetQueues.{get_queue, get_gone}
-use Rattle.strm_types.specs.JobControl.{asks_group, group_behind}
-use Rattle.strm_types.specs.Journal.{PlainEntry}
-use Rattle.strm_types.specs.Refused.{or_else}
 use Rattle.strm_laws.specs.Refusals.{refused_at_once, unfit}
 use Rattle.strm_laws.specs.Step.{Step}
 use Rattle.strm_laws.specs.Turns.{turned}
@@ -40,7 +23,6 @@ use Rattle.strm_laws.proofs.WriteSteps.{cells_sent-keeps}
 use Rattle.strm_laws.proofs.GotQueues.{get_queue-keeps}
 use Rattle.strm_laws.proofs.IoctlCalls.{sent-keeps, signals-keep, told-keeps}
 use Rattle.strm_laws.proofs.PutMessages.{put_at-keeps}
-use Rattle.strm_types.proofs.ReadKeeps.{head_draw-keeps}
 use Rattle.strm_laws.proofs.TurnKeeps.{turn-keeps}
 use Rattle.strm_laws.proofs.Replay.{unless-none, or_else-none}
 use Rattle.strm_laws.proofs.Stopping.{of-allowed}

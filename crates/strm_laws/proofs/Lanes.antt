@@ -1,12 +1,11 @@
 -- Queues of messages by their lanes.
-use Rattle.std.proofs.Common.{ℕ, ◌≡◌, ◌<◌, ◌+◌, Bool, true, false, cond, List, [], ◌∷◌, ◌++◌, refl, sym, ap, ◌∙◌, arith, append-nil, append_assoc}
-use Rattle.std.specs.Prelude.{sum_by, if◌then◌else◌, ◌==◌}
+use Rattle.strm_laws.proofs.Prelude.{ℕ, ◌≡◌, ◌<◌, ◌+◌, Bool, true, false, cond, List, [], ◌∷◌, ◌++◌, refl, sym, ap, ◌∙◌, arith, append-nil, sum_by}
+use Rattle.strm_laws.proofs.Prelude.{if◌then◌else◌, ◌==◌, nat_tests, sum_by-cons, lane-put, Ordered-put}
+use Rattle.strm_laws.specs.Prelude.{Message, rank_of, band_of, size_of, is_high_priority, lane, IsOrdered, put, count_of}
+use Rattle.std.proofs.Common.{append_assoc}
 use Rattle.std.specs.List.{AllByRecursion}
-use Rattle.std.proofs.lemmas.Bool.Decides.{nat_tests}
-use Rattle.std.proofs.lemmas.List.Sums.{sum_by-cons}
-use Rattle.strm_types.specs.Message.{Message, rank_of, band_of, size_of, is_high_priority}
-use Rattle.strm_types.specs.Queue.{lane, IsOrdered, put, put_all, count_of, bytes_of}
-use Rattle.strm_types.proofs.Ranked.{behind, lane-put, Ordered-put}
+use Rattle.strm_types.specs.Queue.{put_all, bytes_of}
+use Rattle.strm_types.proofs.Ranked.{behind}
 
 module _ {C : Type 0} where
   -- what is put in turn stands in its lane in that order, behind what stood there

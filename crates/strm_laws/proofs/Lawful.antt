@@ -1,26 +1,9 @@
 -- What a module owes the stream on which it stands, of whatever kind it is: what it does loses no cell, keeps within the table of its name, and is
 -- the same where the origins of cells are forgotten. LawfulKinds says that each kind is so.
-use Rattle.std.proofs.Common.{ℕ, ◌≡◌, ◌≤◌, ◌+◌, ◌-◌, ◌*◌, Bool, true, false, length, map}
-use Rattle.std.specs.Prelude.{Option, Some, count_by, None}
-use Rattle.strm_types.specs.declared.names.Dir.{Dir}
-use Rattle.strm_types.specs.declared.names.ModuleName.{ModuleName}
-use Rattle.strm_types.specs.declared.names.Side.{Side}
-use Rattle.strm_types.specs.declared.names.Way.{Way}
-use Rattle.strm_types.specs.declared.names.Way.TheVariants.{Up}
-use Rattle.strm_types.specs.declared.spots.Spot.{Spot}
-use Rattle.strm_types.specs.Budgets.{emits_at, Within}
-use Rattle.strm_types.specs.Cells.{AreCells, Cells, plain, Tagged}
-use Rattle.strm_types.specs.Deliver.{Acted}
-use Rattle.strm_types.specs.Input.{made_of, stages_done}
-use Rattle.strm_types.specs.LdtermCalls.{Begins, Ends}
-use Rattle.strm_types.specs.LdtermStands.{disciplined}
-use Rattle.strm_types.specs.Message.{map_message, Message, weight_of}
-use Rattle.strm_types.specs.Names.{direction_at, other}
-use Rattle.strm_types.specs.Origins.{map_acted}
-use Rattle.strm_types.specs.Service.{Serving}
-use Rattle.strm_types.specs.Shapes.{shape_of}
-use Rattle.strm_types.specs.Standings.{QueuePair}
-use Rattle.strm_types.specs.Tables.{name_does}
+use Rattle.strm_laws.proofs.Prelude.{ℕ, ◌≡◌, ◌≤◌, ◌+◌, ◌-◌, ◌*◌, Bool, true, false, length, map, Option, Some, count_by, None}
+use Rattle.strm_laws.specs.Prelude.{Dir, ModuleName, Side, Way, Up, Spot, emits_at, Within, AreCells, Cells, plain, Tagged, Acted, made_of}
+use Rattle.strm_laws.specs.Prelude.{stages_done, Begins, Ends, disciplined, map_message, Message, weight_of, direction_at, other, map_acted, Serving}
+use Rattle.strm_laws.specs.Prelude.{shape_of, QueuePair, name_does}
 use Rattle.strm_laws.specs.Based.{number, number_kind}
 use Rattle.strm_laws.specs.LdtermOrigins.{map_serving}
 use Rattle.strm_laws.specs.LdtermWeights.{IgnoresMapping}

@@ -1,36 +1,14 @@
 -- Each kind of module is lawful: the one place that names them all.
-use Rattle.std.proofs.Common.{ℕ, ◌≡◌, true, [], ◌∷◌, refl, ap, ◌∙◌, arith, Bool, false}
-use Rattle.std.specs.Prelude.{Option, Some, count_by, option_map}
-use Rattle.std.proofs.lemmas.Bool.{false≢true}
-use Rattle.strm_types.specs.declared.names.Dir.{Dir}
-use Rattle.strm_types.specs.declared.names.ModuleName.{ModuleName}
+use Rattle.strm_laws.proofs.Prelude.{ℕ, ◌≡◌, true, [], ◌∷◌, refl, ap, ◌∙◌, arith, Bool, false, Option, Some, count_by, option_map, false≢true}
+use Rattle.strm_laws.proofs.Prelude.{idle-stays, puts-stay, puts-each, pckt-within, puts-gone, ptem-within}
+use Rattle.strm_laws.specs.Prelude.{Dir, ModuleName, Side, Way, Up, Spot, ldterm_asks, Cells, plain, made_of, kind_number, ldterm_puts, ldterm_serves}
+use Rattle.strm_laws.specs.Prelude.{disciplined, map_message, Message, direction_at, other, Pckt, plain_packed, Ptem, ptem_puts, done_by, served_by}
+use Rattle.strm_laws.specs.Prelude.{map_pair, QueuePair, stood}
 use Rattle.strm_types.specs.declared.names.ModuleName.TheVariants as names
-use Rattle.strm_types.specs.declared.names.Side.{Side}
-use Rattle.strm_types.specs.declared.names.Way.{Way}
-use Rattle.strm_types.specs.declared.names.Way.TheVariants.{Up}
-use Rattle.strm_types.specs.declared.spots.Spot.{Spot}
-use Rattle.strm_types.specs.Asking.{ldterm_asks}
-use Rattle.strm_types.specs.Cells.{Cells, plain}
-use Rattle.strm_types.specs.Input.{made_of}
-use Rattle.strm_types.specs.Kinds.{kind_number}
-use Rattle.strm_types.specs.LdtermPuts.{ldterm_puts}
-use Rattle.strm_types.specs.LdtermServes.{ldterm_serves}
-use Rattle.strm_types.specs.LdtermStands.{disciplined}
-use Rattle.strm_types.specs.Message.{map_message, Message}
-use Rattle.strm_types.specs.Names.{direction_at, other}
-use Rattle.strm_types.specs.Pckts.{Pckt, plain_packed}
-use Rattle.strm_types.specs.Ptems.{Ptem, ptem_puts}
-use Rattle.strm_types.specs.Service.{done_by, served_by}
-use Rattle.strm_types.specs.Standings.{map_pair, QueuePair, stood}
 use Rattle.strm_laws.specs.LdtermWeights.{weight_begun, weight_in_work}
 use Rattle.strm_laws.specs.Places.{weight_gone, weight_made}
 use Rattle.strm_laws.specs.Stacked.{kind_line, kind_weight, KindRests, ldterm_stands, Module, module_puts, OfLdterm, OfPckt, OfPtem, Standing}
-use Rattle.strm_types.proofs.LdtermPutStays.{idle-stays, puts-stay}
 use Rattle.strm_types.proofs.LdtermWithin.{ldterm-within}
-use Rattle.strm_types.proofs.PcktPuts.{puts-each}
-use Rattle.strm_types.proofs.PcktWithin.{pckt-within}
-use Rattle.strm_types.proofs.PtemPuts.{puts-gone}
-use Rattle.strm_types.proofs.PtemWithin.{ptem-within}
 use Rattle.strm_laws.proofs.GoodLdtermTurns.{serves-good}
 use Rattle.strm_laws.proofs.GoodLdterms.{good-stands, good-with, ldterm-good}
 use Rattle.strm_laws.proofs.GoodPtems.{pckt-good, ptem-good}

@@ -1,45 +1,25 @@
 -- What ldterm does with what is put at it, and with each byte that is typed, loses no cell and makes none that it doesn't tell.
-use Rattle.std.proofs.Common.{ℕ, zero, suc, ◌≡◌, ◌+◌, ◌-◌, Bool, true, false, cond, List, [], ◌∷◌, ◌++◌, length, drop, refl, sym, ap, subst, ◌∙◌, arith}
-use Rattle.std.specs.Prelude.{not, ◌&&◌, ◌==◌, Option, None, count_by}
-use Rattle.std.proofs.lemmas.Bool.{false≢true}
-use Rattle.strm_types.specs.declared.flushing.FlushAsked.{FlushAsked}
-use Rattle.strm_types.specs.declared.ioctls.TheConstants.{TCSETSF}
-use Rattle.strm_types.specs.declared.keys.Key.{Key}
-use Rattle.strm_types.specs.declared.keys.Key.TheVariants.{Stop, Start, Intr, Quit, Susp, Ignored, Eof, Erase, Kill, Werase, Reprint, Lnext, Delimiter, Ordinary}
-use Rattle.strm_types.specs.declared.kinds.Band.{Band}
-use Rattle.strm_types.specs.declared.kinds.MsgKind.{MsgKind}
+use Rattle.strm_laws.proofs.Prelude.{ℕ, zero, suc, ◌≡◌, ◌+◌, ◌-◌, Bool, true, false, cond, List, [], ◌∷◌, ◌++◌, length, drop, refl, sym, ap, subst}
+use Rattle.strm_laws.proofs.Prelude.{◌∙◌, arith, not, ◌&&◌, ◌==◌, Option, None, count_by, false≢true, either, count-join, weight-data, weight-put}
+use Rattle.strm_laws.proofs.Prelude.{weight-take, weight-whole}
+use Rattle.strm_laws.specs.Prelude.{FlushAsked, TCSETSF, Key, Stop, Start, Intr, Quit, Susp, Ignored, Eof, Erase, Kill, Werase, Reprint, Lnext}
+use Rattle.strm_laws.specs.Prelude.{Delimiter, Ordinary, Band, MsgKind, Dir, Side, Way, Up, Down, Rule, EraseKey, Erased, Killed, SignalKey, FlowKey}
+use Rattle.strm_laws.specs.Prelude.{LineFull, LineOver, Flushed, Spot, Termios, Cells, Acted, Parcel, toward, onward, of_data, asked_by, flush_bytes}
+use Rattle.strm_laws.specs.Prelude.{flush_message, read_flush, ldterm_puts, Discipline, both, flush_passes, line_flushed, queue_flushed, queued_at}
+use Rattle.strm_laws.specs.Prelude.{read_flushed, sends, takes_band_0, without_line, write_flushed, Types, ErasesByte, ErasesWord, edited, has_room}
+use Rattle.strm_laws.specs.Prelude.{Message, cells_of, data_message, weight_of, mode_message, direction_at, is_full, is_none_left, weight, line_gone}
+use Rattle.strm_laws.specs.Prelude.{ends_lines, input_flushed, line_up, read_mode_of, taken_up, termios_taken, icanon, imaxbel, noflsh, tostop, added}
+use Rattle.strm_laws.specs.Prelude.{bare, both_ways, dropped, echo_grows, echo_lost, echo_stands, gathered_up, goes_up, grown, is_blank_cell, lost}
+use Rattle.strm_laws.specs.Prelude.{sigint, signals, sigquit, sigtstp, stops, strikes, up_alone}
 use Rattle.strm_types.specs.declared.kinds.MsgKind.TheVariants as kinds
-use Rattle.strm_types.specs.declared.names.Dir.{Dir}
-use Rattle.strm_types.specs.declared.names.Side.{Side}
-use Rattle.strm_types.specs.declared.names.Way.{Way}
-use Rattle.strm_types.specs.declared.names.Way.TheVariants.{Up, Down}
-use Rattle.strm_types.specs.declared.rules.Rule.{Rule}
-use Rattle.strm_types.specs.declared.rules.Rule.TheVariants.{Igncr, EraseKey, Erased, Killed, SignalKey, FlowKey, LnextKey, ReprintKey, LineFull, LineOver, Flushed}
-use Rattle.strm_types.specs.declared.spots.Spot.{Spot}
-use Rattle.strm_types.specs.declared.termios.Termios.{Termios}
-use Rattle.strm_types.specs.Cells.{Cells}
-use Rattle.strm_types.specs.Deliver.{Acted, Parcel, toward, onward}
-use Rattle.strm_types.specs.Emptied.{of_data}
-use Rattle.strm_types.specs.Flushing.{asked_by, flush_bytes, flush_message, read_flush}
-use Rattle.strm_types.specs.LdtermPuts.{ldterm_puts}
+use Rattle.strm_types.specs.declared.rules.Rule.TheVariants.{Igncr, LnextKey, ReprintKey}
 use Rattle.strm_laws.specs.LdtermWeights.{weight_beside, ldterm_weight, ActedKeeps, EchoStands}
-use Rattle.strm_types.specs.Ldterms.{Discipline, both, flush_passes, line_flushed, queue_flushed, queued_at, read_flushed, sends, takes_band_0, without_line, write_flushed}
-use Rattle.strm_types.specs.Lines.{Types, ErasesByte, ErasesWord, edited, has_room}
-use Rattle.strm_types.specs.Message.{Message, cells_of, data_message, weight_of}
-use Rattle.strm_types.specs.Options.{mode_message}
-use Rattle.strm_types.specs.Names.{direction_at}
 use Rattle.strm_laws.specs.Places.{direction_to, way_to, weight_sent, weight_gone, weight_made}
-use Rattle.strm_types.specs.Queue.{is_full, is_none_left, weight}
-use Rattle.strm_types.specs.Service.{line_gone}
-use Rattle.strm_types.specs.TakenUp.{ends_lines, input_flushed, line_up, read_mode_of, taken_up, termios_taken}
-use Rattle.strm_types.specs.Termios.{icanon, imaxbel, noflsh, tostop}
-use Rattle.strm_types.specs.Typing.{added, bare, both_ways, dropped, echo_grows, echo_lost, echo_stands, gathered_up, goes_up, grown, is_blank_cell, lost, sigint, signals, sigquit, sigtstp, stops, strikes, up_alone}
 use Rattle.strm_laws.proofs.DeliveryKeeps.{gone-append, made-append}
 use Rattle.strm_laws.proofs.EmptiedKeeps.{behind-keeps}
-use Rattle.strm_types.proofs.LdtermPuts.{puts-each, either}
+use Rattle.strm_types.proofs.LdtermPuts.{puts-each}
 use Rattle.strm_laws.proofs.Prefixes.{Begins, last-begins, word-begins}
 use Rattle.strm_laws.proofs.PutWeights.{weight-both, weight-flush, weight-mode}
-use Rattle.strm_types.proofs.Weights.{count-join, weight-data, weight-put, weight-take, weight-whole}
 
 -- a message without parts has no cells
 pub weight-bare : {C : Type 0} (p : C → Bool) (kind : MsgKind) (bytes : List ℕ) → weight_of p (bare kind bytes) ≡ 0

@@ -1,38 +1,22 @@
 -- What holds of ldterm between the calls of its procedures stays so.
-use Rattle.std.proofs.Common.{ℕ, zero, suc, ◌≡◌, ◌+◌, ◌-◌, ◌*◌, Bool, true, false, cond, List, [], ◌∷◌, ◌++◌, refl, sym, ap, ◌∙◌}
-use Rattle.std.specs.Prelude.{nat_lt, not, ◌&&◌, ◌||◌, ◌==◌, nat_le, Option, None, Some, unwrap_or, length}
+use Rattle.strm_laws.proofs.Prelude.{ℕ, zero, suc, ◌≡◌, ◌+◌, ◌-◌, ◌*◌, Bool, true, false, cond, List, [], ◌∷◌, ◌++◌, refl, sym, ap, ◌∙◌, nat_lt, not}
+use Rattle.strm_laws.proofs.Prelude.{◌&&◌, ◌||◌, ◌==◌, nat_le, Option, None, Some, unwrap_or, false≢true, and_parts, ne_eqb, not-true, strikes-stay}
+use Rattle.strm_laws.specs.Prelude.{FlushAsked, TCSETSF, Band, MsgKind, Way, Up, Down, Flushed, Spot, Termios, Cells, cells_made, Acted, onward}
+use Rattle.strm_laws.specs.Prelude.{emptied, none_goes, of_data, queue_behind, stayed, asked_by, flush_message, read_flush, begins_next, cells_left}
+use Rattle.strm_laws.specs.Prelude.{input_begins, is_data, left_of, made_of, next_stage, passes, stages, stages_done, then_on, to_treat, treats}
+use Rattle.strm_laws.specs.Prelude.{restarts, ldterm_puts, ldterm_serves, new_pair, Discipline, discipline, Stage, Between, Begun, Answered, both}
+use Rattle.strm_laws.specs.Prelude.{line_flushed, new_ldterm, queue_flushed, queued_at, read_flushed, sends, takes_band_0, write_flushed, Message}
+use Rattle.strm_laws.specs.Prelude.{cells_of, data_message, is_high_priority, rank_of, Queue, is_full, is_none_left, left_with, put, relieved}
+use Rattle.strm_laws.specs.Prelude.{line_gone, taken_up, bare, begins, echo_dir, echo_grows, echo_lost, echo_stands, echoed, grown, is_lnext}
+use Rattle.strm_laws.specs.Prelude.{stroke_at, struck, up_alone}
+use Rattle.std.specs.Prelude.{length}
 use Rattle.std.specs.List.{list_any}
-use Rattle.std.proofs.lemmas.Bool.{false≢true, and_left, and_parts, and_right, eqb-false, eqb-true, ne_eqb, not-true}
-use Rattle.strm_types.specs.declared.flushing.FlushAsked.{FlushAsked}
-use Rattle.strm_types.specs.declared.ioctls.TheConstants.{TCSETSF}
-use Rattle.strm_types.specs.declared.kinds.Band.{Band}
-use Rattle.strm_types.specs.declared.kinds.MsgKind.{MsgKind}
+use Rattle.std.proofs.lemmas.Bool.{and_left, and_right, eqb-false, eqb-true}
 use Rattle.strm_types.specs.declared.kinds.MsgKind.TheVariants as kinds
-use Rattle.strm_types.specs.declared.names.Way.{Way}
-use Rattle.strm_types.specs.declared.names.Way.TheVariants.{Up, Down}
-use Rattle.strm_types.specs.declared.rules.Rule.TheVariants.{Flushed}
-use Rattle.strm_types.specs.declared.spots.Spot.{Spot}
-use Rattle.strm_types.specs.declared.termios.Termios.{Termios}
-use Rattle.strm_types.specs.Cells.{Cells, cells_made}
-use Rattle.strm_types.specs.Deliver.{Acted, onward}
-use Rattle.strm_types.specs.Emptied.{emptied, none_goes, of_data, queue_behind, stayed}
 use Rattle.strm_types.specs.Flush.{counted_band, is_data_kind}
-use Rattle.strm_types.specs.Flushing.{asked_by, flush_message, read_flush}
-use Rattle.strm_types.specs.Input.{begins_next, cells_left, input_begins, is_data, left_of, made_of, next_stage, passes, stages, stages_done, then_on, to_treat, treats}
-use Rattle.strm_types.specs.Keys.{restarts}
-use Rattle.strm_types.specs.LdtermPuts.{ldterm_puts}
-use Rattle.strm_types.specs.LdtermServes.{ldterm_serves}
 use Rattle.strm_laws.specs.LdtermTurns.{IsItsTurn, IsOrderly, is_echo}
 use Rattle.strm_laws.specs.LdtermWeights.{EchoStands}
-use Rattle.strm_types.specs.Standings.{new_pair}
-use Rattle.strm_types.specs.Ldterms.{Discipline, discipline, Stage, Between, Begun, Answered, both, line_flushed, new_ldterm, queue_flushed, queued_at, read_flushed, sends, takes_band_0, write_flushed}
-use Rattle.strm_types.specs.Message.{Message, cells_of, data_message, is_high_priority, rank_of}
-use Rattle.strm_types.specs.Queue.{Queue, is_full, is_none_left, left_with, put, relieved}
-use Rattle.strm_types.specs.Service.{line_gone}
-use Rattle.strm_types.specs.TakenUp.{taken_up}
-use Rattle.strm_types.specs.Typing.{bare, begins, echo_dir, echo_grows, echo_lost, echo_stands, echoed, grown, is_lnext, stroke_at, struck, up_alone}
 use Rattle.strm_types.proofs.LdtermPuts.{puts-each}
-use Rattle.strm_types.proofs.StrikesStay.{strikes-stay}
 use Rattle.strm_laws.proofs.OutputServes.{output-orderly}
 
 -- a test of one of two, or of many

@@ -1,23 +1,13 @@
 -- A call of ldterm's service procedure that asks for another one has done no more stages of bytes than it might: what has begun is among
 -- the bytes that the turn may still treat.
-use Rattle.std.proofs.Common.{ℕ, zero, suc, ◌≡◌, ◌≤◌, ◌+◌, ◌-◌, ◌*◌, Bool, true, false, cond, List, [], ◌∷◌, ◌++◌, length, refl, sym, ap, subst, arith}
-use Rattle.std.specs.Prelude.{◌&&◌, Option, None, Some, is_some}
-use Rattle.std.proofs.lemmas.Bool.{false≢true}
+use Rattle.strm_laws.proofs.Prelude.{ℕ, zero, suc, ◌≡◌, ◌≤◌, ◌+◌, ◌-◌, ◌*◌, Bool, true, false, cond, List, [], ◌∷◌, ◌++◌, length, refl, sym, ap}
+use Rattle.strm_laws.proofs.Prelude.{subst, arith, ◌&&◌, Option, None, Some, is_some, false≢true, strikes-stay}
+use Rattle.strm_laws.specs.Prelude.{Way, Up, Down, Spot, Cells, cells_made, Acted, onward, begins_next, cells_left, is_data, left_of, made_of}
+use Rattle.strm_laws.specs.Prelude.{next_stage, stage_at, stages, stages_done, then_on, to_treat, treats, input_begins, passes, restarts}
+use Rattle.strm_laws.specs.Prelude.{ldterm_serves, Discipline, Stage, Between, Begun, Answered, sends, Message, cells_of, is_full, is_none_left}
+use Rattle.strm_laws.specs.Prelude.{left_with, bare, begins, echo_dir, echoed, echo_grows, echo_lost, echo_stands, is_lnext, stroke_at, struck}
 use Rattle.strm_types.specs.declared.kinds.MsgKind.TheVariants as kinds
-use Rattle.strm_types.specs.declared.names.Way.{Way}
-use Rattle.strm_types.specs.declared.names.Way.TheVariants.{Up, Down}
-use Rattle.strm_types.specs.declared.spots.Spot.{Spot}
-use Rattle.strm_types.specs.Cells.{Cells, cells_made}
-use Rattle.strm_types.specs.Deliver.{Acted, onward}
-use Rattle.strm_types.specs.Input.{begins_next, cells_left, is_data, left_of, made_of, next_stage, stage_at, stages, stages_done, then_on, to_treat, treats, input_begins, passes}
-use Rattle.strm_types.specs.Keys.{restarts}
-use Rattle.strm_types.specs.LdtermServes.{ldterm_serves}
-use Rattle.strm_types.specs.Ldterms.{Discipline, Stage, Between, Begun, Answered, sends}
 use Rattle.strm_laws.specs.LdtermWeights.{MayServe}
-use Rattle.strm_types.specs.Message.{Message, cells_of}
-use Rattle.strm_types.specs.Queue.{is_full, is_none_left, left_with}
-use Rattle.strm_types.specs.Typing.{bare, begins, echo_dir, echoed, echo_grows, echo_lost, echo_stands, is_lnext, stroke_at, struck}
-use Rattle.strm_types.proofs.StrikesStay.{strikes-stay}
 
 module _ {C : Type 0} (cells : Cells C) (here : Spot) where
   -- from one to another by so many stages at most

@@ -1,36 +1,16 @@
 -- Forgetting the origins of cells commutes with puts at ldterm.
-use Rattle.std.proofs.Common.{ℕ, ◌≡◌, Bool, true, false, cond, List, [], ◌∷◌, ◌++◌, map, refl, sym, ap, ◌∙◌}
-use Rattle.std.specs.Prelude.{not, ◌&&◌, ◌||◌, ◌==◌, nat_lt, Option, None, Some}
-use Rattle.std.proofs.lemmas.List.{map-append}
-use Rattle.strm_types.specs.declared.flushing.FlushAsked.{FlushAsked}
-use Rattle.strm_types.specs.declared.ioctls.Ioc.{Ioc}
-use Rattle.strm_types.specs.declared.ioctls.TheConstants.{TCSETSF}
-use Rattle.strm_types.specs.declared.kinds.Band.{Band}
-use Rattle.strm_types.specs.declared.names.Side.{Side}
-use Rattle.strm_types.specs.declared.names.Way.{Way}
-use Rattle.strm_types.specs.declared.names.Way.TheVariants.{Up, Down}
-use Rattle.strm_types.specs.declared.rules.Rule.{Rule}
-use Rattle.strm_types.specs.declared.rules.Rule.TheVariants.{Flushed}
-use Rattle.strm_types.specs.declared.spots.Note.TheVariants.{Enable}
-use Rattle.strm_types.specs.declared.spots.Spot.{Spot}
-use Rattle.strm_types.specs.declared.termios.Termios.{Termios}
-use Rattle.strm_types.specs.Acks.{payload}
-use Rattle.strm_types.specs.Commands.{is_acked, is_ioctl, is_iocack, sets_termios}
-use Rattle.strm_types.specs.Deliver.{Acted, Parcel, onward}
-use Rattle.strm_types.specs.Emptied.{of_data}
-use Rattle.strm_types.specs.Flushing.{is_flush, asked_by, flush_message, read_flush}
-use Rattle.strm_types.specs.Ioctls.{read_ioc}
+use Rattle.strm_laws.proofs.Prelude.{ℕ, ◌≡◌, Bool, true, false, cond, List, [], ◌∷◌, ◌++◌, map, refl, sym, ap, ◌∙◌, not, ◌&&◌, ◌||◌, ◌==◌, nat_lt}
+use Rattle.strm_laws.proofs.Prelude.{Option, None, Some, map-append}
+use Rattle.strm_laws.specs.Prelude.{FlushAsked, Ioc, TCSETSF, Band, Side, Way, Up, Down, Rule, Flushed, Enable, Spot, Termios, payload, is_acked}
+use Rattle.strm_laws.specs.Prelude.{is_ioctl, sets_termios, Acted, Parcel, onward, of_data, is_flush, asked_by, flush_message, read_flush, read_ioc}
+use Rattle.strm_laws.specs.Prelude.{goes_on, ldterm_puts, passes_on_way, told_by_header, told_termios, waits_behind, waits_on, Discipline, both}
+use Rattle.strm_laws.specs.Prelude.{flush_passes, line_flushed, queue_flushed, queued_at, read_flushed, sends, takes_band_0, waits_there}
+use Rattle.strm_laws.specs.Prelude.{with_queue_at, without_line, write_flushed, Message, map_message, mode_message, map_acted, map_fate, map_parcel}
+use Rattle.strm_laws.specs.Prelude.{Queue, map_queue, put_on, put_enables, line_gone, ends_lines, input_flushed, line_up, read_mode_of, taken_up}
+use Rattle.strm_laws.specs.Prelude.{termios_taken, read_termios, tostop, up_alone}
+use Rattle.strm_types.specs.Commands.{is_iocack}
 use Rattle.strm_laws.specs.LdtermOrigins.{map_ldterm}
-use Rattle.strm_types.specs.LdtermPuts.{goes_behind, goes_on, ldterm_puts, passes_on_way, told_by_header, told_termios, waits_behind, waits_on}
-use Rattle.strm_types.specs.Ldterms.{Discipline, both, flush_passes, line_flushed, queue_flushed, queued_at, read_flushed, sends, takes_band_0, waits_there, with_queue_at, without_line, write_flushed}
-use Rattle.strm_types.specs.Message.{Message, map_message}
-use Rattle.strm_types.specs.Options.{mode_message}
-use Rattle.strm_types.specs.Origins.{map_acted, map_fate, map_parcel}
-use Rattle.strm_types.specs.Queue.{Queue, map_queue, put_on, put_enables}
-use Rattle.strm_types.specs.Service.{line_gone}
-use Rattle.strm_types.specs.TakenUp.{ends_lines, input_flushed, line_up, read_mode_of, taken_up, termios_taken}
-use Rattle.strm_types.specs.Termios.{read_termios, tostop}
-use Rattle.strm_types.specs.Typing.{up_alone}
+use Rattle.strm_types.specs.LdtermPuts.{goes_behind}
 use Rattle.strm_laws.proofs.EmptiedForgets.{gone-forgets, queue_behind-forgets, writer_goes-forgets}
 use Rattle.strm_laws.proofs.Forgetting.{data-forgets, kind-forgets, put_enables-forgets, put_on-forgets}
 use Rattle.strm_laws.proofs.PutForgets.{flush-forgets as message-forgets, mode-forgets, parts-forget}

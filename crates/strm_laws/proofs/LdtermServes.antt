@@ -1,25 +1,12 @@
 -- A call of ldterm's service procedure loses no cell and makes none that it doesn't tell, and is the same where origins are forgotten. Where it is
 -- ready for the call, the turn goes on behind it, or nothing of one is under way.
-use Rattle.std.proofs.Common.{ℕ, ◌≡◌, Bool, true, false, ap, ◌∙◌, ◌≤◌, ◌-◌, ◌*◌, cond, List, [], ◌∷◌, refl, sym, subst}
-use Rattle.std.specs.Prelude.{Option, unwrap_or, None, Some, is_some}
-use Rattle.std.proofs.lemmas.Bool.{false≢true}
-use Rattle.strm_types.specs.declared.names.Dir.{Dir}
-use Rattle.strm_types.specs.declared.names.Way.{Way}
-use Rattle.strm_types.specs.declared.names.Way.TheVariants.{Up, Down}
-use Rattle.strm_types.specs.declared.spots.Spot.{Spot}
-use Rattle.strm_types.specs.Cells.{AreCells, Cells, plain}
-use Rattle.strm_types.specs.Input.{to_treat, treats, input_begins, is_data, passes, stages_done}
-use Rattle.strm_types.specs.LdtermPuts.{ldterm_puts}
-use Rattle.strm_types.specs.LdtermServes.{ldterm_serves}
-use Rattle.strm_types.specs.Ldterms.{Discipline, IsIdle}
-use Rattle.strm_types.specs.Message.{Message}
-use Rattle.strm_types.specs.OutputTurns.{output_serves}
-use Rattle.strm_types.specs.Queue.{left_with}
-use Rattle.strm_types.specs.Service.{Serving}
+use Rattle.strm_laws.proofs.Prelude.{ℕ, ◌≡◌, Bool, true, false, ap, ◌∙◌, ◌≤◌, ◌-◌, ◌*◌, cond, List, [], ◌∷◌, refl, sym, subst, Option, unwrap_or}
+use Rattle.strm_laws.proofs.Prelude.{None, Some, is_some, false≢true, idle-stays, puts-stay}
+use Rattle.strm_laws.specs.Prelude.{Dir, Way, Up, Down, Spot, AreCells, Cells, plain, to_treat, treats, input_begins, is_data, passes, stages_done}
+use Rattle.strm_laws.specs.Prelude.{ldterm_puts, ldterm_serves, Discipline, IsIdle, Message, output_serves, left_with, Serving}
 use Rattle.strm_laws.specs.LdtermOrigins.{map_ldterm, map_serving}
 use Rattle.strm_laws.specs.LdtermTurns.{IsItsTurn, IsOrderly}
 use Rattle.strm_laws.specs.LdtermWeights.{ActedKeeps, EchoStands, IgnoresMapping, MayServe, ldterm_weight}
-use Rattle.strm_types.proofs.LdtermPutStays.{idle-stays, puts-stay}
 use Rattle.strm_laws.proofs.LdtermOrderly.{orderly-echo, puts-orderly, serves-orderly}
 use Rattle.strm_laws.proofs.LdtermProgress.{serves-leaves}
 use Rattle.strm_laws.proofs.LdtermServesForgets.{input-forgets, to_treat-forgets, treats-forget}

@@ -1,20 +1,11 @@
 -- Forgetting the origins of cells commutes with turns of ldterm.
-use Rattle.std.proofs.Common.{ℕ, zero, suc, ◌≡◌, ◌+◌, ◌-◌, ◌*◌, Bool, true, false, cond, List, [], ◌∷◌, ◌++◌, length, map, refl, sym, ap, ◌∙◌}
-use Rattle.std.specs.Prelude.{Option, None, Some, option_map, is_some, unwrap_or}
-use Rattle.std.proofs.lemmas.List.{length-map, map-append}
-use Rattle.strm_types.specs.declared.names.Way.{Way}
-use Rattle.strm_types.specs.declared.names.Way.TheVariants.{Up, Down}
-use Rattle.strm_types.specs.declared.spots.Spot.{Spot}
-use Rattle.strm_types.specs.Cells.{Cells, AreCells, plain}
-use Rattle.strm_types.specs.Deliver.{Acted, Fate, Goes, Comes}
-use Rattle.strm_types.specs.Input.{back_on, begins_next, cells_left, finished, input_begins, is_data, left_of, made_of, next_stage, passes, stage_at, stages, stages_done, then_on, to_treat, treats, with_left}
+use Rattle.strm_laws.proofs.Prelude.{ℕ, zero, suc, ◌≡◌, ◌+◌, ◌-◌, ◌*◌, Bool, true, false, cond, List, [], ◌∷◌, ◌++◌, length, map, refl, sym, ap, ◌∙◌}
+use Rattle.strm_laws.proofs.Prelude.{Option, None, Some, option_map, is_some, unwrap_or, length-map, map-append}
+use Rattle.strm_laws.specs.Prelude.{Way, Up, Down, Spot, Cells, AreCells, plain, Acted, Fate, Goes, Comes, back_on, begins_next, cells_left, finished}
+use Rattle.strm_laws.specs.Prelude.{input_begins, is_data, left_of, made_of, next_stage, passes, stage_at, stages, stages_done, then_on, to_treat}
+use Rattle.strm_laws.specs.Prelude.{treats, with_left, Discipline, Stage, Between, Begun, Answered, Message, cells_of, map_message, map_fate}
+use Rattle.strm_laws.specs.Prelude.{map_parcel, Queue, is_none_left, left_with, map_messages, map_queue, put_back, Serving, begins}
 use Rattle.strm_laws.specs.LdtermOrigins.{map_ldterm, map_serving, map_stage}
-use Rattle.strm_types.specs.Ldterms.{Discipline, Stage, Between, Begun, Answered}
-use Rattle.strm_types.specs.Message.{Message, cells_of, map_message}
-use Rattle.strm_types.specs.Origins.{map_fate, map_parcel}
-use Rattle.strm_types.specs.Queue.{Queue, is_none_left, left_with, map_messages, map_queue, put_back}
-use Rattle.strm_types.specs.Service.{Serving}
-use Rattle.strm_types.specs.Typing.{begins}
 use Rattle.strm_laws.proofs.Forgetting.{cells-forget, kind-forgets, none-forgets, put_back-forgets, size-forgets}
 use Rattle.strm_laws.proofs.LdtermPutForgets.{image}
 use Rattle.strm_laws.proofs.LdtermTypingForgets.{begins-forget, echoed-forgets, gathered-forget, struck-forgets}

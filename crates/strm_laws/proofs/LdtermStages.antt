@@ -1,27 +1,17 @@
 -- The stages of a turn of ldterm lose no cell and make none that they don't tell, and the turn's echo stays on the write queue.
-use Rattle.std.proofs.Common.{ℕ, zero, suc, ◌≡◌, ◌≤◌, ◌+◌, ◌-◌, ◌*◌, ◌⊎◌, inl, inr, Bool, true, false, cond, List, [], ◌∷◌, ◌++◌, length, refl, sym, ap, ◌∙◌, arith}
-use Rattle.std.specs.Prelude.{◌&&◌, Option, None, Some, count_by, unwrap_or, nat_le, option_map}
-use Rattle.std.proofs.lemmas.Bool.{false≢true}
+use Rattle.strm_laws.proofs.Prelude.{ℕ, zero, suc, ◌≡◌, ◌≤◌, ◌+◌, ◌-◌, ◌*◌, ◌⊎◌, inl, inr, Bool, true, false, cond, List, [], ◌∷◌, ◌++◌, length, refl}
+use Rattle.strm_laws.proofs.Prelude.{sym, ap, ◌∙◌, arith, ◌&&◌, Option, None, Some, count_by, unwrap_or, nat_le, option_map, false≢true, strikes-stay}
+use Rattle.strm_laws.proofs.Prelude.{count-join, weight-put_back, weight-take, weight-whole}
+use Rattle.strm_laws.specs.Prelude.{Up, Down, Spot, Dir, direction_at, Cells, cells_made, Acted, Parcel, toward, onward, back_on, begins_next}
+use Rattle.strm_laws.specs.Prelude.{cells_left, finished, is_data, left_of, made_of, next_stage, stage_at, stages, stages_done, then_on, treats}
+use Rattle.strm_laws.specs.Prelude.{input_begins, passes, restarts, Discipline, Stage, Between, Begun, Answered, sends, Message, cells_of}
+use Rattle.strm_laws.specs.Prelude.{data_message, weight_of, Queue, is_full, is_none_left, left_with, put, put_back, weight, rank_of, bare, begins}
+use Rattle.strm_laws.specs.Prelude.{echo_dir, echoed, echo_grows, echo_lost, echo_stands, grown, is_lnext, stroke_at, struck}
 use Rattle.strm_types.specs.declared.kinds.MsgKind.TheVariants as kinds
-use Rattle.strm_types.specs.declared.names.Way.TheVariants.{Up, Down}
-use Rattle.strm_types.specs.declared.spots.Spot.{Spot}
-use Rattle.strm_types.specs.declared.names.Dir.{Dir}
-use Rattle.strm_types.specs.Names.{direction_at}
-use Rattle.strm_types.specs.Cells.{Cells, cells_made}
-use Rattle.strm_types.specs.Deliver.{Acted, Parcel, toward, onward}
-use Rattle.strm_types.specs.Input.{back_on, begins_next, cells_left, finished, is_data, left_of, made_of, next_stage, stage_at, stages, stages_done, then_on, treats, input_begins, passes}
-use Rattle.strm_types.specs.Keys.{restarts}
 use Rattle.strm_laws.specs.LdtermWeights.{weight_in_work, weight_begun, weight_beside, ldterm_weight, ActedKeeps, IgnoresMapping, EchoStands}
-use Rattle.strm_types.specs.Ldterms.{Discipline, Stage, Between, Begun, Answered, sends}
-use Rattle.strm_types.specs.Message.{Message, cells_of, data_message, weight_of}
 use Rattle.strm_laws.specs.Places.{weight_sent, direction_to}
-use Rattle.strm_types.specs.Queue.{Queue, is_full, is_none_left, left_with, put, put_back, weight}
-use Rattle.strm_types.specs.Message.{rank_of}
-use Rattle.strm_types.specs.Typing.{bare, begins, echo_dir, echoed, echo_grows, echo_lost, echo_stands, grown, is_lnext, stroke_at, struck}
 use Rattle.strm_laws.proofs.DeliveryKeeps.{gone-append, made-append}
 use Rattle.strm_laws.proofs.LdtermKeeps.{weight-bare, strikes-keep, echo-keeps, gathered-keeps, onward-weighs}
-use Rattle.strm_types.proofs.StrikesStay.{strikes-stay}
-use Rattle.strm_types.proofs.Weights.{count-join, weight-put_back, weight-take, weight-whole}
 
 module _ {C : Type 0} (cells : Cells C) (here : Spot) where
   -- the turn's echo stays through a stage

@@ -1,21 +1,10 @@
 -- Over plain bytes a call of ldterm's service procedure says nothing of how many were made before. One that asks for another call is the
 -- same wherever the stages that it did are among those that it may do, and each that it did counts.
-use Rattle.std.proofs.Common.{ℕ, zero, suc, ◌≡◌, ◌≤◌, ◌+◌, ◌-◌, ◌*◌, Bool, true, false, cond, List, [], ◌∷◌, ◌++◌, length, refl, sym, ap, subst, ◌∙◌, arith}
-use Rattle.std.specs.Prelude.{Option, None, Some, is_some}
-use Rattle.std.proofs.lemmas.Bool.{false≢true}
-use Rattle.strm_types.specs.declared.names.Way.{Way}
-use Rattle.strm_types.specs.declared.names.Way.TheVariants.{Up, Down}
-use Rattle.strm_types.specs.declared.spots.Spot.{Spot}
-use Rattle.strm_types.specs.Cells.{plain}
-use Rattle.strm_types.specs.Deliver.{Acted}
-use Rattle.strm_types.specs.Input.{input_begins, is_data, made_of, next_stage, passes, stages, stages_done, then_on, to_treat, treats}
-use Rattle.strm_types.specs.LdtermServes.{ldterm_serves}
-use Rattle.strm_types.specs.Ldterms.{Discipline, Stage, Between, Begun, Answered, IsIdle}
-use Rattle.strm_types.specs.Message.{Message, cells_of, size_of}
-use Rattle.strm_types.specs.OutputTurns.{output_serves}
-use Rattle.strm_types.specs.Queue.{is_none_left, left_with, first_size}
-use Rattle.strm_types.specs.Service.{Serving}
-use Rattle.strm_types.specs.LdtermCalls.{Begins, Ends, bytes_left}
+use Rattle.strm_laws.proofs.Prelude.{ℕ, zero, suc, ◌≡◌, ◌≤◌, ◌+◌, ◌-◌, ◌*◌, Bool, true, false, cond, List, [], ◌∷◌, ◌++◌, length, refl, sym, ap}
+use Rattle.strm_laws.proofs.Prelude.{subst, ◌∙◌, arith, Option, None, Some, is_some, false≢true}
+use Rattle.strm_laws.specs.Prelude.{Way, Up, Down, Spot, plain, Acted, input_begins, is_data, made_of, next_stage, passes, stages, stages_done}
+use Rattle.strm_laws.specs.Prelude.{then_on, to_treat, treats, ldterm_serves, Discipline, Stage, Between, Begun, Answered, IsIdle, Message, cells_of}
+use Rattle.strm_laws.specs.Prelude.{size_of, output_serves, is_none_left, left_with, first_size, Serving, Begins, Ends, bytes_left}
 use Rattle.strm_types.proofs.OutputStops.{output-ends, output-made}
 use Rattle.strm_types.proofs.StagesWork.{next-same, stages-work}
 

@@ -1,36 +1,21 @@
 -- Forgetting the origins of cells commutes with what typed bytes do.
-use Rattle.std.proofs.Common.{ℕ, ◌≡◌, ◌-◌, Bool, true, false, cond, List, [], ◌∷◌, ◌++◌, length, take, drop, map, refl, sym, ap, ◌∙◌}
-use Rattle.std.specs.Prelude.{not, ◌&&◌, nat_lt}
-use Rattle.std.proofs.lemmas.List.{take-map, drop-map, length-map, map-append}
-use Rattle.strm_types.specs.declared.flushing.FlushAsked.{FlushAsked}
-use Rattle.strm_types.specs.declared.keys.Key.{Key}
-use Rattle.strm_types.specs.declared.keys.Key.TheVariants.{Stop, Start, Intr, Quit, Susp, Ignored, Eof, Erase, Kill, Werase, Reprint, Lnext, Delimiter, Ordinary}
-use Rattle.strm_types.specs.declared.kinds.MsgKind.{MsgKind}
+use Rattle.strm_laws.proofs.Prelude.{ℕ, ◌≡◌, ◌-◌, Bool, true, false, cond, List, [], ◌∷◌, ◌++◌, length, take, drop, map, refl, sym, ap, ◌∙◌, not}
+use Rattle.strm_laws.proofs.Prelude.{◌&&◌, nat_lt, take-map, drop-map, length-map, map-append, made-forget, bytes-plain}
+use Rattle.strm_laws.specs.Prelude.{FlushAsked, Key, Stop, Start, Intr, Quit, Susp, Ignored, Eof, Erase, Kill, Werase, Reprint, Lnext, Delimiter}
+use Rattle.strm_laws.specs.Prelude.{Ordinary, MsgKind, LINE_MAX, Up, Down, Rule, EraseKey, Erased, Killed, SignalKey, FlowKey, LineFull, LineOver}
+use Rattle.strm_laws.specs.Prelude.{Flushed, Enable, Spot, Cells, AreCells, bytes_of, cells_made, plain, Acted, Fate, Comes, Parcel, onward}
+use Rattle.strm_laws.specs.Prelude.{flush_bytes, flush_message, restarts, Discipline, Begun, Answered, sends, has_room, without_end, without_last}
+use Rattle.strm_laws.specs.Prelude.{without_word, Message, cells_of, data_message, map_message, map_fate, map_parcel, is_full, is_none_left}
+use Rattle.strm_laws.specs.Prelude.{map_messages, map_queue, line_gone, icanon, imaxbel, noflsh, added, bare, begins, both_ways, dropped, echo_dir}
+use Rattle.strm_laws.specs.Prelude.{echo_grows, echo_lost, echo_stands, echoed, gathered_up, goes_up, grown, is_blank_cell, is_lnext, lost, sigint}
+use Rattle.strm_laws.specs.Prelude.{signals, sigquit, sigtstp, stops, strikes, stroke_at, struck, up_alone}
 use Rattle.strm_types.specs.declared.kinds.MsgKind.TheVariants as kinds
-use Rattle.strm_types.specs.declared.keys.TheConstants.{LINE_MAX}
-use Rattle.strm_types.specs.declared.names.Way.TheVariants.{Up, Down}
-use Rattle.strm_types.specs.declared.rules.Rule.{Rule}
-use Rattle.strm_types.specs.declared.rules.Rule.TheVariants.{EraseKey, Erased, Killed, EofKey, SignalKey, FlowKey, LineFull, LineOver, Flushed}
-use Rattle.strm_types.specs.declared.spots.Note.TheVariants.{Enable}
-use Rattle.strm_types.specs.declared.spots.Spot.{Spot}
-use Rattle.strm_types.specs.Cells.{Cells, AreCells, bytes_of, cells_made, plain}
-use Rattle.strm_types.specs.Deliver.{Acted, Fate, Comes, Parcel, onward}
+use Rattle.strm_types.specs.declared.rules.Rule.TheVariants.{EofKey}
 use Rattle.strm_types.specs.Echo.{echo_of}
-use Rattle.strm_types.specs.Flushing.{flush_bytes, flush_message}
-use Rattle.strm_types.specs.Keys.{restarts}
 use Rattle.strm_laws.specs.LdtermOrigins.{map_ldterm}
-use Rattle.strm_types.specs.Ldterms.{Discipline, Begun, Answered, sends}
-use Rattle.strm_types.specs.Lines.{has_room, without_end, without_last, without_word}
-use Rattle.strm_types.specs.Message.{Message, cells_of, data_message, map_message}
-use Rattle.strm_types.specs.Origins.{map_fate, map_parcel}
-use Rattle.strm_types.specs.Queue.{is_full, is_none_left, map_messages, map_queue}
-use Rattle.strm_types.specs.Service.{line_gone}
-use Rattle.strm_types.specs.Termios.{icanon, imaxbel, noflsh}
-use Rattle.strm_types.specs.Typing.{added, bare, begins, both_ways, dropped, echo_dir, echo_grows, echo_lost, echo_stands, echoed, gathered_up, goes_up, grown, is_blank_cell, is_lnext, line_sent, lost, sigint, signals, sigquit, sigtstp, stops, strikes, stroke_at, struck, up_alone}
+use Rattle.strm_types.specs.Typing.{line_sent}
 use Rattle.strm_laws.proofs.Forgetting.{cells-forget, full-forgets, none-forgets, put_enables-forgets, put_on-forgets}
 use Rattle.strm_laws.proofs.LdtermPutForgets.{image, either-agrees, line_gone-forgets}
-use Rattle.strm_types.proofs.MadeCells.{made-forget}
-use Rattle.strm_types.proofs.PlainCells.{bytes-plain}
 
 module _ {C D : Type 0} (f : C → D) where
   bare-forgets : (kind : MsgKind) (bytes : List ℕ) → map_message f (bare kind bytes) ≡ bare kind bytes

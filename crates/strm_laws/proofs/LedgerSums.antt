@@ -1,37 +1,25 @@
 -- The numbers of a ledger: what stands in a direction is on its queues and in its lines, and the counts by rule are of all that has gone.
-use Rattle.std.proofs.Common.{ℕ, ◌≡◌, ◌<◌, ◌+◌, ◌%◌, ◌^◌, Bool, true, false, List, [], ◌∷◌, ◌++◌, length, refl, sym, ap, ◌∙◌, arith}
-use Rattle.std.specs.Prelude.{Option, None, Some, count_by, sum_by, slice_index_or}
+use Rattle.strm_laws.proofs.Prelude.{ℕ, ◌≡◌, ◌<◌, ◌+◌, Bool, true, false, List, [], ◌∷◌, ◌++◌, length, refl, sym, ap, ◌∙◌, arith, Option, None, Some}
+use Rattle.strm_laws.proofs.Prelude.{count_by, sum_by, slice_index_or, sum_by-cons, weight-take}
+use Rattle.strm_laws.specs.Prelude.{Dir, MasterToSlave, SlaveToMaster, Side, Master, Slave, Up, Down, Fates, Rule, RULES, Cells, plain, Fate, Goes}
+use Rattle.strm_laws.specs.Prelude.{Comes, counted_with, tallied, PlainEntry, Message, cells_of, weight_of, direction_at, weight, QueuePair}
+use Rattle.strm_laws.specs.Prelude.{messages_on, fates_of}
+use Rattle.std.proofs.Common.{◌%◌, ◌^◌}
 use Rattle.std.specs.List.{AllByRecursion}
-use Rattle.std.proofs.lemmas.List.Sums.{get_or-le-sum_by, sum_by-cons, sum_by-set}
+use Rattle.std.proofs.lemmas.List.Sums.{get_or-le-sum_by, sum_by-set}
 use Rattle.std.proofs.lemmas.List.{length-set}
-use Rattle.strm_types.specs.declared.names.Dir.{Dir}
-use Rattle.strm_types.specs.declared.names.Dir.TheVariants.{MasterToSlave, SlaveToMaster}
-use Rattle.strm_types.specs.declared.names.Side.{Side}
-use Rattle.strm_types.specs.declared.names.Side.TheVariants.{Master, Slave}
-use Rattle.strm_types.specs.declared.names.Way.TheVariants.{Up, Down}
-use Rattle.strm_types.specs.declared.rules.Fates.{Fates}
-use Rattle.strm_types.specs.declared.rules.Rule.{Rule}
 use Rattle.strm_types.specs.declared.rules.Rule.TheVariants as rules
-use Rattle.strm_types.specs.declared.rules.TheConstants.{RULES}
-use Rattle.strm_types.specs.Cells.{Cells, plain}
-use Rattle.strm_types.specs.Deliver.{Fate, Goes, Comes, counted_with, tallied}
-use Rattle.strm_types.specs.Journal.{PlainEntry}
 use Rattle.strm_laws.specs.Based.{cells_in, held_by}
 use Rattle.strm_laws.specs.Kept.{AreIdle, NothingUnread, gone, state_weight, told_by}
 use Rattle.strm_laws.specs.Ledgers.{Balanced, all_gone, inline, queued}
-use Rattle.strm_types.specs.Message.{Message, cells_of, weight_of}
-use Rattle.strm_types.specs.Names.{direction_at}
 use Rattle.strm_laws.specs.Places.{weight_gone}
-use Rattle.strm_types.specs.Queue.{weight}
-use Rattle.strm_types.specs.Standings.{QueuePair, messages_on}
-use Rattle.strm_types.specs.Rules.{counted_more, fates_of, made_more, number_of, told_more}
+use Rattle.strm_types.specs.Rules.{counted_more, made_more, number_of, told_more}
 use Rattle.strm_laws.specs.Stacked.{Standing, IsAtRest, module_line, module_weight, modules_weight, queues_weight}
 use Rattle.strm_laws.specs.State.{State, book}
 use Rattle.strm_laws.specs.Step.{IsLegal, after, replay}
 use Rattle.strm_laws.proofs.Based.{all-counted, held-there, none-counted}
 use Rattle.strm_laws.proofs.JournalPlaces.{balanced, of_dir}
 use Rattle.strm_laws.proofs.StepsIdle.{idle-behind}
-use Rattle.strm_types.proofs.Weights.{weight-take}
 use Rattle.strm_laws.proofs.LawfulKinds.{lawful}
 
 -- what stands in a direction

@@ -1,3 +1,4 @@
+pub mod Prelude
 pub mod JournalEntries
 pub mod StoredCalls
 pub mod Replay

@@ -1,15 +1,8 @@
 -- A call of the service procedure of one of a stream's modules loses no cell and sends to a place next to its own. Behind it the turn goes
 -- on, or nothing of one is under way at any module.
-use Rattle.std.proofs.Common.{ℕ, zero, suc, ◌≡◌, ◌+◌, ◌-◌, Bool, true, false, List, [], ◌∷◌, map, arith}
-use Rattle.std.specs.Prelude.{Some, slice_index_or}
-use Rattle.std.proofs.lemmas.List.Sums.{sum_by-cons}
-use Rattle.strm_types.specs.declared.spots.Spot.{Spot}
-use Rattle.strm_types.specs.declared.names.Dir.{Dir}
-use Rattle.strm_types.specs.Cells.{Cells}
-use Rattle.strm_types.specs.Deliver.{Acted}
+use Rattle.strm_laws.proofs.Prelude.{ℕ, zero, suc, ◌≡◌, ◌+◌, ◌-◌, Bool, true, false, List, [], ◌∷◌, map, arith, Some, slice_index_or, sum_by-cons}
+use Rattle.strm_laws.specs.Prelude.{Spot, Dir, Cells, Acted, Message, act_among, put_among}
 use Rattle.strm_laws.specs.LdtermWeights.{IgnoresMapping}
-use Rattle.strm_types.specs.Message.{Message}
-use Rattle.strm_types.specs.Modules.{act_among, put_among}
 use Rattle.strm_laws.specs.Places.{weight_gone, weight_made, weight_sent}
 use Rattle.strm_laws.specs.Stacked.{Standing, IsAtRest, module_puts, module_serves, module_weight, modules_weight}
 use Rattle.strm_laws.proofs.ModulesIdle.{AllIdle, among-idle}

@@ -1,14 +1,7 @@
 -- A put at one of the modules of a stream: it loses no cell, makes none but those that it tells, and does the same where the origins of cells are forgotten.
-use Rattle.std.proofs.Common.{ℕ, zero, suc, ◌≡◌, ◌<◌, ◌+◌, Bool, List, [], ◌∷◌, length, map, refl, ap, arith}
-use Rattle.std.proofs.lemmas.List.Sums.{sum_by-cons}
-use Rattle.strm_types.specs.declared.names.Dir.{Dir}
-use Rattle.strm_types.specs.declared.spots.Spot.{Spot}
-use Rattle.strm_types.specs.Cells.{AreCells, Cells, plain}
-use Rattle.strm_types.specs.Deliver.{Acted}
-use Rattle.strm_types.specs.Message.{map_message, Message, weight_of}
-use Rattle.strm_types.specs.Modules.{act_among, put_among}
-use Rattle.strm_types.specs.Names.{direction_at}
-use Rattle.strm_types.specs.Origins.{map_acted}
+use Rattle.strm_laws.proofs.Prelude.{ℕ, zero, suc, ◌≡◌, ◌<◌, ◌+◌, Bool, List, [], ◌∷◌, length, map, refl, ap, arith, sum_by-cons}
+use Rattle.strm_laws.specs.Prelude.{Dir, Spot, AreCells, Cells, plain, Acted, map_message, Message, weight_of, act_among, put_among, direction_at}
+use Rattle.strm_laws.specs.Prelude.{map_acted}
 use Rattle.strm_laws.specs.Places.{weight_gone, weight_made, weight_sent}
 use Rattle.strm_laws.specs.Stacked.{map_module, module_puts, module_weight, modules_weight, Standing}
 use Rattle.strm_laws.proofs.LawfulKinds.{lawful}

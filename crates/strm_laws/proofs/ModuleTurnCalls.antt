@@ -1,38 +1,20 @@
 -- A turn of a module's queue call by call, as it is made over plain bytes: each call goes as far as it may, and the last one perhaps stops
 -- before that. What all of them treated is how far the turn went.
-use Rattle.std.proofs.Common.{ℕ, zero, suc, ◌≡◌, ◌≤◌, ◌<◌, ◌+◌, ◌-◌, ◌*◌, Bool, true, false, cond, List, [], ◌∷◌, ◌++◌, length, map, refl, sym, ap, subst, ◌∙◌, arith}
-use Rattle.std.specs.Prelude.{◌==◌, not, max, min, slice_index_or, Option, None, Some, is_some}
-use Rattle.std.proofs.lemmas.List.{append_assoc, length-map}
-use Rattle.strm_types.specs.declared.answers.Turn.TheVariants.{Moved, Blocked}
-use Rattle.strm_types.specs.declared.limits.TheConstants.{HOPS}
-use Rattle.strm_types.specs.declared.names.QueueName.{QueueName}
-use Rattle.strm_types.specs.declared.names.Side.{Side}
-use Rattle.strm_types.specs.declared.names.Way.{Way}
-use Rattle.strm_types.specs.declared.names.Way.TheVariants.{Up, Down}
-use Rattle.strm_types.specs.declared.spots.Spot.{Spot}
-use Rattle.strm_types.specs.Books.{with_made}
-use Rattle.strm_types.specs.Cells.{plain}
-use Rattle.strm_types.specs.Deliver.{Acted, Fate, Goes, Comes, Parcel, carried, in_turn}
-use Rattle.strm_types.specs.Input.{stages_done, to_treat}
-use Rattle.strm_types.specs.Ldterms.{Stage}
-use Rattle.strm_types.specs.Message.{Message}
-use Rattle.strm_types.specs.ModuleQueues.{at_place}
-use Rattle.strm_types.specs.Standings.{messages_at}
+use Rattle.strm_laws.proofs.Prelude.{ℕ, zero, suc, ◌≡◌, ◌≤◌, ◌<◌, ◌+◌, ◌-◌, ◌*◌, Bool, true, false, cond, List, [], ◌∷◌, ◌++◌, length, map, refl, sym}
+use Rattle.strm_laws.proofs.Prelude.{ap, subst, ◌∙◌, arith, ◌==◌, not, max, min, slice_index_or, Option, None, Some, is_some, append_assoc}
+use Rattle.strm_laws.proofs.Prelude.{length-map, carried-holds, in_turn-holds, get-set-same}
+use Rattle.strm_laws.specs.Prelude.{Moved, Blocked, HOPS, QueueName, Side, Way, Up, Down, Spot, with_made, plain, Acted, Fate, Goes, Comes, Parcel}
+use Rattle.strm_laws.specs.Prelude.{carried, in_turn, stages_done, to_treat, Stage, Message, at_place, messages_at, act_among, put_among, Serving}
+use Rattle.strm_laws.specs.Prelude.{Begins, Ends, bytes_left, first_size}
 use Rattle.strm_laws.specs.ModuleTurns.{Calls, again_at, bytes_at, call_at, calls, made_below, module_turn_ended, moved_on, moved_within}
-use Rattle.strm_types.specs.Modules.{act_among, put_among}
 use Rattle.strm_laws.specs.Puts.{booked, module_acted, put_in}
-use Rattle.strm_types.specs.Service.{Serving}
 use Rattle.strm_laws.specs.Stacked.{Standing, module_puts, module_serves}
 use Rattle.strm_laws.specs.State.{State, book, stream, with_book, with_stream, Stream}
-use Rattle.strm_types.specs.LdtermCalls.{Begins, Ends, bytes_left}
 use Rattle.strm_laws.specs.TurnCalls.{Stopped, asks_on, called, discipline_of, ldterm_of, led, module_at, none_there, treated}
 use Rattle.strm_laws.specs.TurnOutcomes.{TurnOutcome, stayed_put}
-use Rattle.strm_types.specs.Queue.{first_size}
-use Rattle.strm_types.proofs.DeliveryHolds.{carried-holds, in_turn-holds}
 use Rattle.strm_laws.proofs.LdtermStops.{GoesOn}
 use Rattle.strm_laws.proofs.ModulesHold.{OnBoth, puts-good}
 use Rattle.strm_laws.proofs.StandingLdterms.{stands-at}
-use Rattle.strm_types.proofs.BySide.{get-set-same}
 use Rattle.strm_laws.proofs.LawfulKinds.{plainly}
 
 -- one of several, and what is said of it

@@ -1,17 +1,8 @@
 -- A turn of a module's queue keeps what stays so whatever modules stand, whatever is made, and at the puts at heads and drivers.
-use Rattle.std.proofs.Common.{ℕ, zero, suc, Bool, true, false, cond}
-use Rattle.std.specs.Prelude.{◌-◌, ◌==◌, ◌*◌, ◌+◌, not, Option, None, Some}
-use Rattle.strm_types.specs.declared.answers.Turn.{Turn}
-use Rattle.strm_types.specs.declared.limits.TheConstants.{HOPS}
-use Rattle.strm_types.specs.declared.names.QueueName.{QueueName}
-use Rattle.strm_types.specs.declared.names.Side.{Side}
-use Rattle.strm_types.specs.declared.names.Way.{Way}
-use Rattle.strm_types.specs.declared.spots.Asks.{Asks}
+use Rattle.strm_laws.proofs.Prelude.{ℕ, zero, suc, Bool, true, false, cond, ◌==◌, not, Option, None, Some}
+use Rattle.strm_laws.specs.Prelude.{Turn, HOPS, QueueName, Side, Way, Asks, Spot, Cells, carried, in_turn, at_place, place_past}
+use Rattle.std.specs.Prelude.{◌-◌, ◌*◌, ◌+◌}
 use Rattle.strm_types.specs.declared.spots.Asks.TheVariants as asked
-use Rattle.strm_types.specs.declared.spots.Spot.{Spot}
-use Rattle.strm_types.specs.Cells.{Cells}
-use Rattle.strm_types.specs.Deliver.{carried, in_turn}
-use Rattle.strm_types.specs.ModuleQueues.{at_place, place_past}
 use Rattle.strm_laws.specs.ModuleTurns.{Calls, again_at, asked_turn, bytes_at, call_at, calls, made_below, module_called, module_turned, moved_on, moved_within, place_named, queue_ended, turned_named, turned_there, waits_there}
 use Rattle.strm_laws.specs.Past.{has_room_past, waits_on, writer_waits}
 use Rattle.strm_laws.specs.Puts.{put_in}

@@ -1,31 +1,18 @@
 -- Forgetting the origins of cells commutes with turns of the queues of modules.
-use Rattle.std.proofs.Common.{ℕ, zero, suc, ◌≡◌, ◌+◌, ◌-◌, Bool, true, false, cond, List, [], ◌∷◌, ◌++◌, map, take, refl, sym, ap, ◌∙◌}
-use Rattle.std.specs.Prelude.{◌==◌, ◌*◌, ◌&&◌, not, min, slice_index_or, Option, None, Some, option_map}
-use Rattle.std.proofs.lemmas.List.{take-map}
-use Rattle.strm_types.specs.declared.answers.Turn.{Turn}
-use Rattle.strm_types.specs.declared.answers.Turn.TheVariants.{Moved, Blocked, Idle}
-use Rattle.strm_types.specs.declared.limits.TheConstants.{MODULES, HOPS}
-use Rattle.strm_types.specs.declared.names.Place.{Place}
-use Rattle.strm_types.specs.declared.names.QueueName.{QueueName}
-use Rattle.strm_types.specs.declared.names.Way.{Way}
-use Rattle.strm_types.specs.declared.names.Way.TheVariants.{Up, Down}
-use Rattle.strm_types.specs.declared.spots.Asks.{Asks}
+use Rattle.strm_laws.proofs.Prelude.{ℕ, zero, suc, ◌≡◌, ◌+◌, ◌-◌, Bool, true, false, cond, List, [], ◌∷◌, ◌++◌, map, take, refl, sym, ap, ◌∙◌, ◌==◌}
+use Rattle.strm_laws.proofs.Prelude.{◌&&◌, not, min, slice_index_or, Option, None, Some, option_map, take-map}
+use Rattle.strm_laws.specs.Prelude.{Turn, Moved, Blocked, Idle, MODULES, HOPS, Place, QueueName, Way, Up, Down, Asks, Spot, Cells, AreCells, plain}
+use Rattle.strm_laws.specs.Prelude.{Carried, Took, carried, in_turn, Message, map_message, at_place, QueuePair, map_pair, messages_at, messages_on}
+use Rattle.strm_laws.specs.Prelude.{pair_changed, queue_changed, stood, change_among, enable_if, enable_some, map_acted, map_carried, map_fate}
+use Rattle.strm_laws.specs.Prelude.{map_parcel, map_took, Queue, is_none_left, map_messages, map_queue, relieved, first_size, Serving, end_relieves}
+use Rattle.strm_laws.specs.Prelude.{has_more, turn_ended}
+use Rattle.std.specs.Prelude.{◌*◌}
 use Rattle.strm_types.specs.declared.spots.Asks.TheVariants as asked
-use Rattle.strm_types.specs.declared.spots.Spot.{Spot}
-use Rattle.strm_types.specs.Cells.{Cells, AreCells, plain}
-use Rattle.strm_types.specs.Deliver.{Carried, Took, carried, in_turn}
 use Rattle.strm_laws.specs.Earlier.{places_of}
-use Rattle.strm_types.specs.Message.{Message, map_message}
-use Rattle.strm_types.specs.ModuleQueues.{at_place}
-use Rattle.strm_types.specs.Standings.{QueuePair, map_pair, messages_at, messages_on, pair_changed, queue_changed, stood}
 use Rattle.strm_laws.specs.ModuleTurns.{Calls, again_at, asked_turn, bytes_at, call_at, calls, made_below, module_called, module_turn_ended, module_turned, moved_by, moved_on, moved_within, named_from, place_named, queue_ended, stayed_at, turned_named, turned_there, waits_there}
-use Rattle.strm_types.specs.Modules.{change_among}
-use Rattle.strm_types.specs.Names.{enable_if, enable_some}
-use Rattle.strm_types.specs.Origins.{map_acted, map_carried, map_fate, map_parcel, map_took}
 use Rattle.strm_laws.specs.Past.{has_room_past, writer_waits}
 use Rattle.strm_laws.specs.Puts.{earlier_at, module_acted, put_in}
-use Rattle.strm_types.specs.Queue.{Queue, is_none_left, map_messages, map_queue, relieved, first_size}
-use Rattle.strm_types.specs.Service.{Serving, end_relieves, has_more, turn_ended, turn_relieves}
+use Rattle.strm_types.specs.Service.{turn_relieves}
 use Rattle.strm_laws.specs.Stacked.{Standing, map_kind, map_module, module_asks, module_rests, module_serves}
 use Rattle.strm_laws.specs.State.{State, Stream, stream, with_stream, map_state, map_stream}
 use Rattle.strm_laws.specs.TurnOutcomes.{TurnOutcome, map_turn_outcome, stayed_put}

@@ -1,39 +1,22 @@
 -- A turn of a module's queue loses no cell, and behind it nothing of a turn is under way at any module.
-use Rattle.std.proofs.Common.{ℕ, zero, suc, ◌≡◌, ◌+◌, ◌-◌, ◌*◌, Bool, true, false, cond, List, [], ◌∷◌, ◌++◌, refl, arith}
-use Rattle.std.specs.Prelude.{◌==◌, not, slice_index_or, Option, None, Some}
+use Rattle.strm_laws.proofs.Prelude.{ℕ, zero, suc, ◌≡◌, ◌+◌, ◌-◌, ◌*◌, Bool, true, false, cond, List, [], ◌∷◌, ◌++◌, refl, arith, ◌==◌, not}
+use Rattle.strm_laws.proofs.Prelude.{slice_index_or, Option, None, Some, false≢true, carried-holds, in_turn-holds, either, each-side, set-all}
+use Rattle.strm_laws.specs.Prelude.{Turn, Moved, Blocked, HOPS, Dir, QueueName, Side, Master, Slave, Asks, Spot, Cells, Acted, Carried, Parcel}
+use Rattle.strm_laws.specs.Prelude.{carried, in_turn, Message, at_place, put_among, Queue, turn_ended, set}
 use Rattle.std.specs.List.{AllByRecursion}
-use Rattle.std.proofs.lemmas.Bool.{false≢true}
-use Rattle.strm_types.specs.declared.answers.Turn.{Turn}
-use Rattle.strm_types.specs.declared.answers.Turn.TheVariants.{Moved, Blocked}
-use Rattle.strm_types.specs.declared.limits.TheConstants.{HOPS}
-use Rattle.strm_types.specs.declared.names.Dir.{Dir}
-use Rattle.strm_types.specs.declared.names.QueueName.{QueueName}
-use Rattle.strm_types.specs.declared.names.Side.{Side}
-use Rattle.strm_types.specs.declared.names.Side.TheVariants.{Master, Slave}
-use Rattle.strm_types.specs.declared.spots.Asks.{Asks}
 use Rattle.strm_types.specs.declared.spots.Asks.TheVariants as asked
-use Rattle.strm_types.specs.declared.spots.Spot.{Spot}
-use Rattle.strm_types.specs.Cells.{Cells}
-use Rattle.strm_types.specs.Deliver.{Acted, Carried, Parcel, carried, in_turn}
 use Rattle.strm_laws.specs.Earlier.{places_of}
 use Rattle.strm_laws.specs.Kept.{AreIdle, state_weight}
 use Rattle.strm_laws.specs.LdtermWeights.{IgnoresMapping}
-use Rattle.strm_types.specs.Message.{Message}
-use Rattle.strm_types.specs.ModuleQueues.{at_place}
 use Rattle.strm_laws.specs.ModuleTurns.{Calls, again_at, asked_turn, bytes_at, call_at, calls, made_below, module_called, module_turn_ended, module_turned, moved_on, moved_within, place_named, queue_ended, turned_named, turned_there, waits_there}
-use Rattle.strm_types.specs.Modules.{put_among}
 use Rattle.strm_laws.specs.Past.{has_room_past, writer_waits}
 use Rattle.strm_laws.specs.Places.{CarryKeeps, weight_gone, weight_made}
 use Rattle.strm_laws.specs.Puts.{earlier_at, noted, put_in}
-use Rattle.strm_types.specs.Queue.{Queue}
-use Rattle.strm_types.specs.Service.{turn_ended}
 use Rattle.strm_laws.specs.Stacked.{Standing, module_asks, module_puts, module_rests, modules_weight}
 use Rattle.strm_laws.specs.State.{State, stream, with_stream}
 use Rattle.strm_laws.specs.TurnOutcomes.{TurnOutcome, stayed_put}
-use Rattle.strm_types.proofs.DeliveryHolds.{carried-holds, in_turn-holds}
 use Rattle.strm_laws.proofs.Deliveries.{delivered-keeps}
 use Rattle.strm_laws.proofs.DeliveryKeeps.{gone-append, in_turn-keeps, made-append}
-use Rattle.strm_types.proofs.LdtermPuts.{either}
 use Rattle.strm_laws.proofs.Lawful.{IsReadyAt}
 use Rattle.strm_laws.proofs.LawfulKinds.{lawful}
 use Rattle.strm_laws.proofs.ModuleCalls.{OneIs, among-goes, among-keeps, among-rests, one-of-idle, one-puts}
@@ -43,8 +26,6 @@ use Rattle.strm_laws.proofs.Past.{waits-idle, waits-keeps}
 use Rattle.strm_laws.proofs.PutsKeep.{booked-keeps}
 use Rattle.strm_laws.proofs.PutParts.{booked-holds}
 use Rattle.strm_laws.proofs.QueueChanges.{changes-idle, changes-keep}
-use Rattle.strm_types.proofs.BySide.{each-side, set-all}
-use Rattle.strm_types.specs.Both.{set}
 use Rattle.strm_laws.proofs.StreamWeights.{stream-weighs}
 
 module _ {C : Type 0} where

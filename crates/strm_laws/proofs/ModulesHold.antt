@@ -1,19 +1,10 @@
 -- What each put at a module keeps of the modules of both streams, a delivery keeps.
-use Rattle.std.proofs.Common.{ℕ, ◌-◌, List}
-use Rattle.strm_types.specs.declared.names.Side.{Side}
-use Rattle.strm_types.specs.declared.spots.Spot.{Spot}
-use Rattle.strm_types.specs.Cells.{Cells}
-use Rattle.strm_types.specs.Message.{Message}
-use Rattle.strm_types.specs.Modules.{put_among}
-use Rattle.strm_types.specs.Names.{is_open}
+use Rattle.strm_laws.proofs.Prelude.{ℕ, ◌-◌, List, PutHolds, set-all}
+use Rattle.strm_laws.specs.Prelude.{Side, Spot, Cells, Message, put_among, is_open, AllSides, head_put}
 use Rattle.strm_laws.specs.Puts.{made_above, put_at_driver, put_at_head, put_at_module, put_in}
 use Rattle.strm_laws.specs.Stacked.{Standing, module_puts}
 use Rattle.strm_laws.specs.State.{State, Stream, stream, with_stream}
-use Rattle.strm_types.proofs.DeliveryHolds.{PutHolds}
 use Rattle.strm_laws.proofs.PutParts.{BookHolds, acted-holds, either-holds, parts-hold}
-use Rattle.strm_types.proofs.BySide.{set-all}
-use Rattle.strm_types.specs.Both.{AllSides}
-use Rattle.strm_types.specs.Heads.{head_put}
 
 module _ {C : Type 0} (Good : Side → List (Standing C) → Type 0) where
   -- so are the modules of both streams

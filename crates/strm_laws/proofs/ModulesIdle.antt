@@ -1,17 +1,11 @@
 -- A put at a module begins no turn: one of which nothing of a turn is under way stays so, and with it all that comes of a put in a pair.
-use Rattle.std.proofs.Common.{ℕ, zero, suc, List, [], ◌∷◌}
+use Rattle.strm_laws.proofs.Prelude.{ℕ, zero, suc, List, [], ◌∷◌, PutHolds, carried-holds}
+use Rattle.strm_laws.specs.Prelude.{HOPS, Side, Spot, Cells, Message, put_among}
 use Rattle.std.specs.List.{AllByRecursion}
-use Rattle.strm_types.specs.declared.limits.TheConstants.{HOPS}
-use Rattle.strm_types.specs.declared.names.Side.{Side}
-use Rattle.strm_types.specs.declared.spots.Spot.{Spot}
-use Rattle.strm_types.specs.Cells.{Cells}
 use Rattle.strm_laws.specs.Kept.{AreIdle}
-use Rattle.strm_types.specs.Message.{Message}
-use Rattle.strm_types.specs.Modules.{put_among}
 use Rattle.strm_laws.specs.Puts.{delivered, put_in}
 use Rattle.strm_laws.specs.Stacked.{Standing, IsAtRest, module_puts}
 use Rattle.strm_laws.specs.State.{State}
-use Rattle.strm_types.proofs.DeliveryHolds.{PutHolds, carried-holds}
 use Rattle.strm_laws.proofs.ModulesHold.{puts-good}
 use Rattle.strm_laws.proofs.LawfulKinds.{lawful}
 

@@ -1,14 +1,7 @@
 -- What is noted of a place goes by its nearest earlier queues alone.
-use Rattle.std.proofs.Common.{◌≡◌, List, [], ◌∷◌, refl, ap, ◌∙◌}
-use Rattle.std.specs.Prelude.{Option}
-use Rattle.strm_types.specs.declared.names.Place.{Place}
-use Rattle.strm_types.specs.declared.names.QueueName.{QueueName}
-use Rattle.strm_types.specs.declared.names.Side.{Side}
-use Rattle.strm_types.specs.declared.names.Way.{Way}
-use Rattle.strm_types.specs.declared.spots.Note.{Note}
-use Rattle.strm_types.specs.declared.spots.Note.TheVariants.{Enable, Room}
+use Rattle.strm_laws.proofs.Prelude.{◌≡◌, List, [], ◌∷◌, refl, ap, ◌∙◌, Option}
+use Rattle.strm_laws.specs.Prelude.{Place, QueueName, Side, Way, Note, Enable, Room, enable_found}
 use Rattle.strm_laws.specs.Earlier.{queue_named}
-use Rattle.strm_types.specs.Names.{enable_found}
 use Rattle.strm_laws.specs.Puts.{noted}
 
 -- what is noted goes by the nearest earlier queues alone

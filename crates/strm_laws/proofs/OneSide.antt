@@ -1,14 +1,7 @@
 -- What is reckoned of one side's stack, with a number for what goes across, is no less than what is reckoned of both sides.
-use Rattle.std.proofs.Common.{ℕ, zero, suc, ◌≡◌, ◌≤◌, ◌+◌, ◌-◌, Bool, true, false, cond, List, length, map, refl, ap, arith}
-use Rattle.std.specs.Prelude.{nat_le}
-use Rattle.std.proofs.lemmas.Bool.Decides.{nat_tests}
-use Rattle.std.proofs.lemmas.List.Sums.{sum_by-append}
-use Rattle.strm_types.specs.declared.names.ModuleName.{ModuleName}
-use Rattle.strm_types.specs.declared.names.Side.{Side}
-use Rattle.strm_types.specs.Budgets.{Costs, beyond, budget}
-use Rattle.strm_types.specs.Names.{other}
-use Rattle.strm_types.specs.Shapes.{At}
-use Rattle.strm_types.specs.Tables.{Crossing, ToDriver, ToReaders}
+use Rattle.strm_laws.proofs.Prelude.{ℕ, zero, suc, ◌≡◌, ◌≤◌, ◌+◌, ◌-◌, Bool, true, false, cond, List, length, map, refl, ap, arith, nat_le, nat_tests}
+use Rattle.strm_laws.proofs.Prelude.{sum_by-append}
+use Rattle.strm_laws.specs.Prelude.{ModuleName, Side, Costs, beyond, budget, other, At, Crossing, ToDriver, ToReaders}
 use Rattle.strm_types.proofs.CostsOf.{sum-map, sum-under}
 use Rattle.strm_laws.specs.SideCosts.{SideAt, arrives, costs, crossed, driver_most, front_on, in_time, nowhere, readers_most, side_budget, side_costs, to_both, to_readers, whole}
 use Rattle.strm_laws.specs.StackCosts.{Stands}

@@ -1,22 +1,15 @@
 -- Output loses no cell and makes none that it doesn't tell, and does the same where origins are forgotten.
-use Rattle.std.proofs.Common.{ℕ, ◌≡◌, ◌+◌, Bool, cond, List, [], ◌∷◌, ◌++◌, map, replicate, refl, sym, ap, ◌∙◌, arith}
-use Rattle.std.proofs.lemmas.List.{map-append}
-use Rattle.std.specs.Prelude.{count_by}
-use Rattle.strm_types.specs.declared.names.Dir.{Dir}
-use Rattle.strm_types.specs.declared.output.Given.{Given}
-use Rattle.strm_types.specs.declared.output.Given.TheVariants.{Byte, Ended, Spaces, Nothing}
+use Rattle.strm_laws.proofs.Prelude.{ℕ, ◌≡◌, ◌+◌, Bool, cond, List, [], ◌∷◌, ◌++◌, map, refl, sym, ap, ◌∙◌, arith, map-append, count_by, made-forget}
+use Rattle.strm_laws.proofs.Prelude.{count-join}
+use Rattle.strm_laws.specs.Prelude.{Dir, Given, Byte, Ended, Spaces, Nothing, Termios, Cells, AreCells, plain, Goes, Comes, carriage_return, map_fate}
+use Rattle.strm_laws.specs.Prelude.{made_for, map_output, post, posts, space, told_for}
+use Rattle.std.proofs.Common.{replicate}
 use Rattle.strm_types.specs.declared.rules.Rule.TheVariants.{Replaced}
-use Rattle.strm_types.specs.declared.termios.Termios.{Termios}
-use Rattle.strm_types.specs.Cells.{Cells, AreCells, plain}
-use Rattle.strm_types.specs.Deliver.{Goes, Comes}
-use Rattle.strm_types.specs.Keys.{carriage_return, newline}
+use Rattle.strm_types.specs.Keys.{newline}
 use Rattle.strm_laws.specs.LdtermWeights.{IgnoresMapping}
-use Rattle.strm_types.specs.Origins.{map_fate}
-use Rattle.strm_types.specs.Output.{given_for, made_for, map_output, post, posts, return_made, space, told_for}
+use Rattle.strm_types.specs.Output.{given_for, return_made}
 use Rattle.strm_laws.specs.Places.{weight_gone, weight_made}
 use Rattle.strm_laws.proofs.DeliveryKeeps.{gone-append, made-append}
-use Rattle.strm_types.proofs.MadeCells.{made-forget}
-use Rattle.strm_types.proofs.Weights.{count-join}
 
 -- cells are kept
 

@@ -1,34 +1,24 @@
 -- Turns of ldterm's write queue: what passes as it is, what is kept, and what is the same where origins are forgotten.
-use Rattle.std.proofs.Common.{ℕ, suc, ◌≡◌, ◌≤◌, ◌+◌, Bool, true, false, cond, List, [], ◌∷◌, length, map, refl, sym, ap, ◌∙◌, arith}
-use Rattle.std.specs.Prelude.{◌&&◌, Option, None, Some, count_by, drop, option_map, take, unwrap_or}
+use Rattle.strm_laws.proofs.Prelude.{ℕ, suc, ◌≡◌, ◌≤◌, ◌+◌, Bool, true, false, cond, List, [], ◌∷◌, length, map, refl, sym, ap, ◌∙◌, arith, ◌&&◌}
+use Rattle.strm_laws.proofs.Prelude.{Option, None, Some, count_by, option_map, unwrap_or, false≢true, drop-map, length-map, take-append-drop}
+use Rattle.strm_laws.proofs.Prelude.{take-map, count-join, weight-take, weight-whole}
+use Rattle.strm_laws.specs.Prelude.{Down, Spot, Dir, direction_at, Cells, AreCells, plain, Parcel, onward, is_data, left_of, passes, Discipline}
+use Rattle.strm_laws.specs.Prelude.{Message, cells_of, map_message, weight_of, map_fate, map_parcel, map_output, posts, Outgoing, outgoing}
+use Rattle.strm_laws.specs.Prelude.{output_dir, output_serves, posted, unchanged, with_given, left_with, map_messages, opost}
+use Rattle.std.specs.Prelude.{drop, take}
 use Rattle.std.specs.List.{AllByRecursion}
-use Rattle.std.proofs.lemmas.Bool.{false≢true}
-use Rattle.std.proofs.lemmas.List.{drop-map, length-map, take-append-drop, take-map}
-use Rattle.strm_types.specs.declared.names.Way.TheVariants.{Down}
-use Rattle.strm_types.specs.declared.spots.Spot.{Spot}
-use Rattle.strm_types.specs.declared.names.Dir.{Dir}
 use Rattle.strm_laws.proofs.LdtermKeeps.{onward-weighs, way-down}
-use Rattle.strm_types.specs.Names.{direction_at}
-use Rattle.strm_types.specs.Cells.{Cells, AreCells, plain}
-use Rattle.strm_types.specs.Deliver.{Parcel, onward}
-use Rattle.strm_types.specs.Input.{is_data, left_of, output_passes, passes}
+use Rattle.strm_types.specs.Input.{output_passes}
 use Rattle.strm_laws.specs.LdtermOrigins.{map_ldterm, map_serving}
 use Rattle.strm_laws.specs.LdtermTurns.{IsOrderly}
 use Rattle.strm_laws.specs.LdtermWeights.{ActedKeeps, IgnoresMapping, ldterm_weight, weight_in_work}
-use Rattle.strm_types.specs.Ldterms.{Discipline}
-use Rattle.strm_types.specs.Message.{Message, cells_of, map_message, weight_of}
-use Rattle.strm_types.specs.Origins.{map_fate, map_parcel}
-use Rattle.strm_types.specs.Output.{Output, map_output, posts}
-use Rattle.strm_types.specs.OutputTurns.{Outgoing, outgoing, output_dir, output_serves, posted, unchanged, with_given}
+use Rattle.strm_types.specs.Output.{Output}
 use Rattle.strm_laws.specs.Places.{weight_sent, weight_gone, weight_made}
-use Rattle.strm_types.specs.Queue.{left_with, map_messages}
-use Rattle.strm_types.specs.Termios.{opost}
 use Rattle.strm_laws.proofs.Forgetting.{cells-forget, kind-forgets, size-forgets}
 use Rattle.strm_laws.proofs.LdtermServesForgets.{back_on-forgets, left_of-forgets}
 use Rattle.strm_laws.proofs.LdtermStages.{back-weighs}
 use Rattle.strm_types.proofs.OutputStops.{turn_of}
 use Rattle.strm_laws.proofs.OutputKeeps.{posts-forget, posts-keep}
-use Rattle.strm_types.proofs.Weights.{count-join, weight-take, weight-whole}
 
 module _ {C : Type 0} (cells : Cells C) (here : Spot) (stop : Option ℕ) where
   passes-as-it-is : (made : ℕ) (m : Message C) (rest : List (Message C)) (l : Discipline C) → (is_data m.kind && opost l.termios) ≡ false →

@@ -1,17 +1,11 @@
 -- Room past a place is the same where the origins of cells are forgotten, and a writer that waits there changes nothing that stands.
-use Rattle.std.proofs.Common.{ℕ, zero, suc, ◌≡◌, ◌-◌, Bool, false, List, [], ◌∷◌, map, refl, ap, ◌∙◌, arith}
-use Rattle.std.specs.Prelude.{not, slice_index_or, Option, None, Some}
-use Rattle.strm_types.specs.declared.names.Side.{Side}
-use Rattle.strm_types.specs.declared.names.Side.TheVariants.{Master, Slave}
-use Rattle.strm_types.specs.declared.names.Way.{Way}
-use Rattle.strm_types.specs.declared.names.Way.TheVariants.{Up, Down}
-use Rattle.strm_types.specs.declared.names.Dir.{Dir}
+use Rattle.strm_laws.proofs.Prelude.{ℕ, zero, suc, ◌≡◌, ◌-◌, Bool, false, List, [], ◌∷◌, map, refl, ap, ◌∙◌, arith, not, slice_index_or, Option, None}
+use Rattle.strm_laws.proofs.Prelude.{Some, set-all}
+use Rattle.strm_laws.specs.Prelude.{Side, Master, Slave, Way, Up, Down, Dir, can_pass, place_past, with_waiting, change_among, is_full, QueuePair}
+use Rattle.strm_laws.specs.Prelude.{stood}
 use Rattle.strm_laws.specs.Kept.{AreIdle, state_weight, stream_weight}
-use Rattle.strm_types.specs.ModuleQueues.{can_pass, full_at, place_past, room_at, waits, with_waiting}
-use Rattle.strm_types.specs.Modules.{change_among}
+use Rattle.strm_types.specs.ModuleQueues.{full_at, room_at, waits}
 use Rattle.strm_laws.specs.Past.{end_queue, has_room_past, may_pass, waits_on, writer_waits}
-use Rattle.strm_types.specs.Queue.{is_full}
-use Rattle.strm_types.specs.Standings.{QueuePair, stood}
 use Rattle.strm_laws.specs.Stacked.{Standing, map_module}
 use Rattle.strm_laws.specs.State.{State, Stream, stream, with_stream, map_state, map_stream}
 use Rattle.strm_laws.proofs.Earlier.{place_past-forgets}
@@ -20,7 +14,6 @@ use Rattle.strm_laws.proofs.Forgetting.{full-forgets}
 use Rattle.strm_laws.proofs.ModulesIdle.{AllIdle}
 use Rattle.strm_laws.proofs.QueueChanges.{changes-idle, changes-keep}
 use Rattle.strm_laws.proofs.StreamWeights.{same-weighs}
-use Rattle.strm_types.proofs.BySide.{set-all}
 
 module _ {C D : Type 0} (f : C → D) where
   abbrev images : List (Standing C) → List (Standing D)

@@ -1,36 +1,24 @@
 -- A put at pckt loses no cell, makes none but those that it tells, as many as its table says, and does the same where the origins of cells are
 -- forgotten.
-use Rattle.std.proofs.Common.{ℕ, suc, ◌≡◌, ◌≤◌, ◌+◌, ◌*◌, Bool, true, false, cond, List, [], ◌∷◌, ◌++◌, length, map, refl, sym, ap, subst, ◌∙◌, arith}
-use Rattle.std.proofs.lemmas.List.{map-append}
-use Rattle.std.specs.Prelude.{◌&&◌, not, None, Some, option_map, count_by}
-use Rattle.strm_types.specs.declared.kinds.MsgKind.{MsgKind}
-use Rattle.strm_types.specs.declared.kinds.MsgKind.TheVariants.{Proto}
-use Rattle.strm_types.specs.declared.names.Dir.{Dir}
-use Rattle.strm_types.specs.declared.names.Way.{Way}
-use Rattle.strm_types.specs.declared.names.Way.TheVariants.{Up, Down}
-use Rattle.strm_types.specs.declared.spots.Spot.{Spot}
-use Rattle.strm_types.specs.Cells.{AreCells, Cells, cells_made, plain}
+use Rattle.strm_laws.proofs.Prelude.{ℕ, suc, ◌≡◌, ◌≤◌, ◌+◌, ◌*◌, Bool, true, false, cond, List, [], ◌∷◌, ◌++◌, length, map, refl, sym, ap, subst, ◌∙◌}
+use Rattle.strm_laws.proofs.Prelude.{arith, map-append, ◌&&◌, not, None, Some, option_map, count_by, made-forget, passed_made, puts-each, count-join}
+use Rattle.strm_laws.proofs.Prelude.{weight-whole}
+use Rattle.strm_laws.specs.Prelude.{MsgKind, Proto, Dir, Way, Up, Down, Spot, AreCells, Cells, cells_made, plain, Acted, toward, onward, Comes}
+use Rattle.strm_laws.specs.Prelude.{asked_by, flush_bytes, made_of, kind_number, Message, band_of, cells_of, has_parts, map_message, weight_of}
+use Rattle.strm_laws.specs.Prelude.{direction_at, map_acted, map_parcel, Pckt, flush_passed, is_flush_passed, is_packed, packet, pckt_on_way}
+use Rattle.strm_laws.specs.Prelude.{pckt_packs, pckt_passes, pckt_puts, plain_packed, shape_of}
 use Rattle.strm_types.specs.Costs.{packs_on_way}
-use Rattle.strm_types.specs.Deliver.{Acted, toward, onward, Comes}
-use Rattle.strm_types.specs.Flushing.{asked_by, flush_bytes}
-use Rattle.strm_types.specs.Input.{made_of}
-use Rattle.strm_types.specs.Kinds.{kind_number}
-use Rattle.strm_types.specs.Message.{Message, band_of, cells_of, has_parts, map_message, weight_of}
-use Rattle.strm_types.specs.Names.{direction_at}
-use Rattle.strm_types.specs.Origins.{map_acted, map_parcel}
-use Rattle.strm_types.specs.Pckts.{Pckt, flush_passed, is_bare_packet, is_flush_passed, is_packed, is_stop_or_start, kind_made, packet, pckt_dir, pckt_on_way, pckt_packs, pckt_passes, pckt_puts, plain_made, plain_packed}
-use Rattle.strm_types.specs.Shapes.{shape_of}
+use Rattle.strm_types.specs.Pckts.{is_bare_packet, is_stop_or_start, kind_made, pckt_dir, plain_made}
 use Rattle.strm_types.specs.Tables.{pckt_does}
 use Rattle.strm_laws.specs.Places.{direction_to, weight_gone, weight_made, weight_sent}
 use Rattle.strm_laws.specs.Spares.{packet_most}
 use Rattle.strm_laws.proofs.Forgetting.{cells-forget}
 use Rattle.strm_laws.proofs.LdtermKeeps.{onward-weighs}
-use Rattle.strm_types.proofs.MadeCells.{made-forget, made-same}
-use Rattle.strm_types.proofs.PcktPuts.{passed_made, packs-make, packs_made, puts-each}
+use Rattle.strm_types.proofs.MadeCells.{made-same}
+use Rattle.strm_types.proofs.PcktPuts.{packs-make, packs_made}
 use Rattle.strm_types.proofs.PcktWithin.{pckt-makes}
 use Rattle.strm_laws.proofs.PutForgets.{parts-forget}
 use Rattle.strm_laws.proofs.PutWeights.{no-parts, weight-flush}
-use Rattle.strm_types.proofs.Weights.{count-join, weight-whole}
 
 -- what has no data part in its packet has no cells
 bare-parts : (stops parts : Bool) → (stops && not parts) ≡ true → parts ≡ false

@@ -1,10 +1,6 @@
 -- Over plain bytes a put is the same whatever was made before.
-use Rattle.std.proofs.Common.{ℕ, ◌≡◌, List}
-use Rattle.std.specs.Prelude.{slice_index_or}
-use Rattle.strm_types.specs.declared.spots.Spot.{Spot}
-use Rattle.strm_types.specs.Cells.{plain}
-use Rattle.strm_types.specs.Message.{Message}
-use Rattle.strm_types.specs.Modules.{put_among}
+use Rattle.strm_laws.proofs.Prelude.{ℕ, ◌≡◌, List, slice_index_or}
+use Rattle.strm_laws.specs.Prelude.{Spot, plain, Message, put_among}
 use Rattle.strm_laws.specs.Stacked.{module_puts, Standing}
 use Rattle.strm_laws.specs.TurnCalls.{none_there}
 use Rattle.strm_laws.proofs.LawfulKinds.{plainly}

@@ -1,9 +1,7 @@
 -- What an edit leaves of a line is how the line begins.
-use Rattle.std.proofs.Common.{ℕ, ◌≡◌, ◌-◌, Bool, true, false, cond, List, [], ◌∷◌, ◌++◌, length, take, drop, refl, sym, ap, ◌∙◌}
-use Rattle.std.proofs.lemmas.List.{take-append-drop}
-use Rattle.std.specs.Prelude.{not, ◌&&◌}
-use Rattle.strm_types.specs.Lines.{without_end, without_last, without_word}
-use Rattle.strm_types.specs.Queue.{is_none_left}
+use Rattle.strm_laws.proofs.Prelude.{ℕ, ◌≡◌, ◌-◌, Bool, true, false, cond, List, [], ◌∷◌, ◌++◌, length, take, drop, refl, sym, ap, ◌∙◌}
+use Rattle.strm_laws.proofs.Prelude.{take-append-drop, not, ◌&&◌}
+use Rattle.strm_laws.specs.Prelude.{without_end, without_last, without_word, is_none_left}
 
 module _ {C : Type 0} where
   -- how a line begins, and what is left out

@@ -1,29 +1,15 @@
 -- A put at ptem: it loses no cell and makes none, and does the same where the origins of cells are forgotten.
-use Rattle.std.proofs.Common.{ℕ, ◌≡◌, Bool, true, false, cond, List, [], ◌∷◌, ◌++◌, refl, sym, ap, ◌∙◌, arith}
-use Rattle.std.specs.Prelude.{◌&&◌, ◌==◌, not, Option, None, Some}
-use Rattle.strm_types.specs.declared.ioctls.Ioc.{Ioc}
-use Rattle.strm_types.specs.declared.ioctls.TheConstants.{TCGETS, TIOCGWINSZ, TIOCSWINSZ, TIOCSIGNAL}
-use Rattle.strm_types.specs.declared.kinds.MsgKind.{MsgKind}
-use Rattle.strm_types.specs.declared.kinds.MsgKind.TheVariants.{Ioctl}
-use Rattle.strm_types.specs.declared.names.Way.{Way}
-use Rattle.strm_types.specs.declared.names.Way.TheVariants.{Up, Down}
-use Rattle.strm_types.specs.declared.spots.Spot.{Spot}
-use Rattle.strm_types.specs.declared.termios.Termios.{Termios}
-use Rattle.strm_types.specs.declared.winsize.Winsize.{Winsize}
-use Rattle.strm_types.specs.declared.names.Dir.{Dir}
+use Rattle.strm_laws.proofs.Prelude.{ℕ, ◌≡◌, Bool, true, false, cond, List, [], ◌∷◌, ◌++◌, refl, sym, ap, ◌∙◌, arith, ◌&&◌, ◌==◌, not, Option, None}
+use Rattle.strm_laws.proofs.Prelude.{Some}
+use Rattle.strm_laws.specs.Prelude.{Ioc, TCGETS, TIOCGWINSZ, TIOCSWINSZ, TIOCSIGNAL, MsgKind, Ioctl, Way, Up, Down, Spot, Termios, Winsize, Dir}
+use Rattle.strm_laws.specs.Prelude.{direction_at, ack_message, payload, telling_message, is_asked, is_ioctl, sets_termios, Acted, onward, read_ioc}
+use Rattle.strm_laws.specs.Prelude.{Message, cells_of, has_parts, map_message, weight_of, map_acted, Ptem, acks, asked_above, asked_below}
+use Rattle.strm_laws.specs.Prelude.{asked_by_header, asked_on_way, naks, ptem_passes, ptem_puts, set_above, signal_told, signals_up, sigwinch}
+use Rattle.strm_laws.specs.Prelude.{termios_set, window_set, window_told, signal_in, read_termios, termios_bytes, read_winsize, same_winsize}
+use Rattle.strm_laws.specs.Prelude.{winsize_bytes}
 use Rattle.strm_laws.proofs.LdtermKeeps.{onward-weighs}
-use Rattle.strm_types.specs.Names.{direction_at}
-use Rattle.strm_types.specs.Acks.{ack_message, payload, telling_message}
-use Rattle.strm_types.specs.Commands.{is_asked, is_ioctl, sets_termios}
-use Rattle.strm_types.specs.Deliver.{Acted, onward}
-use Rattle.strm_types.specs.Ioctls.{read_ioc}
-use Rattle.strm_types.specs.Message.{Message, cells_of, has_parts, map_message, weight_of}
-use Rattle.strm_types.specs.Origins.{map_acted}
 use Rattle.strm_laws.specs.Places.{weight_sent}
-use Rattle.strm_types.specs.Ptems.{Ptem, acks, asked_above, asked_below, asked_by_header, asked_on_way, naks, ptem_passes, ptem_puts, ptem_sends, set_above, signal_told, signals_up, sigwinch, termios_set, window_set, window_told}
-use Rattle.strm_types.specs.Signals.{signal_in}
-use Rattle.strm_types.specs.Termios.{read_termios, termios_bytes}
-use Rattle.strm_types.specs.Winsizes.{read_winsize, same_winsize, winsize_bytes}
+use Rattle.strm_types.specs.Ptems.{ptem_sends}
 use Rattle.strm_types.proofs.PtemPuts.{puts-each}
 use Rattle.strm_laws.proofs.PutForgets.{parts-forget}
 use Rattle.strm_laws.proofs.PutWeights.{no-parts}

@@ -1,36 +1,17 @@
 -- Forgetting the origins of cells commutes with pushes and pops.
-use Rattle.std.proofs.Common.{ℕ, ◌≡◌, Bool, true, false, cond, List, [], ◌∷◌, ◌++◌, map, refl, sym, ap, ◌∙◌}
-use Rattle.std.specs.Prelude.{◌||◌, not, flat_map, Option, None, Some, option_map}
-use Rattle.std.proofs.lemmas.List.{map-append}
-use Rattle.strm_types.specs.declared.modes.ReadMode.{ReadMode}
-use Rattle.strm_types.specs.declared.names.ModuleName.{ModuleName}
-use Rattle.strm_types.specs.declared.names.Place.{Place}
-use Rattle.strm_types.specs.declared.names.Place.TheVariants.{Head, Ldterm, Driver}
-use Rattle.strm_types.specs.declared.names.QueueName.{QueueName}
-use Rattle.strm_types.specs.declared.names.Side.{Side}
-use Rattle.strm_types.specs.declared.names.Side.TheVariants.{Master, Slave}
-use Rattle.strm_types.specs.declared.names.Way.{Way}
-use Rattle.strm_types.specs.declared.names.Way.TheVariants.{Up, Down}
-use Rattle.strm_types.specs.declared.refusals.Refusal.TheVariants.{Einval}
-use Rattle.strm_types.specs.declared.rules.Rule.{Rule}
-use Rattle.strm_types.specs.declared.rules.Rule.TheVariants.{ModulePopped}
-use Rattle.strm_types.specs.declared.slots.Slot.TheVariants.{Free, Waiting, Answered}
-use Rattle.strm_types.specs.Deliver.{Acted, Carried, Fate, Took}
-use Rattle.strm_types.specs.Dropped.{has_ioctl, is_ioctl_of, slot_dropped}
+use Rattle.strm_laws.proofs.Prelude.{ℕ, ◌≡◌, Bool, true, false, cond, List, [], ◌∷◌, ◌++◌, map, refl, sym, ap, ◌∙◌, ◌||◌, not, flat_map, Option, None}
+use Rattle.strm_laws.proofs.Prelude.{Some, option_map, map-append}
+use Rattle.strm_laws.specs.Prelude.{ReadMode, ModuleName, Place, Ldterm, Driver, QueueName, Side, Master, Slave, Way, Up, Down, Einval, Rule}
+use Rattle.strm_laws.specs.Prelude.{ModulePopped, Free, Waiting, Acted, Carried, Fate, Took, has_ioctl, slot_dropped, of_all, Message, map_message}
+use Rattle.strm_laws.specs.Prelude.{QueuePair, has_queues, map_pair, messages_at, messages_on as waiting_on, stood, top_name, without_module}
+use Rattle.strm_laws.specs.Prelude.{enable_if, place_of, number_of, mode_message, map_acted, map_carried, map_fate, is_none_left, map_messages}
+use Rattle.strm_laws.specs.Prelude.{PlainSlot, cleared, line_gone, queues_cleared}
+use Rattle.strm_types.specs.declared.names.Place.TheVariants.{Head}
+use Rattle.strm_types.specs.declared.slots.Slot.TheVariants.{Answered}
+use Rattle.strm_types.specs.Dropped.{is_ioctl_of}
 use Rattle.strm_laws.specs.Earlier.{before_at}
-use Rattle.strm_types.specs.Emptied.{of_all}
-use Rattle.strm_types.specs.Message.{Message, map_message}
-use Rattle.strm_types.specs.Standings.{QueuePair, has_queues, map_pair, messages_at, messages_on as waiting_on, stood}
-use Rattle.strm_types.specs.Modules.{top_name, without_module}
-use Rattle.strm_types.specs.Names.{enable_if, place_of}
-use Rattle.strm_types.specs.Numbers.{number_of}
-use Rattle.strm_types.specs.Options.{mode_message}
-use Rattle.strm_types.specs.Origins.{map_acted, map_carried, map_fate}
 use Rattle.strm_laws.specs.Pushes.{all_taken, below_top, enable_waiting, head_above, ioctl_dropped, let_come, messages_on, messages_there, mode_behind, mode_on_push, mode_put, modules_emptied, named_by, popped, pushed, pushed_named, taken_off, top_on, top_taken, with_modules, without_top}
 use Rattle.strm_laws.specs.Puts.{earlier_at, noted, put_at_head}
-use Rattle.strm_types.specs.Queue.{is_none_left, map_messages}
-use Rattle.strm_types.specs.Slots.{PlainSlot}
-use Rattle.strm_types.specs.Service.{cleared, line_gone, queues_cleared}
 use Rattle.strm_laws.specs.Stacked.{Module, Standing, kind_line, map_kind, map_module, module_name, without_kind_line}
 use Rattle.strm_laws.specs.State.{State, Stream, stream, map_state, map_stream, with_ioctl}
 use Rattle.strm_laws.proofs.Earlier.{before_at-forgets, name-forgets, queue-forgets}

@@ -1,18 +1,7 @@
 -- What holds of a pair whatever modules stand on a side, or whichever of a kind, holds behind a push and a pop.
-use Rattle.std.proofs.Common.{Bool, true, false, List, [], ◌∷◌}
-use Rattle.std.specs.Prelude.{Option, None, Some}
-use Rattle.strm_types.specs.declared.modes.ReadMode.{ReadMode}
-use Rattle.strm_types.specs.declared.names.QueueName.{QueueName}
-use Rattle.strm_types.specs.declared.names.Side.{Side}
-use Rattle.strm_types.specs.declared.names.Way.TheVariants.{Up}
-use Rattle.strm_types.specs.declared.rules.Rule.{Rule}
-use Rattle.strm_types.specs.declared.rules.Rule.TheVariants.{ModulePopped}
+use Rattle.strm_laws.proofs.Prelude.{Bool, true, false, List, [], ◌∷◌, Option, None, Some}
+use Rattle.strm_laws.specs.Prelude.{ReadMode, QueueName, Side, Up, Rule, ModulePopped, Message, has_queues, without_module, place_of, mode_message}
 use Rattle.strm_laws.specs.Earlier.{before_at}
-use Rattle.strm_types.specs.Message.{Message}
-use Rattle.strm_types.specs.Standings.{has_queues}
-use Rattle.strm_types.specs.Modules.{without_module}
-use Rattle.strm_types.specs.Names.{place_of}
-use Rattle.strm_types.specs.Options.{mode_message}
 use Rattle.strm_laws.specs.Pushes.{all_taken, below_top, enable_waiting, head_above, ioctl_dropped, let_come, mode_behind, mode_on_push, mode_put, modules_emptied, popped, pushed, pushed_named, taken_off, top_on, top_taken, with_modules}
 use Rattle.strm_laws.specs.Puts.{earlier_at, noted, put_at_head}
 use Rattle.strm_laws.specs.Stacked.{Standing, module_name}

@@ -1,29 +1,14 @@
 -- No push and no pop loses a byte, or makes one: what a module has that is taken off goes by a rule.
-use Rattle.std.proofs.Common.{ℕ, ◌≡◌, ◌+◌, Bool, true, false, cond, List, [], ◌∷◌, ◌++◌, refl, ap, arith}
-use Rattle.std.specs.Prelude.{Option, None, Some, count_by}
+use Rattle.strm_laws.proofs.Prelude.{ℕ, ◌≡◌, ◌+◌, Bool, true, false, cond, List, [], ◌∷◌, ◌++◌, refl, ap, arith, Option, None, Some, count_by}
+use Rattle.strm_laws.proofs.Prelude.{sum_by-cons}
+use Rattle.strm_laws.specs.Prelude.{ReadMode, ModuleName, Side, Master, Slave, Way, Up, Down, Rule, ModulePopped, Dir, Carried, Took, of_all}
+use Rattle.strm_laws.specs.Prelude.{cells_gone, Message, QueuePair, has_queues, direction_at, is_open, mode_message, Queue, weight, line_gone}
+use Rattle.strm_laws.specs.Prelude.{queues_cleared}
 use Rattle.std.specs.List.{AllByRecursion}
-use Rattle.std.proofs.lemmas.List.Sums.{sum_by-cons}
-use Rattle.strm_types.specs.declared.modes.ReadMode.{ReadMode}
-use Rattle.strm_types.specs.declared.names.ModuleName.{ModuleName}
-use Rattle.strm_types.specs.declared.names.Side.{Side}
-use Rattle.strm_types.specs.declared.names.Side.TheVariants.{Master, Slave}
-use Rattle.strm_types.specs.declared.names.Way.{Way}
-use Rattle.strm_types.specs.declared.names.Way.TheVariants.{Up, Down}
-use Rattle.strm_types.specs.declared.rules.Rule.{Rule}
-use Rattle.strm_types.specs.declared.rules.Rule.TheVariants.{ModulePopped}
-use Rattle.strm_types.specs.declared.names.Dir.{Dir}
-use Rattle.strm_types.specs.Deliver.{Carried, Took}
-use Rattle.strm_types.specs.Emptied.{of_all, cells_gone}
 use Rattle.strm_laws.specs.Kept.{state_weight}
-use Rattle.strm_types.specs.Message.{Message}
-use Rattle.strm_types.specs.Standings.{QueuePair, has_queues}
-use Rattle.strm_types.specs.Names.{direction_at, is_open}
-use Rattle.strm_types.specs.Options.{mode_message}
 use Rattle.strm_laws.specs.Places.{weight_gone, weight_made, weight_sent}
 use Rattle.strm_laws.specs.Pushes.{all_taken, below_top, head_above, ioctl_dropped, let_come, mode_behind, mode_on_push, mode_put, module_named, modules_emptied, named_by, popped, pushed, pushed_named, taken_off, top_on, top_taken, with_modules}
 use Rattle.strm_laws.specs.Puts.{put_at_head}
-use Rattle.strm_types.specs.Queue.{Queue, weight}
-use Rattle.strm_types.specs.Service.{line_gone, queues_cleared}
 use Rattle.strm_laws.specs.Stacked.{Standing, IsAtRest, module_line, module_name, module_weight, modules_weight, queues_weight}
 use Rattle.strm_laws.specs.State.{State, stream}
 use Rattle.strm_laws.proofs.PutsKeep.{head-keeps}

@@ -1,22 +1,11 @@
 -- Where no module stands, a message with parts that goes down is put on the driver's queue.
-use Rattle.std.proofs.Common.{ℕ, ◌≡◌, Bool, true, false, cond, List, [], ◌∷◌, refl, ap, ◌∙◌}
+use Rattle.strm_laws.proofs.Prelude.{ℕ, ◌≡◌, Bool, true, false, cond, List, [], ◌∷◌, refl, ap, ◌∙◌, nat_le, Option, Some}
+use Rattle.strm_laws.specs.Prelude.{QueueName, Side, Way, Down, Enable, Spot, Cells, Acted, driver_put, put_down, taken_in, Message, has_parts}
+use Rattle.strm_laws.specs.Prelude.{driver_of, enable_if, is_closed, Queue, put_on, put_enables}
 use Rattle.strm_types.specs.declared.names.Place.TheVariants as places
-use Rattle.strm_types.specs.declared.names.QueueName.{QueueName}
-use Rattle.strm_types.specs.declared.names.Side.{Side}
-use Rattle.strm_types.specs.declared.names.Way.{Way}
-use Rattle.strm_types.specs.declared.names.Way.TheVariants.{Down}
-use Rattle.strm_types.specs.declared.spots.Note.TheVariants.{Enable}
-use Rattle.strm_types.specs.declared.spots.Spot.{Spot}
-use Rattle.strm_types.specs.Cells.{Cells}
-use Rattle.strm_types.specs.Deliver.{Acted}
-use Rattle.std.specs.Prelude.{nat_le, Option, Some}
 use Rattle.strm_laws.specs.Earlier.{NoModules, driver_place}
-use Rattle.strm_types.specs.Drivers.{driver_put, put_down, taken_in}
-use Rattle.strm_types.specs.Message.{Message, has_parts}
-use Rattle.strm_types.specs.Names.{driver_of, enable_if, is_closed}
 use Rattle.strm_laws.specs.PutEffect.{put_effect}
 use Rattle.strm_laws.specs.Puts.{across_of, delivered, earlier_at, noted, put_at_driver, put_at_module}
-use Rattle.strm_types.specs.Queue.{Queue, put_on, put_enables}
 use Rattle.strm_laws.specs.State.{State, stream, with_stream, with_driver_queue}
 use Rattle.strm_laws.proofs.Earlier.{none-on}
 use Rattle.strm_laws.proofs.FlushDelivered.{carries, driver_took, went_on}

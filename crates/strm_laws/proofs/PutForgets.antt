@@ -1,32 +1,15 @@
 -- Forgetting the origins of cells commutes with puts at a head and at a driver.
-use Rattle.std.proofs.Common.{ℕ, ◌≡◌, Bool, true, false, cond, List, [], ◌∷◌, ◌++◌, map, refl, sym, ap, ◌∙◌}
-use Rattle.std.specs.Prelude.{◌==◌, ◌&&◌, ◌||◌, Option, None, Some, option_map, unwrap_or}
+use Rattle.strm_laws.proofs.Prelude.{ℕ, ◌≡◌, Bool, true, false, cond, List, [], ◌∷◌, ◌++◌, map, refl, sym, ap, ◌∙◌, ◌==◌, ◌&&◌, ◌||◌, Option, None}
+use Rattle.strm_laws.proofs.Prelude.{Some, option_map, unwrap_or, map-append}
+use Rattle.strm_laws.specs.Prelude.{FlushAsked, Ioc, MsgKind, Flush, Setopts, Ioctl, ReadMode, Side, Way, Up, Down, Marks, Doubled, EndClosed, Across}
+use Rattle.strm_laws.specs.Prelude.{Enable, Spot, Acted, Parcel, toward, Goes, answered, bottom_across, crosses, driver_across, driver_put, freed}
+use Rattle.strm_laws.specs.Prelude.{ioctl_put, own_flushed, put_across, put_down, reader_flush, taken_in, of_data, asked_by, flush_bytes}
+use Rattle.strm_laws.specs.Prelude.{flush_message, read_flush, head_flushed, head_put, is_doubled, nak_down, obeyed, passed_by, turned_round}
+use Rattle.strm_laws.specs.Prelude.{waits_for_readers, with_marks_given, Head, map_head, nak_message, read_ioc, Message, cells_of, has_parts, is_part}
+use Rattle.strm_laws.specs.Prelude.{map_message, direction_at, direction_from, is_master, mode_message, options_in, map_acted, map_parcel, Queue}
+use Rattle.strm_laws.specs.Prelude.{map_messages, map_queue, put_on, put_enables}
 use Rattle.std.specs.List.{list_any}
-use Rattle.std.proofs.lemmas.List.{map-append}
-use Rattle.strm_types.specs.declared.flushing.FlushAsked.{FlushAsked}
-use Rattle.strm_types.specs.declared.ioctls.Ioc.{Ioc}
-use Rattle.strm_types.specs.declared.kinds.MsgKind.{MsgKind}
-use Rattle.strm_types.specs.declared.kinds.MsgKind.TheVariants.{Flush, Setopts, Ioctl}
-use Rattle.strm_types.specs.declared.modes.ReadMode.{ReadMode}
-use Rattle.strm_types.specs.declared.names.Side.{Side}
-use Rattle.strm_types.specs.declared.names.Way.{Way}
-use Rattle.strm_types.specs.declared.names.Way.TheVariants.{Up, Down}
-use Rattle.strm_types.specs.declared.options.Marks.{Marks}
-use Rattle.strm_types.specs.declared.rules.Rule.TheVariants.{Doubled, EndClosed}
-use Rattle.strm_types.specs.declared.spots.Across.{Across}
-use Rattle.strm_types.specs.declared.spots.Note.TheVariants.{Enable}
-use Rattle.strm_types.specs.declared.spots.Spot.{Spot}
-use Rattle.strm_types.specs.Deliver.{Acted, Parcel, toward, Goes}
-use Rattle.strm_types.specs.Drivers.{answered, bottom_across, crosses, driver_across, driver_put, freed, ioctl_put, own_flushed, put_across, put_down, reader_flush, taken_in}
-use Rattle.strm_types.specs.Emptied.{of_data}
-use Rattle.strm_types.specs.Flushing.{asked_by, flush_bytes, flush_message, read_flush}
-use Rattle.strm_types.specs.Heads.{head_flushed, head_put, is_doubled, is_pcproto, nak_down, obeyed, passed_by, turned_round, waits_for_readers, with_marks_given, Head, map_head}
-use Rattle.strm_types.specs.Ioctls.{nak_message, read_ioc}
-use Rattle.strm_types.specs.Message.{Message, cells_of, has_parts, is_part, map_message}
-use Rattle.strm_types.specs.Names.{direction_at, direction_from, is_master}
-use Rattle.strm_types.specs.Options.{mode_message, options_in}
-use Rattle.strm_types.specs.Origins.{map_acted, map_parcel}
-use Rattle.strm_types.specs.Queue.{Queue, map_messages, map_queue, put_on, put_enables}
+use Rattle.strm_types.specs.Heads.{is_pcproto}
 use Rattle.strm_laws.proofs.EmptiedForgets.{gone-forgets, queue_behind-forgets, writer_goes-forgets}
 use Rattle.strm_laws.proofs.Forgetting.{cells-forget, kind-forgets, put_enables-forgets, put_on-forgets}
 

@@ -1,30 +1,18 @@
 -- A putmsg on a side's stream loses no cell, leaves a side that isn't open nothing to be read, and forgetting the origins of
 -- cells commutes with it.
-use Rattle.std.proofs.Common.{ℕ, ◌≡◌, ◌+◌, Bool, true, false, cond, List, [], length, map, refl, sym, ap, ◌∙◌, arith}
-use Rattle.std.specs.Prelude.{Option, None, Some, option_map, count_by}
-use Rattle.strm_types.specs.declared.modes.Prio.{Prio}
-use Rattle.strm_types.specs.declared.modes.Prio.TheVariants.{High, Band}
-use Rattle.strm_types.specs.declared.names.Dir.{Dir}
-use Rattle.strm_types.specs.declared.names.Side.{Side}
-use Rattle.strm_types.specs.declared.names.Way.TheVariants.{Down}
-use Rattle.strm_types.specs.declared.spots.Spot.{Spot}
-use Rattle.strm_types.specs.Books.{with_written}
+use Rattle.strm_laws.proofs.Prelude.{ℕ, ◌≡◌, ◌+◌, Bool, true, false, cond, List, [], length, map, refl, sym, ap, ◌∙◌, arith, Option, None, Some}
+use Rattle.strm_laws.proofs.Prelude.{option_map, count_by, written-plain, written-bytes, weight-whole}
+use Rattle.strm_laws.specs.Prelude.{Prio, High, Dir, Side, Down, Spot, with_written, Cells, AreCells, plain, cells_written, Carried, Message, part}
+use Rattle.strm_laws.specs.Prelude.{cells_of, map_message, direction_from, map_carried, no_parts, put_message}
+use Rattle.strm_types.specs.declared.modes.Prio.TheVariants.{Band}
 use Rattle.strm_laws.specs.Calls.{message_put, put_at}
-use Rattle.strm_types.specs.Cells.{Cells, AreCells, plain, cells_written}
-use Rattle.strm_types.specs.Deliver.{Carried}
 use Rattle.strm_laws.specs.Kept.{state_weight}
-use Rattle.strm_types.specs.Message.{Message, part, cells_of, map_message}
-use Rattle.strm_types.specs.Names.{direction_from}
-use Rattle.strm_types.specs.Origins.{map_carried}
 use Rattle.strm_laws.specs.Places.{weight_gone, weight_made}
-use Rattle.strm_types.specs.PutMsg.{no_parts, put_message}
 use Rattle.strm_laws.specs.Puts.{delivered}
 use Rattle.strm_laws.specs.State.{State, book, with_book, map_state}
 use Rattle.strm_laws.proofs.Deliveries.{delivered-keeps}
-use Rattle.strm_types.proofs.PlainCells.{written-plain, written-bytes}
 use Rattle.strm_laws.proofs.Forgetting.{cells-forget}
 use Rattle.strm_laws.proofs.PutsForget.{delivered-forgets}
-use Rattle.strm_types.proofs.Weights.{weight-whole}
 
 -- the place below a side's head
 abbrev below : Side → Spot

@@ -1,26 +1,13 @@
 -- What the put at a head, at a module and at a driver keeps, each put in a pair keeps, and with it each delivery.
-use Rattle.std.proofs.Common.{ℕ, suc, ◌-◌, Bool, true, false, cond, List, [], ◌∷◌, length}
-use Rattle.std.specs.Prelude.{◌==◌, ◌&&◌, nat_le}
-use Rattle.strm_types.specs.declared.limits.TheConstants.{HOPS, MODULES}
-use Rattle.strm_types.specs.declared.names.Dir.{Dir}
-use Rattle.strm_types.specs.declared.names.QueueName.{QueueName}
-use Rattle.strm_types.specs.declared.names.Side.{Side}
-use Rattle.strm_types.specs.declared.names.Way.{Way}
-use Rattle.strm_types.specs.declared.names.Way.TheVariants.{Up, Down}
-use Rattle.strm_types.specs.declared.spots.Spot.{Spot}
-use Rattle.strm_types.specs.Books.{with_made}
-use Rattle.strm_types.specs.Cells.{Cells}
-use Rattle.strm_types.specs.Deliver.{Acted, Fate, Goes, Comes, Parcel, Took, carried, in_turn}
+use Rattle.strm_laws.proofs.Prelude.{ℕ, suc, ◌-◌, Bool, true, false, cond, List, [], ◌∷◌, length, ◌==◌, ◌&&◌, nat_le, PutHolds, carried-holds}
+use Rattle.strm_laws.proofs.Prelude.{in_turn-holds}
+use Rattle.strm_laws.specs.Prelude.{HOPS, MODULES, Dir, QueueName, Side, Way, Up, Down, Spot, with_made, Cells, Acted, Fate, Goes, Comes, Parcel}
+use Rattle.strm_laws.specs.Prelude.{Took, carried, in_turn, Message, with_waiting, put_among, is_bare_flush}
 use Rattle.strm_laws.specs.Earlier.{modules_on}
-use Rattle.strm_types.specs.Message.{Message}
-use Rattle.strm_types.specs.ModuleQueues.{with_waiting}
-use Rattle.strm_types.specs.Modules.{put_among}
 use Rattle.strm_laws.specs.Past.{end_queue, with_end_queue}
 use Rattle.strm_laws.specs.Puts.{booked, delivered, made_above, module_acted, passed_up, put_at_driver, put_at_head, put_at_module, put_behind, put_below, put_in}
-use Rattle.strm_types.specs.Flushing.{is_bare_flush}
 use Rattle.strm_laws.specs.Stacked.{Standing, module_puts}
 use Rattle.strm_laws.specs.State.{State, book, stream, with_book, with_stream}
-use Rattle.strm_types.proofs.DeliveryHolds.{PutHolds, carried-holds, in_turn-holds}
 
 -- a writer of a band that waits at the end of a stream
 abbrev pub waiting : {C : Type 0} → Side → Way → ℕ → State C → State C

@@ -1,33 +1,15 @@
 -- What a put at a head or at a driver makes of the cells of its message.
-use Rattle.std.proofs.Common.{ℕ, ◌≡◌, ◌+◌, Bool, true, false, cond, List, [], ◌∷◌, ◌++◌, refl, arith}
-use Rattle.std.specs.Prelude.{◌==◌, ◌&&◌, ◌||◌, Option, None, Some, count_by}
-use Rattle.strm_types.specs.declared.flushing.FlushAsked.{FlushAsked}
-use Rattle.strm_types.specs.declared.ioctls.Ioc.{Ioc}
-use Rattle.strm_types.specs.declared.kinds.MsgKind.{MsgKind}
-use Rattle.strm_types.specs.declared.kinds.MsgKind.TheVariants.{Flush, Ioctl, Setopts}
-use Rattle.strm_types.specs.declared.modes.ReadMode.{ReadMode}
-use Rattle.strm_types.specs.declared.options.Marks.{Marks}
-use Rattle.strm_types.specs.declared.names.Side.{Side}
-use Rattle.strm_types.specs.declared.names.Dir.{Dir}
-use Rattle.strm_types.specs.declared.names.Way.{Way}
-use Rattle.strm_types.specs.declared.names.Way.TheVariants.{Up, Down}
-use Rattle.strm_types.specs.declared.rules.Rule.TheVariants.{Doubled, EndClosed}
-use Rattle.strm_types.specs.declared.spots.Across.{Across}
-use Rattle.strm_types.specs.declared.spots.Note.TheVariants.{Enable}
-use Rattle.strm_types.specs.declared.spots.Spot.{Spot}
-use Rattle.strm_types.specs.Deliver.{Acted, Parcel, toward, Goes}
-use Rattle.strm_types.specs.Drivers.{answered, bottom_across, crosses, driver_across, driver_put, freed, ioctl_put, own_flushed, put_across, put_down, reader_flush, taken_in}
-use Rattle.strm_types.specs.Emptied.{of_data}
-use Rattle.strm_types.specs.Flushing.{asked_by, flush_bytes, flush_message, read_flush}
-use Rattle.strm_types.specs.Ioctls.{nak_message, read_ioc}
-use Rattle.strm_types.specs.Heads.{head_flushed, head_put, is_doubled, obeyed, passed_by, turned_round, waits_for_readers, flush_up, nak_down, with_marks_given, Head}
-use Rattle.strm_types.specs.Options.{mode_message, options_in}
-use Rattle.strm_types.specs.Message.{Message, cells_of, has_parts, is_part, part, weight_of}
+use Rattle.strm_laws.proofs.Prelude.{ℕ, ◌≡◌, ◌+◌, Bool, true, false, cond, List, [], ◌∷◌, ◌++◌, refl, arith, ◌==◌, ◌&&◌, ◌||◌, Option, None, Some}
+use Rattle.strm_laws.proofs.Prelude.{count_by, weight-put, weight-whole}
+use Rattle.strm_laws.specs.Prelude.{FlushAsked, Ioc, MsgKind, Flush, Ioctl, Setopts, ReadMode, Marks, Side, Dir, Way, Up, Down, Doubled, EndClosed}
+use Rattle.strm_laws.specs.Prelude.{Across, Enable, Spot, Acted, Parcel, toward, Goes, answered, bottom_across, crosses, driver_across, driver_put}
+use Rattle.strm_laws.specs.Prelude.{freed, ioctl_put, own_flushed, put_across, put_down, reader_flush, taken_in, of_data, asked_by, flush_bytes}
+use Rattle.strm_laws.specs.Prelude.{flush_message, read_flush, nak_message, read_ioc, head_flushed, head_put, is_doubled, obeyed, passed_by}
+use Rattle.strm_laws.specs.Prelude.{turned_round, waits_for_readers, flush_up, nak_down, with_marks_given, Head, mode_message, options_in, Message}
+use Rattle.strm_laws.specs.Prelude.{cells_of, has_parts, is_part, part, weight_of, direction_from, direction_at, is_master, Queue, put_on}
+use Rattle.strm_laws.specs.Prelude.{put_enables, weight}
 use Rattle.strm_laws.specs.Places.{direction_to, weight_sent, weight_gone, weight_made}
-use Rattle.strm_types.specs.Names.{direction_from, direction_at, is_master}
-use Rattle.strm_types.specs.Queue.{Queue, put_on, put_enables, weight}
 use Rattle.strm_laws.proofs.EmptiedKeeps.{behind-keeps}
-use Rattle.strm_types.proofs.Weights.{weight-put, weight-whole}
 
 -- an M_IOCNAK has no cells
 weight-nak : {C : Type 0} (p : C → Bool) (ioc : Ioc) → weight_of p (nak_message ioc) ≡ 0

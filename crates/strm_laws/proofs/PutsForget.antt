@@ -1,32 +1,13 @@
 -- Forgetting the origins of cells commutes with puts in a pair, with deliveries there, and with flushes of a stream.
-use Rattle.std.proofs.Common.{ℕ, suc, ◌≡◌, ◌-◌, Bool, true, false, cond, List, [], ◌∷◌, length, map, refl, sym, ap, ◌∙◌}
-use Rattle.std.proofs.lemmas.List.{length-map}
-use Rattle.std.specs.Prelude.{◌==◌, ◌&&◌, not, nat_le, slice_index_or, Option, None, Some}
-use Rattle.strm_types.specs.declared.events.FlushQueues.{FlushQueues}
-use Rattle.strm_types.specs.declared.kinds.Band.{Band}
-use Rattle.strm_types.specs.declared.limits.TheConstants.{MODULES, HOPS}
-use Rattle.strm_types.specs.declared.names.Place.{Place}
+use Rattle.strm_laws.proofs.Prelude.{ℕ, suc, ◌≡◌, ◌-◌, Bool, true, false, cond, List, [], ◌∷◌, length, map, refl, sym, ap, ◌∙◌, length-map, ◌==◌}
+use Rattle.strm_laws.proofs.Prelude.{◌&&◌, not, nat_le, slice_index_or, Option, None, Some, map-set}
+use Rattle.strm_laws.specs.Prelude.{FlushQueues, Band, MODULES, HOPS, Place, QueueName, Side, Master, Slave, Way, Up, Down, Note, Spot, with_made}
+use Rattle.strm_laws.specs.Prelude.{AreCells, Cells, plain, Acted, Comes, Fate, Goes, Took, driver_put, is_flush, asked_of, flush_bytes}
+use Rattle.strm_laws.specs.Prelude.{flush_message, is_bare_flush, head_put, Message, has_parts, map_message, put_among, is_closed, is_open, other}
+use Rattle.strm_laws.specs.Prelude.{PutsAgree, map_acted, map_carried, map_fate, map_took, Queue, map_queue}
 use Rattle.strm_types.specs.declared.names.Place.TheVariants as places
-use Rattle.strm_types.specs.declared.names.QueueName.{QueueName}
-use Rattle.strm_types.specs.declared.names.Side.{Side}
-use Rattle.strm_types.specs.declared.names.Side.TheVariants.{Master, Slave}
-use Rattle.strm_types.specs.declared.names.Way.{Way}
-use Rattle.strm_types.specs.declared.names.Way.TheVariants.{Up, Down}
-use Rattle.strm_types.specs.declared.spots.Note.{Note}
-use Rattle.strm_types.specs.declared.spots.Spot.{Spot}
-use Rattle.strm_types.specs.Books.{with_made}
-use Rattle.strm_types.specs.Cells.{AreCells, Cells, plain}
-use Rattle.strm_types.specs.Deliver.{Acted, Comes, Fate, Goes, Took}
-use Rattle.strm_types.specs.Drivers.{driver_put}
 use Rattle.strm_laws.specs.Earlier.{driver_place, modules_on, places_of}
-use Rattle.strm_types.specs.Flushing.{is_flush, asked_of, flush_bytes, flush_message, is_bare_flush}
-use Rattle.strm_types.specs.Heads.{head_put}
-use Rattle.strm_types.specs.Message.{Message, has_parts, map_message}
-use Rattle.strm_types.specs.Modules.{put_among}
-use Rattle.strm_types.specs.Names.{is_closed, is_open, other}
-use Rattle.strm_types.specs.Origins.{PutsAgree, map_acted, map_carried, map_fate, map_took}
 use Rattle.strm_laws.specs.Puts.{booked, delivered, earlier_at, flushed_on, made_above, module_acted, noted, passed_up, put_at_driver, put_at_head, put_at_module, put_behind, put_below, put_in}
-use Rattle.strm_types.specs.Queue.{Queue, map_queue}
 use Rattle.strm_laws.specs.Stacked.{Standing, map_module, module_puts}
 use Rattle.strm_laws.specs.State.{State, Stream, book, stream, with_book, with_stream, with_driver_queue, map_state, map_stream}
 use Rattle.strm_laws.proofs.DeliveryForgets.{carried-agrees}
@@ -36,7 +17,6 @@ use Rattle.strm_laws.proofs.Forgetting.{cells-forget, kind-forgets}
 use Rattle.strm_laws.proofs.ModulePuts.{among-forgets}
 use Rattle.strm_laws.proofs.Noted.{noted-same}
 use Rattle.strm_laws.proofs.PutForgets.{driver_put-forgets, flush-forgets, head_put-forgets, parts-forget}
-use Rattle.strm_types.proofs.BySide.{map-set}
 
 -- a pair whose driver of a side has had a message, with these queues enabled
 abbrev driver_took : {E : Type 0} → Side → Acted E (Queue E) → List QueueName → State E → Took E (State E)

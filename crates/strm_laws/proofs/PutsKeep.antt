@@ -1,36 +1,20 @@
 -- A put in a pair loses no cell, makes none that it doesn't tell, and leaves a side that isn't open nothing to be read.
-use Rattle.std.proofs.Common.{ℕ, zero, suc, ◌≡◌, ◌<◌, ◌≤◌, ◌+◌, ◌-◌, Bool, true, false, cond, List, [], ◌∷◌, length, refl, ap, ◌∙◌, arith}
-use Rattle.std.specs.Prelude.{◌==◌, ◌&&◌, not, min, nat_le}
-use Rattle.std.proofs.lemmas.Bool.Decides.{nat_tests}
-use Rattle.strm_types.specs.declared.limits.TheConstants.{MODULES}
-use Rattle.strm_types.specs.declared.names.Side.{Side}
-use Rattle.strm_types.specs.declared.names.Way.{Way}
-use Rattle.strm_types.specs.declared.names.Way.TheVariants.{Up, Down}
-use Rattle.strm_types.specs.declared.spots.Spot.{Spot}
-use Rattle.strm_types.specs.declared.names.Dir.{Dir}
-use Rattle.strm_types.specs.Books.{with_made}
-use Rattle.strm_types.specs.Cells.{Cells}
-use Rattle.strm_types.specs.Deliver.{Acted, Comes, Fate, Goes, Took}
+use Rattle.strm_laws.proofs.Prelude.{ℕ, zero, suc, ◌≡◌, ◌<◌, ◌≤◌, ◌+◌, ◌-◌, Bool, true, false, cond, List, [], ◌∷◌, length, refl, ap, ◌∙◌, arith}
+use Rattle.strm_laws.proofs.Prelude.{◌==◌, ◌&&◌, not, min, nat_le, nat_tests, weight-whole, set-all}
+use Rattle.strm_laws.specs.Prelude.{MODULES, Side, Way, Up, Down, Spot, Dir, with_made, Cells, Acted, Comes, Fate, Goes, Took, is_flush}
+use Rattle.strm_laws.specs.Prelude.{is_bare_flush, Message, has_parts, weight_of, direction_at, is_open, put_among, head_put, driver_put}
 use Rattle.strm_laws.specs.Earlier.{driver_place, modules_on}
-use Rattle.strm_types.specs.Flushing.{is_flush, is_bare_flush}
 use Rattle.strm_laws.specs.Kept.{state_weight}
-use Rattle.strm_types.specs.Message.{Message, has_parts, weight_of}
-use Rattle.strm_types.specs.Names.{direction_at, is_open}
 use Rattle.strm_laws.specs.Places.{PutKeeps, direction_to, way_to, weight_sent, weight_gone, weight_made}
 use Rattle.strm_laws.specs.Puts.{SameButMade, across_of, booked, made_above, module_acted, put_at_driver, put_at_head, put_at_module, put_behind, put_below, put_in}
-use Rattle.strm_types.specs.Modules.{put_among}
 use Rattle.strm_laws.specs.Stacked.{Standing, module_puts, modules_weight}
 use Rattle.strm_laws.specs.State.{State, stream, with_book, with_stream, book, Stream, with_driver_queue}
 use Rattle.strm_laws.proofs.ModulePuts.{among-keeps}
 use Rattle.strm_laws.proofs.LdtermKeeps.{way-up}
 use Rattle.strm_laws.proofs.PutParts.{Stays, either-holds, waiting, NamesHold}
 use Rattle.strm_laws.proofs.PutWeights.{driver_put-keeps, head_put-keeps, no-parts}
-use Rattle.strm_types.proofs.Weights.{weight-whole}
 use Rattle.strm_laws.proofs.StreamWeights.{stream-weighs}
-use Rattle.strm_types.proofs.BySide.{set-all}
 use Rattle.strm_laws.proofs.PutsBook.{more-written}
-use Rattle.strm_types.specs.Heads.{head_put}
-use Rattle.strm_types.specs.Drivers.{driver_put}
 
 -- a place below the head, and one at which a module stands
 pub not-head : (at : ℕ) → (at == 0) ≡ false → 0 < at

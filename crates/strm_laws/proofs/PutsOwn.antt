@@ -1,15 +1,7 @@
 -- How many blocks the tables say that a put in a pair takes at most, at each place.
-use Rattle.std.proofs.Common.{ℕ, zero, suc, ◌≡◌, ◌<◌, ◌≤◌, ◌-◌, Bool, true, false, cond, List, [], ◌∷◌, map, refl, sym, ap, ◌∙◌, arith}
-use Rattle.std.specs.Prelude.{◌==◌, nat_le, slice_index_or}
-use Rattle.std.proofs.lemmas.Bool.Decides.{nat_tests}
-use Rattle.strm_types.specs.declared.limits.TheConstants.{MODULES}
-use Rattle.strm_types.specs.declared.names.ModuleName.{ModuleName}
-use Rattle.strm_types.specs.declared.spots.Spot.{Spot}
-use Rattle.strm_types.specs.Budgets.{Does}
-use Rattle.strm_types.specs.Message.{Message}
-use Rattle.strm_types.specs.ModuleQueues.{at_place}
-use Rattle.strm_types.specs.Shapes.{Shape, shape_of}
-use Rattle.strm_types.specs.Tables.{head_does}
+use Rattle.strm_laws.proofs.Prelude.{ℕ, zero, suc, ◌≡◌, ◌<◌, ◌≤◌, ◌-◌, Bool, true, false, cond, List, [], ◌∷◌, map, refl, sym, ap, ◌∙◌, arith, ◌==◌}
+use Rattle.strm_laws.proofs.Prelude.{nat_le, slice_index_or, nat_tests}
+use Rattle.strm_laws.specs.Prelude.{MODULES, ModuleName, Spot, Does, Message, at_place, Shape, shape_of, head_does}
 use Rattle.strm_types.proofs.PcktWithin.{makes-own}
 use Rattle.strm_laws.specs.Earlier.{modules_on}
 use Rattle.strm_laws.specs.SideCosts.{SideAt, SideCosts, behind_costs, costs, does_among, front_on, fronts, place_costs, side_does}

@@ -1,34 +1,16 @@
 -- What a put in a pair sends on is within what its tables say, at each place.
-use Rattle.std.proofs.Common.{ℕ, zero, suc, ◌≡◌, ◌<◌, ◌≤◌, ◌-◌, Bool, true, false, cond, List, [], ◌∷◌, ◌++◌, length, map, refl, sym, ap, subst, ◌∙◌, arith}
-use Rattle.std.specs.Prelude.{◌==◌, ◌&&◌, ◌||◌, min, nat_le, sum_by, take, Option, None, Some}
-use Rattle.std.proofs.lemmas.Bool.Decides.{nat_tests}
-use Rattle.std.proofs.lemmas.List.{length-map, length-take}
-use Rattle.std.proofs.lemmas.List.Sums.{sum_by-cons}
-use Rattle.strm_types.specs.declared.flushing.FlushAsked.{FlushAsked}
-use Rattle.strm_types.specs.declared.ioctls.Ioc.{Ioc}
-use Rattle.strm_types.specs.declared.kinds.MsgKind.{MsgKind}
-use Rattle.strm_types.specs.declared.kinds.MsgKind.TheVariants.{Flush, Ioctl}
-use Rattle.strm_types.specs.declared.limits.TheConstants.{MODULES}
-use Rattle.strm_types.specs.declared.names.ModuleName.{ModuleName}
-use Rattle.strm_types.specs.declared.names.Side.{Side}
-use Rattle.strm_types.specs.declared.names.Way.{Way}
-use Rattle.strm_types.specs.declared.names.Way.TheVariants.{Up, Down}
-use Rattle.strm_types.specs.declared.spots.Across.{Across}
-use Rattle.strm_types.specs.declared.spots.Spot.{Spot}
-use Rattle.strm_types.specs.Budgets.{Costed, Within, cost_of, emits_at, next_at}
-use Rattle.strm_types.specs.Cells.{Cells}
-use Rattle.strm_types.specs.Deliver.{Parcel, Took, toward}
-use Rattle.strm_types.specs.Drivers.{answered, bottom_across, crosses, driver_across, driver_put, freed, ioctl_put, own_flushed, put_across, put_down, reader_flush, taken_in}
-use Rattle.strm_types.specs.Flushing.{asked_by, flush_bytes, flush_message, is_bare_flush, read_flush}
-use Rattle.strm_types.specs.Heads.{Head, head_put, is_doubled, nak_down, obeyed, turned_round, waits_for_readers}
-use Rattle.strm_types.specs.Ioctls.{nak_message, read_ioc}
-use Rattle.strm_types.specs.Message.{Message, has_parts}
-use Rattle.strm_types.specs.Modules.{put_among}
-use Rattle.strm_types.specs.Names.{is_master, is_open, other}
-use Rattle.strm_types.specs.Queue.{Queue}
-use Rattle.strm_types.specs.Shapes.{At, Shape, Asking, FlushR, FlushW, FlushRW, Passing, bare_shape, flush_shape, is_flushing, shape_by, shape_of}
-use Rattle.strm_types.specs.Tables.{ToDriver, ToReaders, driver_does, head_does, name_does}
-use Rattle.strm_types.proofs.BySide.{get-map}
+use Rattle.strm_laws.proofs.Prelude.{ℕ, zero, suc, ◌≡◌, ◌<◌, ◌≤◌, ◌-◌, Bool, true, false, cond, List, [], ◌∷◌, ◌++◌, length, map, refl, sym, ap}
+use Rattle.strm_laws.proofs.Prelude.{subst, ◌∙◌, arith, ◌==◌, ◌&&◌, ◌||◌, min, nat_le, sum_by, Option, None, Some, nat_tests, length-map, length-take}
+use Rattle.strm_laws.proofs.Prelude.{sum_by-cons, get-map}
+use Rattle.strm_laws.specs.Prelude.{FlushAsked, Ioc, MsgKind, Flush, Ioctl, MODULES, ModuleName, Side, Way, Up, Down, Across, Spot, Costed, Within}
+use Rattle.strm_laws.specs.Prelude.{cost_of, emits_at, next_at, Cells, Parcel, Took, toward, answered, bottom_across, crosses, driver_across}
+use Rattle.strm_laws.specs.Prelude.{driver_put, freed, ioctl_put, own_flushed, put_across, put_down, reader_flush, taken_in, asked_by, flush_bytes}
+use Rattle.strm_laws.specs.Prelude.{flush_message, is_bare_flush, read_flush, Head, head_put, is_doubled, nak_down, obeyed, turned_round}
+use Rattle.strm_laws.specs.Prelude.{waits_for_readers, nak_message, read_ioc, Message, has_parts, put_among, is_master, is_open, other, Queue, At}
+use Rattle.strm_laws.specs.Prelude.{Shape, Asking, FlushR, FlushW, FlushRW, Passing, is_flushing, shape_by, shape_of, ToDriver, ToReaders}
+use Rattle.strm_laws.specs.Prelude.{driver_does, head_does, name_does}
+use Rattle.std.specs.Prelude.{take}
+use Rattle.strm_types.specs.Shapes.{bare_shape, flush_shape}
 use Rattle.strm_types.proofs.CostsOf.{both-cost, cost-one, none-few, one-few, sent-none}
 use Rattle.strm_types.proofs.ShapesOf.{reads-shape, same-flushing, writes-shape}
 use Rattle.strm_laws.specs.Earlier.{driver_place, modules_on}

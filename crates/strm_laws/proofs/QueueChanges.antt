@@ -1,18 +1,9 @@
 -- A change of a module's queue begins no turn, and where it leaves the messages that stand there, it loses no cell.
-use Rattle.std.proofs.Common.{ℕ, zero, suc, ◌≡◌, Bool, List, [], ◌∷◌, refl, ap, arith, ◌+◌}
-use Rattle.std.proofs.lemmas.List.Sums.{sum_by-cons}
-use Rattle.strm_types.specs.declared.names.Side.{Side}
-use Rattle.strm_types.specs.declared.names.Way.{Way}
-use Rattle.strm_types.specs.declared.names.Way.TheVariants.{Up, Down}
-use Rattle.strm_types.specs.declared.names.Dir.{Dir}
-use Rattle.strm_types.specs.Names.{direction_at}
-use Rattle.strm_types.specs.Message.{Message}
-use Rattle.strm_types.specs.Standings.{queue_changed, QueuePair, pair_changed}
-use Rattle.strm_types.specs.Modules.{change_among}
-use Rattle.strm_types.specs.Queue.{Queue, weight}
+use Rattle.strm_laws.proofs.Prelude.{ℕ, zero, suc, ◌≡◌, Bool, List, [], ◌∷◌, refl, ap, arith, ◌+◌, sum_by-cons, Option, None, Some, option_map}
+use Rattle.strm_laws.specs.Prelude.{Side, Way, Up, Down, Dir, direction_at, Message, queue_changed, QueuePair, pair_changed, change_among, Queue}
+use Rattle.strm_laws.specs.Prelude.{weight}
 use Rattle.strm_laws.specs.Stacked.{Standing, module_weight, modules_weight, queues_weight, kind_weight}
 use Rattle.strm_laws.proofs.ModulesIdle.{AllIdle}
-use Rattle.std.specs.Prelude.{Option, None, Some, option_map}
 
 module _ {C : Type 0} (change : Queue C → Queue C) where
   -- the queue of a way changes so

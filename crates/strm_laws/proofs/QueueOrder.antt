@@ -1,22 +1,12 @@
 -- The messages of a queue stay in order of rank where some are taken, where others come, and where its last one grows.
-use Rattle.std.proofs.Common.{ℕ, ◌≤◌, Bool, true, false, cond, List, [], ◌∷◌, ◌++◌, length, sym, subst, arith, append-nil}
+use Rattle.strm_laws.proofs.Prelude.{ℕ, ◌≤◌, Bool, true, false, cond, List, [], ◌∷◌, ◌++◌, length, sym, subst, arith, append-nil, ◌==◌, ◌||◌, not}
+use Rattle.strm_laws.proofs.Prelude.{nat_lt, of-each, Ordered-put_back}
+use Rattle.strm_laws.specs.Prelude.{ControlMode, ReadMode, ByteStream, MessageKeep, MessageDiscard, Wanted, Spot, Cells, Choice, stayed, got_none}
+use Rattle.strm_laws.specs.Prelude.{head_get, is_wanted, left_behind, parts_of, Message, cells_of, data_message, is_high_priority, part, rank_of}
+use Rattle.strm_laws.specs.Prelude.{IsOrdered, Drawn, all_cells, and_more, control_gone, drawn, emptied_of, front_of, is_passed, is_refused, no_cells}
+use Rattle.strm_laws.specs.Prelude.{offered, rest_after, shown, stopped, wanted_after, grown}
 use Rattle.std.proofs.Math.Seq.{append_snoc}
-use Rattle.std.specs.Prelude.{◌==◌, ◌||◌, not, nat_lt}
 use Rattle.std.specs.List.{AllByRecursion}
-use Rattle.strm_types.specs.declared.modes.ControlMode.{ControlMode}
-use Rattle.strm_types.specs.declared.modes.ReadMode.{ReadMode}
-use Rattle.strm_types.specs.declared.modes.ReadMode.TheVariants.{ByteStream, MessageKeep, MessageDiscard}
-use Rattle.strm_types.specs.declared.modes.Wanted.{Wanted}
-use Rattle.strm_types.specs.declared.spots.Spot.{Spot}
-use Rattle.strm_types.specs.Cells.{Cells}
-use Rattle.strm_types.specs.Emptied.{Choice, stayed}
-use Rattle.strm_types.specs.Gets.{got_none, head_get, is_wanted, left_behind, parts_of}
-use Rattle.strm_types.specs.Message.{Message, cells_of, data_message, is_high_priority, part, rank_of}
-use Rattle.strm_types.specs.Queue.{IsOrdered}
-use Rattle.strm_types.specs.Reads.{Drawn, all_cells, and_more, control_gone, drawn, emptied_of, front_of, is_passed, is_refused, no_cells, offered, rest_after, shown, stopped, wanted_after}
-use Rattle.strm_types.specs.Typing.{grown}
-use Rattle.strm_types.proofs.Drawing.{of-each}
-use Rattle.strm_types.proofs.Ranked.{Ordered-put_back}
 
 module _ {C : Type 0} where
   -- what holds of all messages of a queue holds of those that stay

@@ -1,16 +1,13 @@
 -- Forgetting the origins of cells commutes with reads and gets.
-use Rattle.std.proofs.Common.{ℕ, ◌≡◌, ◌-◌, Bool, true, false, cond, List, [], ◌∷◌, ◌++◌, length, map, take, drop, refl, sym, ap, ◌∙◌}
-use Rattle.std.specs.Prelude.{◌==◌, ◌||◌, ◌&&◌, nat_lt, Option, None, Some, option_map}
-use Rattle.std.proofs.lemmas.List.{take-map, drop-map, length-map, map-append}
-use Rattle.strm_types.specs.declared.modes.ReadMode.{ReadMode}
-use Rattle.strm_types.specs.declared.modes.ReadMode.TheVariants.{ByteStream, MessageKeep, MessageDiscard}
-use Rattle.strm_types.specs.declared.modes.ControlMode.{ControlMode}
-use Rattle.strm_types.specs.declared.modes.ControlMode.TheVariants.{Refuse, Data, Discard}
-use Rattle.strm_types.specs.declared.names.Dir.{Dir}
-use Rattle.strm_types.specs.Message.{Message, part, cells_of, band_of, map_message}
-use Rattle.strm_types.specs.Origins.{map_fate}
-use Rattle.strm_types.specs.Queue.{Queue, put_back, left_with, relieved, map_messages, map_queue}
-use Rattle.strm_types.specs.Reads.{Drawn, is_there, part_left, no_cells, stopped, emptied_of, front_of, and_more, drawn, head_draw, shown, offered, control_gone, all_cells, rest_with, rest_after, is_refused, is_passed, wanted_after, finds_none, starts_refused, read_refusal, takes_none, none_went, queue_drawn, read_fates, read_gone, read_queue, writer_goes, read_lets_go, map_drawn}
+use Rattle.strm_laws.proofs.Prelude.{ℕ, ◌≡◌, ◌-◌, Bool, true, false, cond, List, [], ◌∷◌, ◌++◌, length, map, take, drop, refl, sym, ap, ◌∙◌, ◌==◌}
+use Rattle.strm_laws.proofs.Prelude.{◌||◌, ◌&&◌, nat_lt, Option, None, Some, option_map, take-map, drop-map, length-map, map-append}
+use Rattle.strm_laws.specs.Prelude.{ReadMode, ByteStream, MessageKeep, MessageDiscard, ControlMode, Refuse, Discard, Dir, Message, part, cells_of}
+use Rattle.strm_laws.specs.Prelude.{band_of, map_message, map_fate, Queue, put_back, left_with, relieved, map_messages, map_queue, Drawn, no_cells}
+use Rattle.strm_laws.specs.Prelude.{stopped, emptied_of, front_of, and_more, drawn, head_draw, shown, offered, control_gone, all_cells, rest_with}
+use Rattle.strm_laws.specs.Prelude.{rest_after, is_refused, is_passed, wanted_after, read_refusal, takes_none, none_went, queue_drawn, read_fates}
+use Rattle.strm_laws.specs.Prelude.{read_gone, read_queue, read_lets_go}
+use Rattle.strm_types.specs.declared.modes.ControlMode.TheVariants.{Data}
+use Rattle.strm_types.specs.Reads.{is_there, part_left, finds_none, starts_refused, writer_goes, map_drawn}
 use Rattle.strm_laws.proofs.Forgetting.{cells-forget, put_back-forgets, relieved-forgets, relieves_from-forgets}
 use Rattle.strm_types.proofs.Drawing.{ended, ended-agrees}
 

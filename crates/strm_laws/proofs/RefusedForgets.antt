@@ -1,40 +1,19 @@
 -- Whatever stands for bytes, a call is refused for the same, a turn goes on or not, and a journal is legal or not.
-use Rattle.std.proofs.Common.{ℕ, ◌≡◌, Bool, cond, List, [], ◌∷◌, map, refl, sym, ap, subst, ◌∙◌}
-use Rattle.std.specs.Prelude.{◌&&◌, ◌||◌, not, is_some, option_map, Option, None, Some}
+use Rattle.strm_laws.proofs.Prelude.{ℕ, ◌≡◌, Bool, cond, List, [], ◌∷◌, map, refl, sym, ap, subst, ◌∙◌, ◌&&◌, ◌||◌, not, is_some, option_map, Option}
+use Rattle.strm_laws.proofs.Prelude.{None, Some, length-map}
+use Rattle.strm_laws.specs.Prelude.{Called, Turned, Caller, Push, Pop, Look, Write, Read, Put, Get, IoctlResult, Prio, Wanted, ModuleName, Side}
+use Rattle.strm_laws.specs.Prelude.{Master, Slave, Up, Down, Reach, Eagain, Einval, Enxio, Erange, Request, AreCells, Cells, plain, tagged, is_held}
+use Rattle.strm_laws.specs.Prelude.{Message, get_refusal, refusal_behind, PlainEntry, QueuePair, map_pair, messages_at, messages_on, may_push, stands}
+use Rattle.strm_laws.specs.Prelude.{is_closed, is_master, is_open, same_module, no_parts, put_waits, map_messages, read_refusal, needs, has_no_data}
+use Rattle.strm_laws.specs.Prelude.{or_else, unless, is_free, result_refusal}
 use Rattle.std.specs.List.{list_any}
-use Rattle.std.proofs.lemmas.List.{length-map}
-use Rattle.strm_types.specs.declared.entries.Entry.TheVariants.{Called, Turned}
-use Rattle.strm_types.specs.declared.events.Caller.{Caller}
-use Rattle.strm_types.specs.declared.events.Event.TheVariants.{Push, Pop, Look, Write, Read, Put, Get, Ioctl, IoctlResult}
-use Rattle.strm_types.specs.declared.modes.Prio.{Prio}
+use Rattle.strm_types.specs.declared.events.Event.TheVariants.{Ioctl}
 use Rattle.strm_types.specs.declared.modes.Prio.TheVariants as prios
-use Rattle.strm_types.specs.declared.modes.Wanted.{Wanted}
-use Rattle.strm_types.specs.declared.names.ModuleName.{ModuleName}
-use Rattle.strm_types.specs.declared.names.Side.{Side}
-use Rattle.strm_types.specs.declared.names.Side.TheVariants.{Master, Slave}
-use Rattle.strm_types.specs.declared.names.Way.TheVariants.{Up, Down}
-use Rattle.strm_types.specs.declared.needs.Reach.{Reach}
 use Rattle.strm_types.specs.declared.needs.Reach.TheVariants as reaches
-use Rattle.strm_types.specs.declared.refusals.Refusal.TheVariants.{Eagain, Einval, Enxio, Erange}
-use Rattle.strm_types.specs.Events.{Request}
-use Rattle.strm_types.specs.Cells.{AreCells, Cells, plain, tagged}
-use Rattle.strm_types.specs.Message.{is_held, Message}
-use Rattle.strm_types.specs.Gets.{get_refusal}
-use Rattle.strm_types.specs.JobControl.{refusal_behind}
-use Rattle.strm_types.specs.Journal.{PlainEntry}
-use Rattle.strm_types.specs.Standings.{QueuePair, map_pair, messages_at, messages_on}
-use Rattle.strm_types.specs.Modules.{may_push, stands}
-use Rattle.strm_types.specs.Names.{is_closed, is_master, is_open, same_module}
-use Rattle.strm_types.specs.PutMsg.{no_parts, put_waits}
 use Rattle.strm_laws.specs.Based.{based}
 use Rattle.strm_laws.specs.Kept.{AreIdle}
 use Rattle.strm_laws.specs.Pushes.{may_stand, named_by}
-use Rattle.strm_types.specs.Queue.{map_messages}
-use Rattle.strm_types.specs.Reads.{read_refusal}
-use Rattle.strm_types.specs.Needs.{needs}
 use Rattle.strm_laws.specs.Refusals.{at_end, goes_down, in_range, is_numbered, is_reached, hold, refused_at_once, refused_by_state, unfit}
-use Rattle.strm_types.specs.Refused.{has_no_data, or_else, unless}
-use Rattle.strm_types.specs.Slots.{is_free, result_refusal}
 use Rattle.strm_laws.specs.Stacked.{Standing, map_module, module_name}
 use Rattle.strm_laws.specs.State.{State, map_state, stream}
 use Rattle.strm_laws.specs.Step.{IsLegal, Step, after}

@@ -1,22 +1,10 @@
 -- Replaying longer journals, and what a call or a turn that isn't refused is.
-use Rattle.std.proofs.Common.{◌≡◌, Bool, true, false, List, [], ◌∷◌, ◌++◌, length, refl, sym, ap, subst, ◌∙◌}
-use Rattle.std.specs.Prelude.{Option, None, Some, Result, Err, IsOk, MatchOption, ◌+◌, not, ◌||◌}
-use Rattle.strm_types.specs.declared.events.Caller.{Caller}
-use Rattle.strm_types.specs.declared.limits.Config.{Config}
-use Rattle.strm_types.specs.declared.names.QueueName.{QueueName}
-use Rattle.strm_types.specs.declared.refusals.Refusal.{Refusal}
-use Rattle.strm_types.specs.declared.refusals.Refusal.TheVariants.{Einval, Enosr, Enxio, Erange, JournalFull}
-use Rattle.strm_types.specs.declared.names.Side.{Side}
-use Rattle.strm_types.specs.declared.needs.Needs.{Needs}
-use Rattle.strm_types.specs.Names.{is_enabled, is_master}
-use Rattle.strm_types.specs.Needs.{needs}
+use Rattle.strm_laws.proofs.Prelude.{◌≡◌, Bool, true, false, List, [], ◌∷◌, ◌++◌, length, refl, sym, ap, subst, ◌∙◌, Option, None, Some, not, ◌||◌}
+use Rattle.strm_laws.specs.Prelude.{Caller, Config, QueueName, Refusal, Einval, Enosr, Enxio, Erange, JournalFull, Side, Needs, is_enabled, is_master}
+use Rattle.strm_laws.specs.Prelude.{needs, Request, payload_of, Called, Turned, Cells, PlainEntry, content_max, or_else, unless}
+use Rattle.std.specs.Prelude.{Result, Err, IsOk, MatchOption, ◌+◌}
 use Rattle.strm_laws.specs.State.{State}
-use Rattle.strm_types.specs.Events.{Request, payload_of}
-use Rattle.strm_types.specs.declared.entries.Entry.TheVariants.{Called, Turned}
-use Rattle.strm_types.specs.Cells.{Cells}
-use Rattle.strm_types.specs.Journal.{PlainEntry, content_max}
 use Rattle.strm_laws.specs.Refusals.{in_range, is_numbered, is_reached, has_room, refused, refused_at_once, refused_by_state, turn_refused, unfit, unmet}
-use Rattle.strm_types.specs.Refused.{or_else, unless}
 use Rattle.strm_laws.specs.Step.{Step, after, replay, IsLegal}
 
 module _ {C : Type 0} (cells : Cells C) where

@@ -1,20 +1,11 @@
 -- What a message that is put at a spot comes to, in moves of messages, and that a delivery adds no more than it.
-use Rattle.std.proofs.Common.{ℕ, zero, suc, ◌≡◌, ◌≤◌, ◌+◌, ◌-◌, ◌*◌, Bool, true, false, cond, List, [], ◌∷◌, length, refl, arith}
-use Rattle.std.specs.Prelude.{◌&&◌, nat_le}
-use Rattle.std.proofs.lemmas.Bool.Decides.{nat_tests}
-use Rattle.strm_types.specs.declared.kinds.MsgKind.{MsgKind}
-use Rattle.strm_types.specs.declared.kinds.MsgKind.TheVariants.{Data, Proto, Ioctl}
-use Rattle.strm_types.specs.declared.names.Side.{Side}
-use Rattle.strm_types.specs.declared.names.Way.{Way}
-use Rattle.strm_types.specs.declared.names.Way.TheVariants.{Up, Down}
-use Rattle.strm_types.specs.declared.spots.Spot.{Spot}
-use Rattle.strm_types.specs.Deliver.{Carried, Parcel, Took, carried, in_turn, toward}
-use Rattle.strm_types.specs.Flushing.{is_bare_flush}
-use Rattle.strm_types.specs.Message.{Message, cells_of}
-use Rattle.strm_types.specs.Names.{other}
+use Rattle.strm_laws.proofs.Prelude.{ℕ, zero, suc, ◌≡◌, ◌≤◌, ◌+◌, ◌-◌, ◌*◌, Bool, true, false, cond, List, [], ◌∷◌, length, refl, arith, ◌&&◌, nat_le}
+use Rattle.strm_laws.proofs.Prelude.{nat_tests, PutHolds, carried-holds}
+use Rattle.strm_laws.specs.Prelude.{MsgKind, Data, Proto, Ioctl, Side, Way, Up, Down, Spot, Carried, Parcel, Took, carried, in_turn, toward}
+use Rattle.strm_laws.specs.Prelude.{is_bare_flush, Message, cells_of, other}
 use Rattle.strm_laws.specs.Rest.{echoes, moves_above, moves_across}
 use Rattle.strm_laws.specs.StackCosts.{Stands}
-use Rattle.strm_types.proofs.DeliveryHolds.{CarryHolds, PutHolds, carried-holds}
+use Rattle.strm_types.proofs.DeliveryHolds.{CarryHolds}
 
 -- what several messages cost
 abbrev pub costs : {C : Type 0} → (Spot → Message C → ℕ) → List (Parcel C) → ℕ

@@ -1,35 +1,15 @@
 -- A put at ldterm adds no more moves than its message costs, where it is the one ldterm of a pair.
-use Rattle.std.proofs.Common.{ℕ, suc, ◌≡◌, ◌≤◌, ◌<◌, ◌+◌, ◌-◌, ◌*◌, Bool, true, false, cond, List, [], ◌∷◌, ◌++◌, length, refl, ap, ◌∙◌, arith}
-use Rattle.std.specs.Prelude.{◌&&◌, ◌||◌, ◌==◌, not, nat_le, None}
-use Rattle.std.proofs.lemmas.Bool.Decides.{nat_tests}
-use Rattle.strm_types.specs.declared.flushing.FlushAsked.{FlushAsked}
-use Rattle.strm_types.specs.declared.ioctls.TheConstants.{TCSETSF}
-use Rattle.strm_types.specs.declared.kinds.MsgKind.{MsgKind}
-use Rattle.strm_types.specs.declared.kinds.MsgKind.TheVariants.{Data, Proto, Ioctl}
-use Rattle.strm_types.specs.declared.names.Side.{Side}
-use Rattle.strm_types.specs.declared.names.Way.{Way}
-use Rattle.strm_types.specs.declared.names.Way.TheVariants.{Up, Down}
-use Rattle.strm_types.specs.declared.rules.Rule.TheVariants.{Flushed}
-use Rattle.strm_types.specs.declared.spots.Spot.{Spot}
-use Rattle.strm_types.specs.declared.termios.Termios.{Termios}
-use Rattle.strm_types.specs.Commands.{is_ioctl}
-use Rattle.strm_types.specs.Deliver.{Acted, Parcel, onward}
-use Rattle.strm_types.specs.Emptied.{of_data}
-use Rattle.strm_types.specs.Flushing.{asked_by, flush_message, is_flush, read_flush}
-use Rattle.strm_types.specs.Ioctls.{read_ioc}
-use Rattle.strm_types.specs.LdtermPuts.{ldterm_puts, waits_behind, waits_on}
-use Rattle.strm_types.specs.Ldterms.{Discipline, both, flush_passes, line_flushed, queue_flushed, queued_at, read_flushed, sends, takes_band_0, waits_there, without_line, write_flushed}
-use Rattle.strm_types.specs.Message.{Message, cells_of, data_message, has_parts, rank_of}
-use Rattle.strm_types.specs.Names.{other}
-use Rattle.strm_types.specs.Options.{mode_message}
-use Rattle.strm_types.specs.Service.{line_gone}
-use Rattle.strm_types.specs.TakenUp.{ends_lines, input_flushed, line_up, read_mode_of, taken_up, termios_taken}
-use Rattle.strm_types.specs.Termios.{tostop}
-use Rattle.strm_types.specs.Typing.{up_alone}
+use Rattle.strm_laws.proofs.Prelude.{ℕ, suc, ◌≡◌, ◌≤◌, ◌<◌, ◌+◌, ◌-◌, ◌*◌, Bool, true, false, cond, List, [], ◌∷◌, ◌++◌, length, refl, ap, ◌∙◌, arith}
+use Rattle.strm_laws.proofs.Prelude.{◌&&◌, ◌||◌, ◌==◌, not, nat_le, None, nat_tests, either, sum-put}
+use Rattle.strm_laws.specs.Prelude.{FlushAsked, TCSETSF, MsgKind, Data, Proto, Ioctl, Side, Way, Up, Down, Flushed, Spot, Termios, is_ioctl, Acted}
+use Rattle.strm_laws.specs.Prelude.{Parcel, onward, of_data, asked_by, flush_message, is_flush, read_flush, read_ioc, ldterm_puts, waits_behind}
+use Rattle.strm_laws.specs.Prelude.{waits_on, Discipline, both, flush_passes, line_flushed, queue_flushed, queued_at, read_flushed, sends}
+use Rattle.strm_laws.specs.Prelude.{takes_band_0, waits_there, without_line, write_flushed, Message, cells_of, data_message, has_parts, rank_of}
+use Rattle.strm_laws.specs.Prelude.{other, mode_message, line_gone, ends_lines, input_flushed, line_up, read_mode_of, taken_up, termios_taken, tostop}
+use Rattle.strm_laws.specs.Prelude.{up_alone}
 use Rattle.strm_laws.specs.Rest.{echoes, ldterm_moves, moves_above, moves_in, moves_out, moves_within}
 use Rattle.strm_laws.specs.StackCosts.{Stands}
-use Rattle.strm_types.proofs.LdtermPuts.{either, puts-each}
-use Rattle.strm_types.proofs.Ranked.{sum-put}
+use Rattle.strm_types.proofs.LdtermPuts.{puts-each}
 use Rattle.strm_laws.proofs.RestCosts.{at_or_above, at_or_below, onward-falls, sinks_by, toll, toll_at}
 use Rattle.strm_laws.proofs.RestPuts.{behind-less, tolls, tolls-both}
 

@@ -1,37 +1,15 @@
 -- A put at a head, at a driver, at ptem and at pckt adds no more moves than its message costs.
-use Rattle.std.proofs.Common.{ℕ, suc, ◌≡◌, ◌≤◌, ◌+◌, ◌-◌, Bool, true, false, cond, List, [], ◌∷◌, ◌++◌, length, refl, ap, ◌∙◌, arith}
-use Rattle.std.specs.Prelude.{◌&&◌, ◌||◌, ◌==◌, not, sum_by, Option, None, Some}
-use Rattle.std.proofs.lemmas.List.Sums.{sum_by-cons}
-use Rattle.strm_types.specs.declared.flushing.FlushAsked.{FlushAsked}
-use Rattle.strm_types.specs.declared.ioctls.Ioc.{Ioc}
-use Rattle.strm_types.specs.declared.kinds.MsgKind.{MsgKind}
-use Rattle.strm_types.specs.declared.kinds.MsgKind.TheVariants.{Flush, Ioctl, Proto}
-use Rattle.strm_types.specs.declared.names.Side.{Side}
-use Rattle.strm_types.specs.declared.names.Way.{Way}
-use Rattle.strm_types.specs.declared.names.Way.TheVariants.{Up, Down}
-use Rattle.strm_types.specs.declared.rules.Rule.TheVariants.{Doubled, EndClosed}
-use Rattle.strm_types.specs.declared.spots.Across.{Across}
-use Rattle.strm_types.specs.declared.spots.Note.TheVariants.{Enable}
-use Rattle.strm_types.specs.declared.spots.Spot.{Spot}
-use Rattle.strm_types.specs.Acks.{ack_message, telling_message}
-use Rattle.strm_types.specs.Cells.{Cells}
-use Rattle.strm_types.specs.Deliver.{Acted, Goes, Parcel, toward, onward}
-use Rattle.strm_types.specs.Drivers.{answered, bottom_across, crosses, driver_across, driver_put, freed, ioctl_put, own_flushed, put_across, put_down, reader_flush, taken_in}
-use Rattle.strm_types.specs.Emptied.{Choice, emptied, none_goes, of_data, queue_behind, stayed}
-use Rattle.strm_types.specs.Flushing.{asked_by, flush_bytes, flush_message, is_bare_flush, is_flush, read_flush}
-use Rattle.strm_types.specs.Heads.{Head, head_put, is_doubled, nak_down, obeyed, passed_by, turned_round, waits_for_readers}
-use Rattle.strm_types.specs.Ioctls.{nak_message, read_ioc}
-use Rattle.strm_types.specs.Message.{Message, cells_of, has_parts}
-use Rattle.strm_types.specs.Names.{direction_at, direction_from, is_master, other}
-use Rattle.strm_types.specs.Pckts.{is_flush_passed, packet, pckt_puts}
-use Rattle.strm_types.specs.Ptems.{Ptem, ptem_puts, signals_up, sigwinch}
-use Rattle.strm_types.specs.Queue.{Queue, put_enables, put_on, relieved}
-use Rattle.strm_types.specs.Winsizes.{same_winsize}
-use Rattle.strm_types.specs.Message.{rank_of}
+use Rattle.strm_laws.proofs.Prelude.{ℕ, suc, ◌≡◌, ◌≤◌, ◌+◌, ◌-◌, Bool, true, false, cond, List, [], ◌∷◌, ◌++◌, length, refl, ap, ◌∙◌, arith, ◌&&◌}
+use Rattle.strm_laws.proofs.Prelude.{◌||◌, ◌==◌, not, sum_by, Option, None, Some, sum_by-cons, passed_made, puts-each as pckt-each, sum-put}
+use Rattle.strm_laws.specs.Prelude.{FlushAsked, Ioc, MsgKind, Flush, Ioctl, Proto, Side, Way, Up, Down, Doubled, EndClosed, Across, Enable, Spot}
+use Rattle.strm_laws.specs.Prelude.{ack_message, telling_message, Cells, Acted, Goes, Parcel, toward, onward, answered, bottom_across, crosses}
+use Rattle.strm_laws.specs.Prelude.{driver_across, driver_put, freed, ioctl_put, own_flushed, put_across, put_down, reader_flush, taken_in, Choice}
+use Rattle.strm_laws.specs.Prelude.{emptied, none_goes, of_data, queue_behind, stayed, asked_by, flush_bytes, flush_message, is_bare_flush, is_flush}
+use Rattle.strm_laws.specs.Prelude.{read_flush, Head, head_put, is_doubled, nak_down, obeyed, passed_by, turned_round, waits_for_readers, nak_message}
+use Rattle.strm_laws.specs.Prelude.{read_ioc, Message, cells_of, has_parts, direction_at, direction_from, is_master, other, is_flush_passed, packet}
+use Rattle.strm_laws.specs.Prelude.{pckt_puts, Ptem, ptem_puts, signals_up, sigwinch, Queue, put_enables, put_on, relieved, same_winsize, rank_of}
 use Rattle.strm_laws.specs.Rest.{echoes, moves_above, moves_across}
 use Rattle.strm_laws.specs.StackCosts.{Stands}
-use Rattle.strm_types.proofs.PcktPuts.{passed_made, puts-each as pckt-each}
-use Rattle.strm_types.proofs.Ranked.{sum-put}
 use Rattle.strm_types.proofs.PtemPuts.{puts-each as ptem-each}
 use Rattle.strm_laws.proofs.PtemPuts.{asked-ioctl}
 use Rattle.strm_laws.proofs.RestCosts.{at_or_above, at_or_below, costs, down-falls, onward-falls, sinks_by, toll, toll_at}

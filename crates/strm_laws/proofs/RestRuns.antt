@@ -1,23 +1,12 @@
 -- Turns one after the other come to rest.
-use Rattle.std.proofs.Common.{ℕ, zero, suc, ◌≡◌, ◌≢◌, ◌≤◌, ◌<◌, ◌+◌, Bool, true, false, List, [], ◌∷◌, length, length-append, refl, sym, ap, subst, ◌∙◌, arith}
-use Rattle.std.specs.Prelude.{◌&&◌, ◌||◌, nat_le, nat_lt, slice_get, Option, None, Some}
-use Rattle.std.proofs.lemmas.Bool.Decides.{nat_tests}
-use Rattle.std.proofs.lemmas.List.Sums.{sum_by-append, sum_by-cons}
-use Rattle.strm_types.specs.declared.entries.Entry.TheVariants.{Turned}
-use Rattle.strm_types.specs.declared.limits.Config.{Config}
-use Rattle.strm_types.specs.declared.limits.TheConstants.{STOP_BLOCKS, TURN_BLOCKS}
-use Rattle.strm_types.specs.declared.names.Place.{Place}
-use Rattle.strm_types.specs.declared.names.Place.TheVariants.{Head, Ldterm, Driver}
-use Rattle.strm_types.specs.declared.names.QueueName.{QueueName}
-use Rattle.strm_types.specs.declared.names.Side.{Side}
-use Rattle.strm_types.specs.declared.names.Side.TheVariants.{Master, Slave}
-use Rattle.strm_types.specs.declared.names.Way.{Way}
-use Rattle.strm_types.specs.declared.names.Way.TheVariants.{Up, Down}
-use Rattle.strm_types.specs.declared.refusals.Refusal.TheVariants.{Einval, Enosr, Erange, JournalFull}
-use Rattle.strm_types.specs.Cells.{plain}
-use Rattle.strm_types.specs.Journal.{PlainEntry, room_of, room_used}
-use Rattle.strm_types.specs.Names.{is_enabled, same_queue}
-use Rattle.strm_types.specs.Refused.{or_else, turn_blocks, unless}
+use Rattle.strm_laws.proofs.Prelude.{ℕ, zero, suc, ◌≡◌, ◌≤◌, ◌<◌, ◌+◌, Bool, true, false, List, [], ◌∷◌, length, length-append, refl, sym, ap, subst}
+use Rattle.strm_laws.proofs.Prelude.{◌∙◌, arith, ◌&&◌, ◌||◌, nat_le, nat_lt, Option, None, Some, nat_tests, sum_by-append, sum_by-cons}
+use Rattle.strm_laws.specs.Prelude.{Turned, Config, STOP_BLOCKS, Place, Ldterm, Driver, QueueName, Side, Master, Slave, Way, Up, Down, Einval, Enosr}
+use Rattle.strm_laws.specs.Prelude.{Erange, JournalFull, plain, PlainEntry, room_of, room_used, is_enabled, same_queue, or_else, turn_blocks, unless}
+use Rattle.std.proofs.Common.{◌≢◌}
+use Rattle.std.specs.Prelude.{slice_get}
+use Rattle.strm_types.specs.declared.limits.TheConstants.{TURN_BLOCKS}
+use Rattle.strm_types.specs.declared.names.Place.TheVariants.{Head}
 use Rattle.strm_laws.specs.Pair.{PairState, RanTurns, next_refused, refused_of}
 use Rattle.strm_laws.specs.Refusals.{Free, enough, has_room, in_range}
 use Rattle.strm_laws.specs.Rest.{EchoesOnce, NoLdterm, work}

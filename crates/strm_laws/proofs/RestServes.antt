@@ -1,45 +1,26 @@
 -- A call of ldterm's service procedure adds no moves, and the first one of a turn leaves fewer: one of the read queue that treats a byte at
 -- least where its message has one, and one of the write queue too.
-use Rattle.std.proofs.Common.{ℕ, zero, suc, ◌≡◌, ◌≤◌, ◌<◌, ◌+◌, ◌-◌, ◌*◌, ◌⊎◌, inl, inr, Bool, true, false, cond, List, [], ◌∷◌, ◌++◌, length, map, take, drop, refl, ap, ◌∙◌, arith}
-use Rattle.std.specs.Prelude.{◌&&◌, not, nat_le, sum_by, Option, None, Some}
+use Rattle.strm_laws.proofs.Prelude.{ℕ, zero, suc, ◌≡◌, ◌≤◌, ◌<◌, ◌+◌, ◌-◌, ◌*◌, ◌⊎◌, inl, inr, Bool, true, false, cond, List, [], ◌∷◌, ◌++◌, length}
+use Rattle.strm_laws.proofs.Prelude.{map, take, drop, refl, ap, ◌∙◌, arith, ◌&&◌, not, nat_le, sum_by, Option, None, Some, nat_tests, length-drop}
+use Rattle.strm_laws.proofs.Prelude.{length-map, sum_by-cons, made-long, sum-put, strikes-stay}
+use Rattle.strm_laws.specs.Prelude.{FlushAsked, LINE_MAX, Key, Stop, Start, Intr, Quit, Susp, Ignored, Eof, Erase, Kill, Werase, Reprint, Lnext}
+use Rattle.strm_laws.specs.Prelude.{Delimiter, Ordinary, MsgKind, Side, Way, Up, Down, Flushed, SignalKey, LineFull, LineOver, Spot, Cells, bytes_of}
+use Rattle.strm_laws.specs.Prelude.{cells_made, Acted, onward, flush_bytes, flush_message, is_bare_flush, back_on, begins_next, cells_left, finished}
+use Rattle.strm_laws.specs.Prelude.{input_begins, is_data, left_of, made_of, next_stage, passes, stage_at, stages, stages_done, treats, restarts}
+use Rattle.strm_laws.specs.Prelude.{ldterm_serves, Answered, Begun, Between, Discipline, Stage, queue_at, sends, waits_there, Types, edited, has_room}
+use Rattle.strm_laws.specs.Prelude.{Message, cells_of, data_message, rank_of, size_of, other, posts as outputs, output_dir, output_serves, posted}
+use Rattle.strm_laws.specs.Prelude.{unchanged, with_given, IsOrdered, Queue, first_size, is_full, is_none_left, left_with, put_back, Serving}
+use Rattle.strm_laws.specs.Prelude.{echo_most, icanon, imaxbel, noflsh, opost, added, bare, begins, both_ways, dropped, echo_dir, echo_grows}
+use Rattle.strm_laws.specs.Prelude.{echo_lost, echo_stands, echoed, gathered_up, grown, is_blank_cell, is_lnext, lost, sigint, signals, sigquit}
+use Rattle.strm_laws.specs.Prelude.{sigtstp, stops, stroke_at, strikes, struck, up_alone}
 use Rattle.std.specs.List.{AllByRecursion}
-use Rattle.std.proofs.lemmas.Bool.Decides.{nat_tests}
-use Rattle.std.proofs.lemmas.List.{length-append, length-drop, length-map}
-use Rattle.std.proofs.lemmas.List.Sums.{sum_by-cons}
-use Rattle.strm_types.specs.declared.flushing.FlushAsked.{FlushAsked}
-use Rattle.strm_types.specs.declared.keys.TheConstants.{LINE_MAX}
-use Rattle.strm_types.specs.declared.keys.Key.{Key}
-use Rattle.strm_types.specs.declared.keys.Key.TheVariants.{Stop, Start, Intr, Quit, Susp, Ignored, Eof, Erase, Kill, Werase, Reprint, Lnext, Delimiter, Ordinary}
-use Rattle.strm_types.specs.declared.kinds.MsgKind.{MsgKind}
+use Rattle.std.proofs.lemmas.List.{length-append}
 use Rattle.strm_types.specs.declared.kinds.MsgKind.TheVariants as kinds
-use Rattle.strm_types.specs.declared.names.Side.{Side}
-use Rattle.strm_types.specs.declared.names.Way.{Way}
-use Rattle.strm_types.specs.declared.names.Way.TheVariants.{Up, Down}
-use Rattle.strm_types.specs.declared.rules.Rule.TheVariants.{Flushed, SignalKey, LineFull, LineOver}
-use Rattle.strm_types.specs.declared.spots.Spot.{Spot}
-use Rattle.strm_types.specs.Cells.{Cells, bytes_of, cells_made}
-use Rattle.strm_types.specs.Deliver.{Acted, onward}
-use Rattle.strm_types.specs.Flushing.{flush_bytes, flush_message, is_bare_flush}
-use Rattle.strm_types.specs.Input.{back_on, begins_next, cells_left, finished, input_begins, is_data, left_of, made_of, next_stage, passes, stage_at, stages, stages_done, treats}
-use Rattle.strm_types.specs.Keys.{restarts}
-use Rattle.strm_types.specs.LdtermServes.{ldterm_serves}
-use Rattle.strm_types.specs.Ldterms.{Answered, Begun, Between, Discipline, Stage, queue_at, sends, waits_there}
-use Rattle.strm_types.specs.Lines.{Types, edited, has_room}
-use Rattle.strm_types.specs.Message.{Message, cells_of, data_message, rank_of, size_of}
-use Rattle.strm_types.specs.Names.{other}
-use Rattle.strm_types.specs.Output.{posts as outputs}
-use Rattle.strm_types.specs.OutputTurns.{output_dir, output_serves, posted, unchanged, with_given}
-use Rattle.strm_types.specs.Queue.{IsOrdered, Queue, first_size, is_full, is_none_left, left_with, put_back}
-use Rattle.strm_types.specs.Service.{Serving, echo_most}
-use Rattle.strm_types.specs.Termios.{icanon, imaxbel, noflsh, opost}
-use Rattle.strm_types.specs.Typing.{added, bare, begins, both_ways, dropped, echo_dir, echo_grows, echo_lost, echo_stands, echoed, gathered_up, grown, is_blank_cell, is_lnext, lost, sigint, signals, sigquit, sigtstp, stops, stroke_at, strikes, struck, up_alone}
 use Rattle.strm_laws.specs.Rest.{byte_moves, echoes, ldterm_moves, moves_above, moves_across, moves_in, moves_in_work, moves_out, moves_within}
 use Rattle.strm_laws.specs.Restorable.{StandsOn}
 use Rattle.strm_laws.specs.StackCosts.{Stands}
 use Rattle.strm_types.proofs.EchoSizes.{echo-few}
-use Rattle.strm_types.proofs.MadeCells.{made-long}
-use Rattle.strm_types.proofs.Ranked.{sum-put, sum-put_back}
-use Rattle.strm_types.proofs.StrikesStay.{strikes-stay}
+use Rattle.strm_types.proofs.Ranked.{sum-put_back}
 use Rattle.strm_laws.proofs.GoodLdterms.{GoodDiscipline}
 use Rattle.strm_laws.proofs.GoodLdtermTurns.{next-good}
 use Rattle.strm_laws.proofs.RestCosts.{at_or_below, sinks_by, toll_at}

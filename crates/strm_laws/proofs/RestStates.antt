@@ -1,37 +1,17 @@
 -- A put in a pair, and with it a delivery, adds no more moves than its message costs, where at most one ldterm stands in the pair and pckt doesn't
 -- stand below it.
-use Rattle.std.proofs.Common.{ℕ, zero, suc, ◌≡◌, ◌≤◌, ◌<◌, ◌+◌, ◌-◌, Bool, true, false, cond, List, [], ◌∷◌, length, map, refl, sym, ap, subst, ◌∙◌, arith}
-use Rattle.std.specs.Prelude.{◌&&◌, ◌==◌, not, nat_le, sum_by}
-use Rattle.std.proofs.lemmas.Bool.Decides.{nat_tests}
-use Rattle.std.proofs.lemmas.List.Sums.{sum_by-cons}
-use Rattle.strm_types.specs.declared.kinds.MsgKind.{MsgKind}
-use Rattle.strm_types.specs.declared.kinds.MsgKind.TheVariants.{Flush}
-use Rattle.strm_types.specs.declared.limits.TheConstants.{HOPS, MODULES}
-use Rattle.strm_types.specs.declared.names.ModuleName.{ModuleName}
+use Rattle.strm_laws.proofs.Prelude.{ℕ, zero, suc, ◌≡◌, ◌≤◌, ◌<◌, ◌+◌, ◌-◌, Bool, true, false, cond, List, [], ◌∷◌, length, map, refl, sym, ap, subst}
+use Rattle.strm_laws.proofs.Prelude.{◌∙◌, arith, ◌&&◌, ◌==◌, not, nat_le, sum_by, nat_tests, sum_by-cons, get-map, carried-holds}
+use Rattle.strm_laws.specs.Prelude.{MsgKind, Flush, HOPS, MODULES, ModuleName, Side, Master, Slave, Way, Up, Down, Spot, Cells, Acted, Comes, Fate}
+use Rattle.strm_laws.specs.Prelude.{Goes, Parcel, Took, carried, in_turn, driver_put, is_bare_flush, is_flush, head_put, Message, cells_of, has_parts}
+use Rattle.strm_laws.specs.Prelude.{put_among, is_open, other, stood, disciplined}
 use Rattle.strm_types.specs.declared.names.ModuleName.TheVariants as names
-use Rattle.strm_types.specs.declared.names.Side.{Side}
-use Rattle.strm_types.specs.declared.names.Side.TheVariants.{Master, Slave}
-use Rattle.strm_types.specs.declared.names.Way.{Way}
-use Rattle.strm_types.specs.declared.names.Way.TheVariants.{Up, Down}
-use Rattle.strm_types.specs.declared.spots.Spot.{Spot}
-use Rattle.strm_types.specs.Cells.{Cells}
-use Rattle.strm_types.specs.Deliver.{Acted, Comes, Fate, Goes, Parcel, Took, carried, in_turn}
-use Rattle.strm_types.specs.Drivers.{driver_put}
-use Rattle.strm_types.specs.Flushing.{is_bare_flush, is_flush}
-use Rattle.strm_types.specs.Heads.{head_put}
-use Rattle.strm_types.specs.Message.{Message, cells_of, has_parts}
-use Rattle.strm_types.specs.Modules.{put_among}
-use Rattle.strm_types.specs.Names.{is_open, other}
-use Rattle.strm_types.specs.Standings.{stood}
-use Rattle.strm_types.specs.LdtermStands.{disciplined}
 use Rattle.strm_laws.specs.Earlier.{driver_place, modules_on}
 use Rattle.strm_laws.specs.Puts.{across_of, booked, delivered, made_above, module_acted, passed_up, put_at_driver, put_at_head, put_at_module, put_behind, put_below, put_in}
 use Rattle.strm_laws.specs.Rest.{echoes, module_moves, moves, moves_above, moves_across, stream_moves}
 use Rattle.strm_laws.specs.StackCosts.{Stands, stands_of, stands_on}
 use Rattle.strm_laws.specs.Stacked.{Standing, OfLdterm, OfPtem, OfPckt, module_name, module_puts, kind_name, Module}
 use Rattle.strm_laws.specs.State.{State, Stream, stream, with_stream}
-use Rattle.strm_types.proofs.BySide.{get-map}
-use Rattle.strm_types.proofs.DeliveryHolds.{carried-holds}
 use Rattle.strm_laws.proofs.RestCosts.{PutPays, above-more, at_or_above, at_or_below, carried-pays, in_turn-pays, sinks_by, toll, toll_at, up-falls}
 use Rattle.strm_laws.proofs.RestLdterms.{ldterm-pays}
 use Rattle.strm_laws.proofs.RestPuts.{came-across, came-down, head-few, pckt-few, ptem-few, tolls}

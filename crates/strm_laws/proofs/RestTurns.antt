@@ -1,31 +1,15 @@
 -- A turn of a queue leaves fewer moves, or no more of them and only its own queue less enabled.
-use Rattle.std.proofs.Common.{ℕ, zero, suc, ◌≡◌, ◌≤◌, ◌<◌, ◌+◌, ◌-◌, ◌*◌, ◌⊎◌, inl, inr, Bool, true, false, cond, List, [], ◌∷◌, ◌++◌, map, refl, sym, ap, subst, ◌∙◌, arith}
-use Rattle.std.specs.Prelude.{◌&&◌, ◌==◌, not, max, min, sum_by, slice_index_or, Option, None, Some, is_some, option_map}
-use Rattle.std.proofs.lemmas.List.Sums.{sum_by-cons}
+use Rattle.strm_laws.proofs.Prelude.{ℕ, zero, suc, ◌≡◌, ◌≤◌, ◌<◌, ◌+◌, ◌-◌, ◌*◌, ◌⊎◌, inl, inr, Bool, true, false, cond, List, [], ◌∷◌, ◌++◌, map}
+use Rattle.strm_laws.proofs.Prelude.{refl, sym, ap, subst, ◌∙◌, arith, ◌&&◌, ◌==◌, not, max, min, sum_by, slice_index_or, Option, None, Some, is_some}
+use Rattle.strm_laws.proofs.Prelude.{option_map, sum_by-cons, carried-holds, in_turn-holds, either}
+use Rattle.strm_laws.specs.Prelude.{Turn, Moved, Blocked, Idle, HOPS, QueueName, Side, Way, Up, Down, Asks, Spot, asked_first, ldterm_asks, Cells}
+use Rattle.strm_laws.specs.Prelude.{Acted, carried, in_turn, disciplined, Answered, Begun, Between, Discipline as TheLdterm, Stage, is_between}
+use Rattle.strm_laws.specs.Prelude.{queue_at, Message, band_of, size_of, at_place, place_past, with_waiting, QueuePair, messages_at, pair_changed}
+use Rattle.strm_laws.specs.Prelude.{queue_changed, stood, act_among, change_among, is_open, other, output_serves, Queue, first_size, is_none_left}
+use Rattle.strm_laws.specs.Prelude.{left_with, relieved, turn_ended}
 use Rattle.std.specs.List.{AllByRecursion}
-use Rattle.strm_types.specs.declared.answers.Turn.{Turn}
-use Rattle.strm_types.specs.declared.answers.Turn.TheVariants.{Moved, Blocked, Idle}
-use Rattle.strm_types.specs.declared.limits.TheConstants.{HOPS}
-use Rattle.strm_types.specs.declared.names.QueueName.{QueueName}
-use Rattle.strm_types.specs.declared.names.Side.{Side}
-use Rattle.strm_types.specs.declared.names.Way.{Way}
-use Rattle.strm_types.specs.declared.names.Way.TheVariants.{Up, Down}
-use Rattle.strm_types.specs.declared.spots.Asks.{Asks}
 use Rattle.strm_types.specs.declared.spots.Asks.TheVariants as asked
-use Rattle.strm_types.specs.declared.spots.Spot.{Spot}
-use Rattle.strm_types.specs.Asking.{asked_first, ldterm_asks}
-use Rattle.strm_types.specs.Cells.{Cells}
-use Rattle.strm_types.specs.Deliver.{Acted, carried, in_turn}
-use Rattle.strm_types.specs.LdtermStands.{disciplined}
-use Rattle.strm_types.specs.Ldterms.{Answered, Begun, Between, Discipline as TheLdterm, Ldterm, Stage, is_between, queue_at}
-use Rattle.strm_types.specs.Message.{Message, band_of, size_of}
-use Rattle.strm_types.specs.ModuleQueues.{at_place, place_past, with_waiting}
-use Rattle.strm_types.specs.Standings.{QueuePair, messages_at, pair_changed, queue_changed, stood}
-use Rattle.strm_types.specs.Modules.{act_among, change_among}
-use Rattle.strm_types.specs.Names.{is_open, other}
-use Rattle.strm_types.specs.OutputTurns.{output_serves}
-use Rattle.strm_types.specs.Queue.{Queue, first_size, is_none_left, left_with, relieved}
-use Rattle.strm_types.specs.Service.{turn_ended}
+use Rattle.strm_types.specs.Ldterms.{Ldterm}
 use Rattle.strm_laws.specs.Earlier.{driver_place, modules_on}
 use Rattle.strm_laws.specs.LdtermTurns.{ldterm_rests}
 use Rattle.strm_laws.specs.ModuleTurns.{Calls, again_at, asked_turn, bytes_at, call_at, calls, made_below, module_called, module_turn_ended, moved_on, moved_within, queue_ended, stayed_at, turned_there, waits_there}
@@ -38,8 +22,6 @@ use Rattle.strm_laws.specs.Stacked.{Module, OfLdterm, Standing, kind_name, modul
 use Rattle.strm_laws.specs.State.{State, Stream, stream, with_driver_queue, with_stream}
 use Rattle.strm_laws.specs.TurnOutcomes.{TurnOutcome, stayed_put}
 use Rattle.strm_laws.specs.Turns.{driver_serves, held_back, is_stopped_across, moved_across, turned_queue, up_across, with_driver}
-use Rattle.strm_types.proofs.DeliveryHolds.{carried-holds, in_turn-holds}
-use Rattle.strm_types.proofs.LdtermPuts.{either}
 use Rattle.strm_laws.proofs.GoodLdterms.{good-with}
 use Rattle.strm_laws.proofs.GoodStreams.{AreStreams}
 use Rattle.strm_laws.proofs.GoodTurns.{call-good}

@@ -1,24 +1,13 @@
 -- A turn of an enabled queue leaves less work, and so turns come to rest.
-use Rattle.std.proofs.Common.{ℕ, zero, suc, ◌≡◌, ◌≤◌, ◌<◌, ◌+◌, ◌-◌, ◌⊎◌, inl, inr, Bool, true, false, cond, List, [], ◌∷◌, length, map, take, refl, sym, ap, subst, ◌∙◌, arith}
-use Rattle.std.specs.Prelude.{◌&&◌, ◌||◌, not, nat_le, count_by, Option, None, Some}
+use Rattle.strm_laws.proofs.Prelude.{ℕ, zero, suc, ◌≡◌, ◌≤◌, ◌<◌, ◌+◌, ◌-◌, ◌⊎◌, inl, inr, Bool, true, false, cond, List, [], ◌∷◌, length, map, take}
+use Rattle.strm_laws.proofs.Prelude.{refl, sym, ap, subst, ◌∙◌, arith, ◌&&◌, ◌||◌, not, nat_le, count_by, Option, None, Some, nat_tests, sum_by-cons}
+use Rattle.strm_laws.proofs.Prelude.{same_queue-sound}
+use Rattle.strm_laws.specs.Prelude.{Turn, Moved, Blocked, Idle, MODULES, ModuleName, Place, Ldterm, Driver, QueueName, Side, Master, Slave, Way, Up}
+use Rattle.strm_laws.specs.Prelude.{Down, Spot, Cells, is_enabled, other, same_place, same_queue, without, place_of}
 use Rattle.std.specs.List.{list_any}
-use Rattle.std.proofs.lemmas.Bool.Decides.{nat_tests}
-use Rattle.std.proofs.lemmas.List.Sums.{count_by-le-length, sum_by-cons}
-use Rattle.strm_types.specs.declared.answers.Turn.{Turn}
-use Rattle.strm_types.specs.declared.answers.Turn.TheVariants.{Moved, Blocked, Idle}
-use Rattle.strm_types.specs.declared.limits.TheConstants.{MODULES}
-use Rattle.strm_types.specs.declared.names.ModuleName.{ModuleName}
+use Rattle.std.proofs.lemmas.List.Sums.{count_by-le-length}
 use Rattle.strm_types.specs.declared.names.ModuleName.TheVariants as names
-use Rattle.strm_types.specs.declared.names.Place.{Place}
-use Rattle.strm_types.specs.declared.names.Place.TheVariants.{Head, Ldterm, Driver}
-use Rattle.strm_types.specs.declared.names.QueueName.{QueueName}
-use Rattle.strm_types.specs.declared.names.Side.{Side}
-use Rattle.strm_types.specs.declared.names.Side.TheVariants.{Master, Slave}
-use Rattle.strm_types.specs.declared.names.Way.{Way}
-use Rattle.strm_types.specs.declared.names.Way.TheVariants.{Up, Down}
-use Rattle.strm_types.specs.declared.spots.Spot.{Spot}
-use Rattle.strm_types.specs.Cells.{Cells}
-use Rattle.strm_types.specs.Names.{is_enabled, other, same_place, same_queue, without, place_of}
+use Rattle.strm_types.specs.declared.names.Place.TheVariants.{Head}
 use Rattle.strm_laws.specs.Earlier.{places_of}
 use Rattle.strm_laws.specs.ModuleTurns.{module_turned, named_from, place_named, turned_named, turned_there}
 use Rattle.strm_laws.specs.Rest.{EchoesOnce, NoLdterm, count_enabled, echoes, is_pckt, moves, packs_below, queue_names, work}
@@ -28,7 +17,6 @@ use Rattle.strm_laws.specs.Stacked.{Standing, module_name}
 use Rattle.strm_laws.specs.State.{State, stream}
 use Rattle.strm_laws.specs.Step.{IsTurn}
 use Rattle.strm_laws.specs.Turns.{turned, turned_at}
-use Rattle.strm_types.proofs.EnabledNames.{same_queue-sound}
 use Rattle.strm_laws.proofs.GoodStreams.{AreStreams}
 use Rattle.strm_laws.proofs.RestStates.{Fit, FitNames, names-on}
 use Rattle.strm_laws.proofs.RestTurns.{Answers, Leaves, driver-leaves, there-leaves}

@@ -1,8 +1,6 @@
 -- Each state of a legal journal is one that an image may hold.
-use Rattle.std.proofs.Common.{List, [], ◌∷◌, refl, subst, arith}
-use Rattle.strm_types.specs.declared.entries.Entry.TheVariants.{Called, Turned}
-use Rattle.strm_types.specs.Cells.{Cells}
-use Rattle.strm_types.specs.Journal.{PlainEntry}
+use Rattle.strm_laws.proofs.Prelude.{List, [], ◌∷◌, refl, subst, arith}
+use Rattle.strm_laws.specs.Prelude.{Called, Turned, Cells, PlainEntry}
 use Rattle.strm_laws.specs.Restorable.{AreWithinEntries, IsWithinEntry, Restorable}
 use Rattle.strm_laws.specs.State.{State, opening}
 use Rattle.strm_laws.specs.Step.{IsLegal, Step, after, replay}

@@ -1,16 +1,7 @@
 -- Messages and queues for the rows.
-use Rattle.std.proofs.Common.{ℕ, Bool, true, false, List, [], ◌∷◌}
-use Rattle.std.specs.Prelude.{None, Some}
-use Rattle.strm_types.specs.declared.kinds.MsgKind.{MsgKind}
-use Rattle.strm_types.specs.declared.kinds.MsgKind.TheVariants.{Data, Proto, Setopts, Pcproto}
-use Rattle.strm_types.specs.Message.{Message}
-use Rattle.strm_types.specs.declared.modes.ControlMode.TheVariants.{Refuse}
-use Rattle.strm_types.specs.declared.modes.ReadMode.TheVariants.{ByteStream}
-use Rattle.strm_types.specs.declared.slots.Slot.TheVariants.{Free}
-use Rattle.strm_types.specs.Queue.{Queue, Flow}
-use Rattle.strm_types.specs.Heads.{Head}
-use Rattle.strm_types.specs.Ldterms.{Discipline, discipline, new_ldterm}
-use Rattle.strm_types.specs.Standings.{new_pair}
+use Rattle.strm_laws.proofs.Prelude.{ℕ, Bool, true, false, List, [], ◌∷◌, None, Some}
+use Rattle.strm_laws.specs.Prelude.{MsgKind, Data, Proto, Setopts, Pcproto, Message, Refuse, ByteStream, Free, Queue, Flow, Head, Discipline}
+use Rattle.strm_laws.specs.Prelude.{discipline, new_ldterm, new_pair}
 
 -- an M_PROTO of band 2, an M_PCPROTO that names band 3, an M_SETOPTS of band 1 whose four bytes are no cells
 abbrev pub proto : Message ℕ

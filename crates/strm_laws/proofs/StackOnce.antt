@@ -1,12 +1,9 @@
 -- A module stands on a stream once at most: no other may be pushed.
-use Rattle.std.proofs.Common.{ℕ, zero, suc, ◌≡◌, ◌≤◌, ◌+◌, Bool, true, false, cond, List, [], ◌∷◌, map, refl, ap, subst, arith}
-use Rattle.std.specs.Prelude.{◌||◌, not, nat_lt, length, Some}
-use Rattle.std.proofs.lemmas.Bool.{and_parts, not-true}
-use Rattle.strm_types.specs.declared.limits.TheConstants.{MODULES}
-use Rattle.strm_types.specs.declared.names.ModuleName.{ModuleName}
+use Rattle.strm_laws.proofs.Prelude.{ℕ, zero, suc, ◌≡◌, ◌≤◌, ◌+◌, Bool, true, false, cond, List, [], ◌∷◌, map, refl, ap, subst, arith, ◌||◌, not}
+use Rattle.strm_laws.proofs.Prelude.{nat_lt, Some, and_parts, not-true}
+use Rattle.strm_laws.specs.Prelude.{MODULES, ModuleName, stands, same_module}
+use Rattle.std.specs.Prelude.{length}
 use Rattle.strm_types.specs.declared.names.ModuleName.TheVariants as names
-use Rattle.strm_types.specs.Modules.{stands}
-use Rattle.strm_types.specs.Names.{same_module}
 use Rattle.strm_laws.specs.Pushes.{may_stand}
 use Rattle.strm_laws.specs.StackCosts.{EachOnce, times_there}
 use Rattle.strm_laws.specs.Stacked.{Standing, module_name}

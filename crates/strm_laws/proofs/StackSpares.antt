@@ -1,28 +1,12 @@
 -- A put makes no more than what it takes of blocks says, so that the books have room for what it gives rise to.
-use Rattle.std.proofs.Common.{ℕ, zero, suc, ◌≡◌, ◌<◌, ◌≤◌, ◌+◌, ◌-◌, Bool, true, false, cond, List, [], ◌∷◌, length, map, refl, ap, arith}
-use Rattle.std.specs.Prelude.{min, ◌*◌, ◌^◌, ◌==◌, ◌&&◌, slice_index_or}
+use Rattle.strm_laws.proofs.Prelude.{ℕ, zero, suc, ◌≡◌, ◌<◌, ◌≤◌, ◌+◌, ◌-◌, Bool, true, false, cond, List, [], ◌∷◌, length, map, refl, ap, arith, min}
+use Rattle.strm_laws.proofs.Prelude.{◌^◌, ◌==◌, ◌&&◌, slice_index_or}
+use Rattle.strm_laws.specs.Prelude.{Book, Caller, MODULES, Dir, MasterToSlave, SlaveToMaster, Side, Way, Up, Down, Spot, with_made, Request, Cells}
+use Rattle.strm_laws.specs.Prelude.{Acted, Comes, Fate, Goes, made_of, Message, shape_of, at_place, put_among, is_bare_flush, Both}
+use Rattle.std.specs.Prelude.{◌*◌}
 use Rattle.std.specs.Bool.{OnTrue}
-use Rattle.strm_types.specs.declared.books.Book.{Book}
-use Rattle.strm_types.specs.declared.events.Caller.{Caller}
-use Rattle.strm_types.specs.declared.limits.TheConstants.{MODULES}
-use Rattle.strm_types.specs.declared.names.Dir.{Dir}
-use Rattle.strm_types.specs.declared.names.Dir.TheVariants.{MasterToSlave, SlaveToMaster}
-use Rattle.strm_types.specs.declared.names.Side.{Side}
-use Rattle.strm_types.specs.declared.names.Way.{Way}
-use Rattle.strm_types.specs.declared.names.Way.TheVariants.{Up, Down}
-use Rattle.strm_types.specs.declared.spots.Spot.{Spot}
-use Rattle.strm_types.specs.Books.{with_made}
-use Rattle.strm_types.specs.Events.{Request}
 use Rattle.strm_laws.specs.Calls.{called, delivers}
-use Rattle.strm_types.specs.Cells.{Cells}
-use Rattle.strm_types.specs.Deliver.{Acted, Comes, Fate, Goes}
-use Rattle.strm_types.specs.Input.{made_of}
-use Rattle.strm_types.specs.Message.{Message}
-use Rattle.strm_types.specs.Shapes.{shape_of}
-use Rattle.strm_types.specs.ModuleQueues.{at_place}
-use Rattle.strm_types.specs.Modules.{put_among}
 use Rattle.strm_laws.specs.Puts.{booked, made_above, module_acted, passed_up, put_at_driver, put_at_head, put_at_module, put_behind}
-use Rattle.strm_types.specs.Flushing.{is_bare_flush}
 use Rattle.strm_laws.specs.Refusals.{in_range}
 use Rattle.strm_laws.specs.Spares.{module_packs, packet_most, spare, spare_behind}
 use Rattle.strm_laws.specs.Stacked.{Standing, module_name, module_puts}
@@ -30,7 +14,6 @@ use Rattle.strm_laws.specs.State.{State, book, stream, with_book}
 use Rattle.strm_laws.proofs.Balances.{range-low, still-same}
 use Rattle.strm_types.proofs.PcktWithin.{makes-one}
 use Rattle.strm_laws.proofs.PutsBook.{SameBooks, head-same}
-use Rattle.strm_types.specs.declared.both.Both.{Both}
 use Rattle.strm_laws.proofs.LawfulKinds.{lawful}
 
 -- a packet takes one unit at most

@@ -1,26 +1,12 @@
 -- The modules that stand on the streams are the same behind each put, and so each message costs what it did.
-use Rattle.std.proofs.Common.{ℕ, zero, suc, ◌≡◌, ◌-◌, Bool, List, [], ◌∷◌, map, refl, ap, ◌∙◌}
-use Rattle.std.specs.Prelude.{Option, None, Some}
-use Rattle.strm_types.specs.declared.names.Dir.{Dir}
-use Rattle.strm_types.specs.declared.names.QueueName.{QueueName}
-use Rattle.strm_types.specs.declared.names.Side.{Side}
-use Rattle.strm_types.specs.declared.names.Side.TheVariants.{Master, Slave}
-use Rattle.strm_types.specs.declared.names.Way.{Way}
-use Rattle.strm_types.specs.declared.spots.Spot.{Spot}
-use Rattle.strm_types.specs.Books.{with_made}
-use Rattle.strm_types.specs.Cells.{Cells}
-use Rattle.strm_types.specs.Deliver.{Acted}
-use Rattle.strm_types.specs.Message.{Message}
-use Rattle.strm_types.specs.ModuleQueues.{place_past, waits_at, waits_past, with_waiting}
-use Rattle.strm_types.specs.Standings.{queue_changed}
-use Rattle.strm_types.specs.Modules.{act_among, change_among, put_among}
-use Rattle.strm_types.specs.Names.{is_open}
+use Rattle.strm_laws.proofs.Prelude.{ℕ, zero, suc, ◌≡◌, ◌-◌, Bool, List, [], ◌∷◌, map, refl, ap, ◌∙◌, Option, None, Some, PutHolds}
+use Rattle.strm_laws.specs.Prelude.{Dir, QueueName, Side, Master, Slave, Way, Spot, with_made, Cells, Acted, Message, place_past, waits_at}
+use Rattle.strm_laws.specs.Prelude.{with_waiting, queue_changed, act_among, change_among, put_among, is_open, Queue}
+use Rattle.strm_types.specs.ModuleQueues.{waits_past}
 use Rattle.strm_laws.specs.Puts.{made_above, put_at_driver, put_at_head, put_at_module, put_in}
-use Rattle.strm_types.specs.Queue.{Queue}
 use Rattle.strm_laws.specs.StackCosts.{Stands, stands_of}
 use Rattle.strm_laws.specs.Stacked.{Standing, module_name, module_puts, module_serves}
 use Rattle.strm_laws.specs.State.{State, Stream, book, stream, with_book, with_stream, with_driver_queue}
-use Rattle.strm_types.proofs.DeliveryHolds.{PutHolds}
 use Rattle.strm_laws.proofs.PutParts.{acted-holds, either-holds, parts-hold}
 use Rattle.strm_laws.proofs.LawfulKinds.{lawful}
 

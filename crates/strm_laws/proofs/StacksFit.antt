@@ -1,20 +1,12 @@
 -- What is reckoned of all stacks of modules holds of the one that stands, and so of a delivery from any spot.
-use Rattle.std.proofs.Common.{ℕ, zero, suc, ◌≡◌, ◌<◌, ◌≤◌, ◌+◌, ◌-◌, Bool, true, false, cond, ◌⊎◌, inl, inr, List, [], ◌∷◌, length, refl, sym, ap, ◌∙◌, arith}
-use Rattle.std.specs.Prelude.{◌==◌, ◌&&◌, ◌||◌, not, min, nat_le, count_by, sum_by}
+use Rattle.strm_laws.proofs.Prelude.{ℕ, zero, suc, ◌≡◌, ◌<◌, ◌≤◌, ◌+◌, ◌-◌, Bool, true, false, cond, ◌⊎◌, inl, inr, List, [], ◌∷◌, length, refl, sym}
+use Rattle.strm_laws.proofs.Prelude.{ap, ◌∙◌, arith, ◌==◌, ◌&&◌, ◌||◌, not, min, nat_le, count_by, sum_by, and_from, and_parts, nat_tests}
+use Rattle.strm_laws.proofs.Prelude.{length-take}
+use Rattle.strm_laws.specs.Prelude.{HOPS, MODULES, ModuleName, Side, Way, Up, Down, beyond, budget, same_module, At, Shape, Held, Asking, Acking}
+use Rattle.strm_laws.specs.Prelude.{FlushR, FlushW, FlushRW, FlushMixed, Packed, Passing, is_flushing, Crossing, ToDriver, ToReaders, driver_does}
+use Rattle.strm_laws.specs.Prelude.{head_does}
 use Rattle.std.specs.List.{list_all}
-use Rattle.std.proofs.lemmas.Bool.{and_from, and_parts}
-use Rattle.std.proofs.lemmas.Bool.Decides.{nat_tests}
-use Rattle.std.proofs.lemmas.List.{length-take}
-use Rattle.strm_types.specs.declared.limits.TheConstants.{HOPS, MODULES}
-use Rattle.strm_types.specs.declared.names.ModuleName.{ModuleName}
 use Rattle.strm_types.specs.declared.names.ModuleName.TheVariants as names
-use Rattle.strm_types.specs.declared.names.Side.{Side}
-use Rattle.strm_types.specs.declared.names.Way.{Way}
-use Rattle.strm_types.specs.declared.names.Way.TheVariants.{Up, Down}
-use Rattle.strm_types.specs.Budgets.{beyond, budget}
-use Rattle.strm_types.specs.Names.{same_module}
-use Rattle.strm_types.specs.Shapes.{At, Shape, Held, Asking, Acking, FlushR, FlushW, FlushRW, FlushMixed, Packed, Passing, is_flushing}
-use Rattle.strm_types.specs.Tables.{Crossing, ToDriver, ToReaders, driver_does, head_does}
 use Rattle.strm_laws.specs.SideCosts.{SideAt, SideCosts, all_stacks, are_once, arrives, behind_costs, costs, counted, crossings_fit, does_among, driver_most, front_on, fronts, is_once, nowhere, place_most, places_fit, readers_most, rises, shapes, side_budget, side_costs, side_does, side_drives, spot_fits, stack_fits, to_both, to_readers, ways}
 use Rattle.strm_laws.specs.StackCosts.{EachOnce, Stands, stands_on, times_there}
 use Rattle.strm_laws.proofs.OneSide.{both-across, sided}

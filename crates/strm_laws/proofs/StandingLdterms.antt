@@ -1,18 +1,10 @@
 -- An ldterm where it stands, and the line discipline that it is with its queues.
-use Rattle.std.proofs.Common.{◌≡◌, Bool, List, [], ◌∷◌, map, refl, ap, ◌∙◌, arith, suc, ℕ}
-use Rattle.std.specs.Prelude.{Option, None, Some, is_some, option_map}
-use Rattle.strm_types.specs.declared.names.Dir.{Dir}
-use Rattle.strm_types.specs.declared.names.Side.{Side}
-use Rattle.strm_types.specs.declared.names.Way.{Way}
-use Rattle.strm_types.specs.declared.names.Way.TheVariants.{Down, Up}
-use Rattle.strm_types.specs.Asking.{asked_by, asked_first, ldterm_asks}
-use Rattle.strm_types.specs.Cells.{Tagged}
-use Rattle.strm_types.specs.LdtermStands.{disciplined}
-use Rattle.strm_types.specs.Ldterms.{Answered, Begun, Between, Discipline, is_between, Ldterm, queue_at, Rests, Stage}
-use Rattle.strm_types.specs.Message.{map_message, Message}
-use Rattle.strm_types.specs.Names.{direction_at}
-use Rattle.strm_types.specs.Queue.{is_none_left, map_messages}
-use Rattle.strm_types.specs.Standings.{map_pair, messages_on, QueuePair, stood}
+use Rattle.strm_laws.proofs.Prelude.{◌≡◌, Bool, List, [], ◌∷◌, map, refl, ap, ◌∙◌, arith, suc, ℕ, Option, None, Some, is_some, option_map}
+use Rattle.strm_laws.specs.Prelude.{Dir, Side, Way, Down, Up, asked_first, ldterm_asks, Tagged, disciplined, Answered, Begun, Between, Discipline}
+use Rattle.strm_laws.specs.Prelude.{is_between, queue_at, Rests, Stage, map_message, Message, direction_at, is_none_left, map_messages, map_pair}
+use Rattle.strm_laws.specs.Prelude.{messages_on, QueuePair, stood}
+use Rattle.strm_types.specs.Asking.{asked_by}
+use Rattle.strm_types.specs.Ldterms.{Ldterm}
 use Rattle.strm_laws.specs.Based.{number, number_ldterm}
 use Rattle.strm_laws.specs.LdtermOrigins.{map_ldterm, map_own, map_stage}
 use Rattle.strm_laws.specs.LdtermTurns.{ldterm_rests}

@@ -1,28 +1,10 @@
 -- An M_DATA or M_PROTO that is put somewhere goes on as one, the same way on the same side, or stays there. Puts open and close no side.
-use Rattle.std.proofs.Common.{ℕ, zero, suc, ◌≡◌, ◌<◌, ◌-◌, Bool, true, false, cond, List, [], ◌∷◌, refl, sym, ap, subst, ◌∙◌, arith, map, ◌≤◌, ◌+◌}
-use Rattle.std.specs.Prelude.{◌&&◌, ◌==◌, nat_le, not}
-use Rattle.strm_types.specs.declared.kinds.MsgKind.{MsgKind}
-use Rattle.strm_types.specs.declared.kinds.MsgKind.TheVariants.{Data, Proto}
-use Rattle.strm_types.specs.declared.limits.TheConstants.{MODULES}
-use Rattle.strm_types.specs.declared.names.Side.{Side}
-use Rattle.strm_types.specs.declared.names.Side.TheVariants.{Master, Slave}
-use Rattle.strm_types.specs.declared.names.Way.{Way}
-use Rattle.strm_types.specs.declared.names.Way.TheVariants.{Up, Down}
-use Rattle.strm_types.specs.declared.spots.Across.{Across}
-use Rattle.strm_types.specs.declared.spots.Spot.{Spot}
-use Rattle.strm_types.specs.Cells.{plain}
-use Rattle.strm_types.specs.Deliver.{Acted, Parcel, Took, toward}
-use Rattle.strm_types.specs.Drivers.{crosses, driver_put, put_across, put_down, taken_in}
-use Rattle.strm_types.specs.Flushing.{is_flush}
-use Rattle.strm_types.specs.Heads.{Head, is_doubled, obeyed, waits_for_readers}
-use Rattle.strm_types.specs.Message.{Message, has_parts, is_held}
-use Rattle.strm_types.specs.Modules.{act_among}
-use Rattle.strm_types.specs.Names.{is_closed, is_open, same_side, same_way}
-use Rattle.strm_types.specs.Queue.{Queue}
-use Rattle.strm_types.specs.Budgets.{Within, next_at, cost_of}
-use Rattle.strm_types.specs.Tables.{name_does}
-use Rattle.strm_types.specs.Shapes.{Shape, Held, shape_by}
-use Rattle.strm_types.specs.declared.names.ModuleName.{ModuleName}
+use Rattle.strm_laws.proofs.Prelude.{ℕ, zero, suc, ◌≡◌, ◌<◌, ◌-◌, Bool, true, false, cond, List, [], ◌∷◌, refl, sym, ap, subst, ◌∙◌, arith, map, ◌≤◌}
+use Rattle.strm_laws.proofs.Prelude.{◌+◌, ◌&&◌, ◌==◌, nat_le, not}
+use Rattle.strm_laws.specs.Prelude.{MsgKind, Data, Proto, MODULES, Side, Master, Slave, Way, Up, Down, Across, Spot, plain, Acted, Parcel, Took}
+use Rattle.strm_laws.specs.Prelude.{toward, crosses, driver_put, put_across, put_down, taken_in, is_flush, Head, is_doubled, obeyed}
+use Rattle.strm_laws.specs.Prelude.{waits_for_readers, Message, has_parts, is_held, act_among, is_closed, is_open, same_side, same_way, Queue, Within}
+use Rattle.strm_laws.specs.Prelude.{next_at, cost_of, name_does, Shape, Held, shape_by, ModuleName}
 use Rattle.strm_types.specs.declared.names.ModuleName.TheVariants as names
 use Rattle.strm_laws.specs.Earlier.{driver_place, modules_on}
 use Rattle.strm_laws.specs.Pair.{IsKeptAhead}

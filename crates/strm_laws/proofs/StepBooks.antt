@@ -1,27 +1,12 @@
 -- What each step books: a call what it writes, a turn what is told as made, and nothing else.
-use Rattle.std.proofs.Common.{ℕ, zero, suc, ◌+◌, ◌-◌, ◌*◌, Bool, true, false, cond, List, [], ◌∷◌, ◌++◌, refl}
-use Rattle.std.specs.Prelude.{◌==◌, not, Option, None, Some}
-use Rattle.strm_types.specs.declared.answers.Turn.{Turn}
-use Rattle.strm_types.specs.declared.answers.Turn.TheVariants.{Blocked, Idle}
-use Rattle.strm_types.specs.declared.limits.TheConstants.{HOPS}
-use Rattle.strm_types.specs.declared.names.Place.{Place}
-use Rattle.strm_types.specs.declared.names.Place.TheVariants.{Head, Ldterm, Driver}
-use Rattle.strm_types.specs.declared.names.QueueName.{QueueName}
-use Rattle.strm_types.specs.declared.names.Side.{Side}
-use Rattle.strm_types.specs.declared.names.Way.{Way}
-use Rattle.strm_types.specs.declared.spots.Asks.{Asks}
+use Rattle.strm_laws.proofs.Prelude.{ℕ, zero, suc, ◌+◌, ◌-◌, ◌*◌, Bool, true, false, cond, List, [], ◌∷◌, ◌++◌, refl, ◌==◌, not, Option, None, Some}
+use Rattle.strm_laws.specs.Prelude.{Turn, Blocked, Idle, HOPS, Place, Ldterm, Driver, QueueName, Side, Way, Asks, Spot, Cells, Fate, carried, in_turn}
+use Rattle.strm_laws.specs.Prelude.{Message, size_of, at_place, act_among, is_open, other, without, Queue, left_with}
+use Rattle.strm_types.specs.declared.names.Place.TheVariants.{Head}
 use Rattle.strm_types.specs.declared.spots.Asks.TheVariants as asked
-use Rattle.strm_types.specs.declared.spots.Spot.{Spot}
-use Rattle.strm_types.specs.Cells.{Cells}
-use Rattle.strm_types.specs.Deliver.{Fate, carried, in_turn}
-use Rattle.strm_types.specs.Message.{Message, size_of}
-use Rattle.strm_types.specs.ModuleQueues.{at_place}
 use Rattle.strm_laws.specs.ModuleTurns.{Calls, again_at, asked_turn, bytes_at, call_at, calls, made_below, module_called, module_turn_ended, module_turned, moved_on, moved_within, place_named, stayed_at, turned_named, turned_there, waits_there}
-use Rattle.strm_types.specs.Modules.{act_among}
-use Rattle.strm_types.specs.Names.{is_open, other, without}
 use Rattle.strm_laws.specs.Past.{has_room_past, writer_waits}
 use Rattle.strm_laws.specs.Puts.{delivered, put_in}
-use Rattle.strm_types.specs.Queue.{Queue, left_with}
 use Rattle.strm_laws.specs.Stacked.{Standing, module_asks, module_rests, module_serves}
 use Rattle.strm_laws.specs.State.{State, stream}
 use Rattle.strm_laws.specs.TurnOutcomes.{TurnOutcome, stayed_put}

@@ -1,8 +1,6 @@
 -- Behind each step of a pair, and each legal journal, nothing of a turn is under way at any module, and so it is in a new one.
-use Rattle.std.proofs.Common.{List, [], ◌∷◌}
-use Rattle.strm_types.specs.declared.names.Side.{Side}
-use Rattle.strm_types.specs.Cells.{Cells}
-use Rattle.strm_types.specs.Journal.{PlainEntry}
+use Rattle.strm_laws.proofs.Prelude.{List, [], ◌∷◌, each-side}
+use Rattle.strm_laws.specs.Prelude.{Side, Cells, PlainEntry}
 use Rattle.strm_laws.specs.Kept.{AreIdle}
 use Rattle.strm_laws.specs.State.{State, Stream, opening}
 use Rattle.strm_laws.specs.Step.{IsLegal, Step, after, replay}
@@ -11,7 +9,6 @@ use Rattle.strm_laws.proofs.ModuleTurnKeeps.{module_turned-rests}
 use Rattle.strm_laws.proofs.ModulesIdle.{AllIdle, delivered-idle}
 use Rattle.strm_laws.proofs.Past.{waits-idle}
 use Rattle.strm_laws.proofs.EachStream.{Changes, driver-each, step-each}
-use Rattle.strm_types.proofs.BySide.{each-side}
 use Rattle.strm_laws.proofs.LawfulKinds.{new}
 
 module _ {C : Type 0} where

@@ -1,20 +1,9 @@
 -- A call that isn't refused stops its caller, and then changes nothing, or it is carried out: what holds of both holds of it.
-use Rattle.std.proofs.Common.{◌≡◌, refl}
-use Rattle.std.specs.Prelude.{Option, None, Some}
+use Rattle.strm_laws.proofs.Prelude.{◌≡◌, refl, Option, None, Some}
+use Rattle.strm_laws.specs.Prelude.{Caller, Verdict, Side, Master, Slave, Refusal, StopSignal, Cells, Request, Head, foreground, held, refusal_behind}
+use Rattle.strm_laws.specs.Prelude.{stop_in, needs, or_else}
 use Rattle.strm_types.specs.declared.answers.Answer.TheVariants.{Stop}
-use Rattle.strm_types.specs.declared.events.Caller.{Caller}
-use Rattle.strm_types.specs.declared.job_control.Verdict.{Verdict}
 use Rattle.strm_types.specs.declared.job_control.Verdict.TheVariants as verdicts
-use Rattle.strm_types.specs.declared.names.Side.{Side}
-use Rattle.strm_types.specs.declared.names.Side.TheVariants.{Master, Slave}
-use Rattle.strm_types.specs.declared.refusals.Refusal.{Refusal}
-use Rattle.strm_types.specs.declared.signals.StopSignal.{StopSignal}
-use Rattle.strm_types.specs.Cells.{Cells}
-use Rattle.strm_types.specs.Events.{Request}
-use Rattle.strm_types.specs.Heads.{Head}
-use Rattle.strm_types.specs.JobControl.{foreground, held, refusal_behind, stop_in}
-use Rattle.strm_types.specs.Needs.{needs}
-use Rattle.strm_types.specs.Refused.{or_else}
 use Rattle.strm_laws.specs.Calls.{Outcome, called, or_stopped, performed, tells}
 use Rattle.strm_laws.specs.Refusals.{hold, refused_at_once, refused_by_state, stop_of, unfit}
 use Rattle.strm_laws.specs.State.{State, map_state, stream}

@@ -1,17 +1,12 @@
 -- Stored calls and answers read back as they were.
-use Rattle.std.proofs.Common.{ℕ, ◌≡◌, ◌+◌, List, ◌++◌, length, drop, refl, ap, ◌∙◌, arith, length-append}
-use Rattle.std.specs.Prelude.{Option, None, Some, option_map}
-use Rattle.std.proofs.lemmas.List.{append_assoc}
+use Rattle.strm_laws.proofs.Prelude.{ℕ, ◌≡◌, ◌+◌, List, ◌++◌, length, drop, refl, ap, ◌∙◌, arith, length-append, Option, None, Some, option_map}
+use Rattle.strm_laws.proofs.Prelude.{append_assoc}
+use Rattle.strm_laws.specs.Prelude.{Answer, Called, Caller, Event, Request, Reply, payload_of, content_of, part_len, part_in, event_len, answer_len}
+use Rattle.strm_laws.specs.Prelude.{request_in, reply_in, entry_in, part}
 use Rattle.std.proofs.Math.Seq.{take-append_seam, drop-append_seam}
-use Rattle.strm_types.specs.declared.answers.Answer.{Answer}
 use Rattle.strm_types.specs.declared.answers.Answer.TheVariants as told
-use Rattle.strm_types.specs.declared.entries.Entry.TheVariants.{Called}
-use Rattle.strm_types.specs.declared.events.Caller.{Caller}
-use Rattle.strm_types.specs.declared.events.Event.{Event}
 use Rattle.strm_types.specs.declared.events.Event.TheVariants as shapes
-use Rattle.strm_types.specs.Events.{Request, Reply, map_event, map_answer, payload_of, content_of}
-use Rattle.strm_types.specs.Journal.{part_len, part_in, event_len, answer_len, request_in, reply_in, entry_in}
-use Rattle.strm_types.specs.Message.{part}
+use Rattle.strm_types.specs.Events.{map_event, map_answer}
 
 -- what is stored of a part, a call and an answer beside their bytes
 abbrev part_shape : Option (List ℕ) → Option ℕ

@@ -1,15 +1,12 @@
 -- In the modes of a new head a read of M_DATA messages is `head_read`.
-use Rattle.std.proofs.Common.{ℕ, zero, suc, ◌≡◌, ◌-◌, Bool, true, false, cond, List, [], ◌∷◌, ◌++◌, length, take, drop, refl, sym, ap, subst, ◌∙◌, arith}
-use Rattle.std.specs.Prelude.{◌==◌, ◌||◌, nat_lt, Option, None}
+use Rattle.strm_laws.proofs.Prelude.{ℕ, zero, suc, ◌≡◌, ◌-◌, Bool, true, false, cond, List, [], ◌∷◌, ◌++◌, length, take, drop, refl, sym, ap, subst}
+use Rattle.strm_laws.proofs.Prelude.{◌∙◌, arith, ◌==◌, ◌||◌, nat_lt, Option, None, nat_tests}
+use Rattle.strm_laws.specs.Prelude.{ByteStream, Refuse, Message, part, cells_of, size_of, band_of, is_high_priority, put_back, Drawn, stopped}
+use Rattle.strm_laws.specs.Prelude.{emptied_of, front_of, and_more, drawn, head_draw, rest_after, rest_with, no_cells}
 use Rattle.std.specs.List.{AllByRecursion}
-use Rattle.std.proofs.lemmas.Bool.Decides.{nat_tests}
 use Rattle.strm_types.specs.declared.kinds.MsgKind.TheVariants as kinds
-use Rattle.strm_types.specs.declared.modes.ReadMode.TheVariants.{ByteStream}
-use Rattle.strm_types.specs.declared.modes.ControlMode.TheVariants.{Refuse}
-use Rattle.strm_types.specs.Message.{Message, part, cells_of, size_of, band_of, is_high_priority}
-use Rattle.strm_types.specs.Queue.{put_back}
 use Rattle.strm_types.specs.Head.{Taken, rest_of, gathered, head_read}
-use Rattle.strm_types.specs.Reads.{Drawn, stopped, emptied_of, front_of, and_more, drawn, head_draw, rest_after, rest_with, no_cells, IsData}
+use Rattle.strm_types.specs.Reads.{IsData}
 
 drop-none : {C : Type 0} (n : ℕ) → drop {A = C} n [] ≡ []
 drop-none zero = refl

@@ -1,8 +1,6 @@
 -- What a pair weighs where another stream stands on a side.
-use Rattle.std.proofs.Common.{◌≡◌, ◌+◌, Bool, arith}
-use Rattle.strm_types.specs.declared.names.Dir.{Dir}
-use Rattle.strm_types.specs.declared.names.Side.{Side}
-use Rattle.strm_types.specs.declared.names.Side.TheVariants.{Master, Slave}
+use Rattle.strm_laws.proofs.Prelude.{◌≡◌, ◌+◌, Bool, arith}
+use Rattle.strm_laws.specs.Prelude.{Dir, Side, Master, Slave}
 use Rattle.strm_laws.specs.Kept.{state_weight, stream_weight}
 use Rattle.strm_laws.specs.State.{State, Stream, stream, with_stream}
 

@@ -1,21 +1,10 @@
 -- Forgetting the origins of cells commutes with turns of the drivers.
-use Rattle.std.proofs.Common.{ℕ, ◌≡◌, Bool, true, false, cond, List, [], ◌∷◌, refl, sym, ap, ◌∙◌, suc}
-use Rattle.std.specs.Prelude.{◌==◌, ◌&&◌, ◌||◌, not, Option}
-use Rattle.strm_types.specs.declared.answers.Turn.TheVariants.{Moved, Blocked}
-use Rattle.strm_types.specs.declared.kinds.MsgKind.{MsgKind}
-use Rattle.strm_types.specs.declared.names.QueueName.{QueueName}
-use Rattle.strm_types.specs.declared.names.Side.{Side}
-use Rattle.strm_types.specs.declared.names.Side.TheVariants.{Master, Slave}
-use Rattle.strm_types.specs.declared.spots.Spot.{Spot}
-use Rattle.strm_types.specs.declared.names.Way.TheVariants.{Up}
-use Rattle.strm_types.specs.Cells.{AreCells, Cells, plain}
-use Rattle.strm_types.specs.Deliver.{Carried}
-use Rattle.strm_types.specs.Message.{Message, size_of, band_of, is_held, map_message}
+use Rattle.strm_laws.proofs.Prelude.{ℕ, ◌≡◌, Bool, true, false, cond, List, [], ◌∷◌, refl, sym, ap, ◌∙◌, suc, ◌==◌, ◌&&◌, ◌||◌, not, Option}
+use Rattle.strm_laws.specs.Prelude.{Moved, Blocked, MsgKind, QueueName, Side, Master, Slave, Spot, Up, AreCells, Cells, plain, Carried, Message}
+use Rattle.strm_laws.specs.Prelude.{size_of, band_of, is_held, map_message, driver_of, enable_if, enable_some, is_open, other, map_carried, Queue}
+use Rattle.strm_laws.specs.Prelude.{is_none_left, left_with, relieved, relieves, map_messages, map_queue}
 use Rattle.strm_laws.specs.Earlier.{before_driver, driver_place}
-use Rattle.strm_types.specs.Names.{driver_of, enable_if, enable_some, is_open, other}
-use Rattle.strm_types.specs.Origins.{map_carried}
 use Rattle.strm_laws.specs.Puts.{delivered}
-use Rattle.strm_types.specs.Queue.{Queue, is_none_left, left_with, relieved, relieves, map_messages, map_queue}
 use Rattle.strm_laws.specs.State.{State, stream, map_state}
 use Rattle.strm_laws.specs.TurnOutcomes.{TurnOutcome, map_turn_outcome, stayed_put}
 use Rattle.strm_laws.specs.Turns.{blocked_across, driver_serves, driver_turned, held_back, is_stopped_across, moved_across, turn_ended, turned_queue, up_across, with_driver}

@@ -1,24 +1,13 @@
 -- What holds of a pair whatever stands on its drivers and whichever queues are enabled, behind deliveries, where writers wait, and behind
 -- turns of modules' queues, holds behind each turn.
-use Rattle.std.proofs.Common.{ℕ, Bool, true, false, cond, List, [], ◌∷◌}
-use Rattle.std.specs.Prelude.{not}
-use Rattle.strm_types.specs.declared.answers.Turn.{Turn}
-use Rattle.strm_types.specs.declared.names.Place.{Place}
-use Rattle.strm_types.specs.declared.names.Place.TheVariants.{Head, Ldterm, Driver}
-use Rattle.strm_types.specs.declared.names.QueueName.{QueueName}
-use Rattle.strm_types.specs.declared.names.Side.{Side}
-use Rattle.strm_types.specs.declared.names.Way.{Way}
-use Rattle.strm_types.specs.declared.names.Way.TheVariants.{Up}
-use Rattle.strm_types.specs.declared.spots.Spot.{Spot}
-use Rattle.strm_types.specs.Cells.{Cells}
+use Rattle.strm_laws.proofs.Prelude.{ℕ, Bool, true, false, cond, List, [], ◌∷◌, not}
+use Rattle.strm_laws.specs.Prelude.{Turn, Place, Ldterm, Driver, QueueName, Side, Way, Up, Spot, Cells, Message, band_of, place_past, is_open, other}
+use Rattle.strm_laws.specs.Prelude.{without, Queue, left_with}
+use Rattle.strm_types.specs.declared.names.Place.TheVariants.{Head}
 use Rattle.strm_laws.specs.Earlier.{driver_place}
-use Rattle.strm_types.specs.Message.{Message, band_of}
-use Rattle.strm_types.specs.ModuleQueues.{place_past}
 use Rattle.strm_laws.specs.ModuleTurns.{module_turned}
-use Rattle.strm_types.specs.Names.{is_open, other, without}
 use Rattle.strm_laws.specs.Past.{writer_waits}
 use Rattle.strm_laws.specs.Puts.{delivered}
-use Rattle.strm_types.specs.Queue.{Queue, left_with}
 use Rattle.strm_laws.specs.State.{State, stream}
 use Rattle.strm_laws.specs.TurnOutcomes.{TurnOutcome}
 use Rattle.strm_laws.specs.Turns.{driver_serves, held_back, is_stopped_across, moved_across, turned, turned_at, up_across, with_driver}

@@ -1,21 +1,12 @@
 -- A turn loses no cell, and leaves the ends as they are and a side that isn't open nothing to be read.
-use Rattle.std.proofs.Common.{ℕ, ◌≡◌, ◌+◌, Bool, true, false, cond, List, [], ◌∷◌, refl, ap, arith}
-use Rattle.std.specs.Prelude.{◌==◌, not}
-use Rattle.strm_types.specs.declared.answers.Turn.{Turn}
-use Rattle.strm_types.specs.declared.names.Side.{Side}
-use Rattle.strm_types.specs.declared.names.Side.TheVariants.{Master, Slave}
-use Rattle.strm_types.specs.declared.names.Place.{Place}
-use Rattle.strm_types.specs.declared.names.Place.TheVariants.{Head, Ldterm, Driver}
-use Rattle.strm_types.specs.declared.names.QueueName.{QueueName}
-use Rattle.strm_types.specs.declared.names.Dir.{Dir}
+use Rattle.strm_laws.proofs.Prelude.{ℕ, ◌≡◌, ◌+◌, Bool, true, false, cond, List, [], ◌∷◌, refl, ap, arith, ◌==◌, not, weight-take}
+use Rattle.strm_laws.specs.Prelude.{Turn, Side, Master, Slave, Place, Ldterm, Driver, QueueName, Dir, Cells, Message, size_of, band_of, weight_of}
+use Rattle.strm_laws.specs.Prelude.{is_open, other, without, direction_at, direction_from, Queue, left_with, relieved, weight, Up, Down}
+use Rattle.strm_types.specs.declared.names.Place.TheVariants.{Head}
 use Rattle.strm_laws.proofs.LdtermKeeps.{way-up}
-use Rattle.strm_types.specs.Cells.{Cells}
 use Rattle.strm_laws.specs.Kept.{AreIdle, state_weight, tests_at}
-use Rattle.strm_types.specs.Message.{Message, size_of, band_of, weight_of}
-use Rattle.strm_types.specs.Names.{is_open, other, without, direction_at, direction_from}
 use Rattle.strm_laws.specs.Places.{weight_gone, weight_made, direction_to}
 use Rattle.strm_laws.specs.Puts.{SameButMade, delivered}
-use Rattle.strm_types.specs.Queue.{Queue, left_with, relieved, weight}
 use Rattle.strm_laws.specs.State.{State, stream, with_driver_queue}
 use Rattle.strm_laws.specs.TurnOutcomes.{TurnOutcome}
 use Rattle.strm_laws.specs.Turns.{blocked_across, driver_serves, held_back, is_stopped_across, moved_across, turned, turned_at, turned_queue, turn_ended, up_across, with_driver}
@@ -23,10 +14,8 @@ use Rattle.strm_laws.proofs.TurnHolds.{any-holds, turn-holds, turns-stay}
 use Rattle.strm_laws.proofs.Deliveries.{delivered-keeps}
 use Rattle.strm_laws.proofs.PutsKeep.{same-itself, same-stays, same-with}
 use Rattle.strm_laws.proofs.ModuleTurnKeeps.{module_turned-keeps}
-use Rattle.strm_types.proofs.Weights.{weight-take}
 use Rattle.strm_laws.specs.Earlier.{driver_place, modules_on}
 use Rattle.strm_laws.proofs.Past.{waits-keeps}
-use Rattle.strm_types.specs.declared.names.Way.TheVariants.{Up, Down}
 use Rattle.strm_laws.proofs.StreamWeights.{same-weighs, stream-weighs}
 
 module _ {C : Type 0} where

@@ -1,39 +1,21 @@
 -- A call of ldterm's service procedure makes the next cells of the direction in which output goes, one after the other, and none of the other one.
-use Rattle.std.proofs.Common.{ℕ, zero, suc, ◌≡◌, ◌+◌, ◌-◌, ◌*◌, Bool, true, false, cond, List, [], ◌∷◌, ◌++◌, length, drop, refl, sym, subst, arith}
-use Rattle.std.specs.Prelude.{not, ◌&&◌, count_by, replicate, take, Option, Some, unwrap_or}
-use Rattle.strm_types.specs.declared.flushing.FlushAsked.{FlushAsked}
-use Rattle.strm_types.specs.declared.keys.Key.{Key}
-use Rattle.strm_types.specs.declared.keys.Key.TheVariants.{Stop, Start, Intr, Quit, Susp, Ignored, Eof, Erase, Kill, Werase, Reprint, Lnext, Delimiter, Ordinary}
-use Rattle.strm_types.specs.declared.names.Side.{Side}
-use Rattle.strm_types.specs.declared.names.Side.TheVariants.{Master, Slave}
-use Rattle.strm_types.specs.declared.names.Way.{Way}
-use Rattle.strm_types.specs.declared.names.Way.TheVariants.{Up, Down}
-use Rattle.strm_types.specs.declared.output.Given.{Given}
-use Rattle.strm_types.specs.declared.output.Given.TheVariants.{Byte, Ended, Nothing, Spaces}
-use Rattle.strm_types.specs.declared.rules.Rule.{Rule}
-use Rattle.strm_types.specs.declared.rules.Rule.TheVariants.{EraseKey, Erased, Killed, SignalKey, LineOver, Flushed}
-use Rattle.strm_types.specs.declared.spots.Spot.{Spot}
-use Rattle.strm_types.specs.declared.termios.Termios.{Termios}
-use Rattle.strm_types.specs.Cells.{Cells, cells_made}
-use Rattle.strm_types.specs.Deliver.{Acted, Fate, Goes, Comes}
-use Rattle.strm_types.specs.Input.{begins_next, cells_left, input_begins, is_data, made_of, next_stage, passes, stage_at, stages, stages_done, then_on, to_treat, treats, with_left}
-use Rattle.strm_types.specs.Keys.{carriage_return, restarts}
-use Rattle.strm_types.specs.LdtermServes.{ldterm_serves}
-use Rattle.strm_types.specs.Ldterms.{Discipline, Stage, Between, Begun, Answered}
-use Rattle.strm_types.specs.Lines.{ErasesByte, ErasesWord, edited, has_room}
-use Rattle.strm_types.specs.Message.{Message, cells_of}
-use Rattle.strm_types.specs.Names.{direction_at}
-use Rattle.strm_types.specs.Output.{made_for, post, posts, space, told_for}
-use Rattle.strm_types.specs.OutputTurns.{output_dir, output_serves, posted, unchanged}
+use Rattle.strm_laws.proofs.Prelude.{ℕ, zero, suc, ◌≡◌, ◌+◌, ◌-◌, ◌*◌, Bool, true, false, cond, List, [], ◌∷◌, ◌++◌, length, drop, refl, sym, subst}
+use Rattle.strm_laws.proofs.Prelude.{arith, not, ◌&&◌, count_by, replicate, Option, Some, unwrap_or, made-long, count-join}
+use Rattle.strm_laws.specs.Prelude.{FlushAsked, Key, Stop, Start, Intr, Quit, Susp, Ignored, Eof, Erase, Kill, Werase, Reprint, Lnext, Delimiter}
+use Rattle.strm_laws.specs.Prelude.{Ordinary, Side, Master, Slave, Way, Up, Down, Given, Byte, Ended, Nothing, Spaces, Rule, EraseKey, Erased, Killed}
+use Rattle.strm_laws.specs.Prelude.{SignalKey, LineOver, Flushed, Spot, Termios, Cells, cells_made, Acted, Fate, Goes, Comes, begins_next, cells_left}
+use Rattle.strm_laws.specs.Prelude.{input_begins, is_data, made_of, next_stage, passes, stage_at, stages, stages_done, then_on, to_treat, treats}
+use Rattle.strm_laws.specs.Prelude.{with_left, carriage_return, restarts, ldterm_serves, Discipline, Stage, Between, Begun, Answered, ErasesByte}
+use Rattle.strm_laws.specs.Prelude.{ErasesWord, edited, has_room, Message, cells_of, direction_at, made_for, post, posts, space, told_for, output_dir}
+use Rattle.strm_laws.specs.Prelude.{output_serves, posted, unchanged, is_full, is_none_left, left_with, icanon, imaxbel, noflsh, opost, added}
+use Rattle.strm_laws.specs.Prelude.{both_ways, begins, echo_dir, echo_grows, echo_lost, echo_stands, echoed, is_blank_cell, lost, sigint, signals}
+use Rattle.strm_laws.specs.Prelude.{sigquit, sigtstp, is_lnext, strikes, stroke_at, struck, up_alone}
+use Rattle.std.specs.Prelude.{take}
 use Rattle.strm_laws.specs.Places.{weight_made}
-use Rattle.strm_types.specs.Queue.{is_full, is_none_left, left_with}
-use Rattle.strm_types.specs.Termios.{icanon, imaxbel, noflsh, opost}
-use Rattle.strm_types.specs.Typing.{added, both_ways, begins, echo_dir, echo_grows, echo_lost, echo_stands, echoed, is_blank_cell, lost, sigint, signals, sigquit, sigtstp, is_lnext, strikes, stroke_at, struck, up_alone}
 use Rattle.strm_laws.proofs.DeliveryKeeps.{made-append}
 use Rattle.strm_laws.proofs.InOrder.{InOrder, none-ordered, order-append}
 use Rattle.strm_laws.proofs.LdtermKeeps.{lost-made}
-use Rattle.strm_types.proofs.MadeCells.{made-both, made-long}
-use Rattle.strm_types.proofs.Weights.{count-join}
+use Rattle.strm_types.proofs.MadeCells.{made-both}
 
 -- how many cells were made, of what is told
 abbrev pub all_made : {C : Type 0} → List (Fate C) → ℕ

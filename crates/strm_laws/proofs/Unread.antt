@@ -1,20 +1,12 @@
 -- A side that isn't open has nothing for its readers, from the opening on.
-use Rattle.std.proofs.Common.{◌≡◌, false, List, [], ◌∷◌, refl}
-use Rattle.strm_types.specs.declared.answers.Turn.{Turn}
-use Rattle.strm_types.specs.declared.names.QueueName.{QueueName}
-use Rattle.strm_types.specs.declared.names.Side.{Side}
-use Rattle.strm_types.specs.declared.spots.Spot.{Spot}
-use Rattle.strm_types.specs.Cells.{Cells}
-use Rattle.strm_types.specs.Journal.{PlainEntry}
-use Rattle.strm_types.specs.Message.{Message}
-use Rattle.strm_types.specs.Names.{is_open}
+use Rattle.strm_laws.proofs.Prelude.{◌≡◌, false, List, [], ◌∷◌, refl, each-side}
+use Rattle.strm_laws.specs.Prelude.{Turn, QueueName, Side, Spot, Cells, PlainEntry, Message, is_open}
 use Rattle.strm_laws.specs.Kept.{NothingUnread}
 use Rattle.strm_laws.specs.Puts.{delivered}
 use Rattle.strm_laws.specs.Stacked.{Standing}
 use Rattle.strm_laws.specs.State.{State, Stream, opening}
 use Rattle.strm_laws.specs.Step.{IsLegal, Step, after, replay}
 use Rattle.strm_laws.specs.Turns.{turned}
-use Rattle.strm_types.proofs.BySide.{each-side}
 use Rattle.strm_laws.proofs.EachStream.{Changes, each-stays, each-turns, step-each}
 use Rattle.strm_laws.proofs.PutParts.{delivered-holds}
 use Rattle.strm_laws.proofs.TurnHolds.{turn-holds}

@@ -1,25 +1,13 @@
 -- What a head keeps for its caller stays bounded: signals wait once each, and answers are cut.
-use Rattle.std.proofs.Common.{ℕ, ◌≤◌, Bool, true, false, cond, List, length, arith, []}
-use Rattle.std.specs.Prelude.{◌==◌, drop, Option, None, Some}
-use Rattle.std.proofs.lemmas.List.{length-take}
-use Rattle.strm_types.specs.declared.flushing.FlushAsked.{FlushAsked}
-use Rattle.strm_types.specs.declared.ioctls.Ioc.{Ioc}
-use Rattle.strm_types.specs.declared.kinds.MsgKind.{MsgKind}
-use Rattle.strm_types.specs.declared.kinds.MsgKind.TheVariants.{Flush, Sig, Pcsig, Iocack, Iocnak}
-use Rattle.strm_types.specs.declared.limits.TheConstants.{IOCTL_MAX}
-use Rattle.strm_types.specs.declared.slots.Slot.TheVariants.{Free, Waiting, Answered}
-use Rattle.strm_types.specs.declared.spots.Spot.{Spot}
-use Rattle.strm_types.specs.Deliver.{Acted}
-use Rattle.strm_types.specs.Flushing.{asked_by}
-use Rattle.strm_types.specs.Heads.{flush_up, head_flushed, head_put, is_doubled, obeyed, passed_by, turned_round, waits_for_readers, Head}
-use Rattle.strm_types.specs.Ioctls.{read_ioc}
-use Rattle.strm_types.specs.Message.{Message, has_parts}
-use Rattle.strm_types.specs.Slots.{PlainSlot, answer_body, answer_bytes, slot_behind, slot_told, with_answer}
+use Rattle.strm_laws.proofs.Prelude.{ℕ, ◌≤◌, Bool, true, false, cond, List, length, arith, [], ◌==◌, Option, None, Some, length-take}
+use Rattle.strm_laws.specs.Prelude.{FlushAsked, Ioc, MsgKind, Flush, Sig, Pcsig, Iocack, Iocnak, IOCTL_MAX, Free, Waiting, Spot, Acted, asked_by}
+use Rattle.strm_laws.specs.Prelude.{flush_up, head_flushed, head_put, is_doubled, obeyed, passed_by, turned_round, waits_for_readers, Head, read_ioc}
+use Rattle.strm_laws.specs.Prelude.{Message, has_parts, PlainSlot, answer_bytes, slot_behind, slot_dropped, has_ioctl, number_of, Einval}
+use Rattle.std.specs.Prelude.{drop}
+use Rattle.strm_types.specs.declared.slots.Slot.TheVariants.{Answered}
+use Rattle.strm_types.specs.Slots.{answer_body, slot_told, with_answer}
 use Rattle.strm_laws.specs.Within.{IsWithin}
 use Rattle.strm_types.proofs.SignalRoom.{named-within}
-use Rattle.strm_types.specs.Dropped.{slot_dropped, has_ioctl}
-use Rattle.strm_types.specs.Numbers.{number_of}
-use Rattle.strm_types.specs.declared.refusals.Refusal.TheVariants.{Einval}
 
 -- answers
 abbrev pub Fits : PlainSlot → Type 0

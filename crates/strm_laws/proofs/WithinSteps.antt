@@ -1,22 +1,16 @@
 -- What a head keeps for its caller stays bounded behind each step of a pair, and is so in a new one.
-use Rattle.std.proofs.Common.{ℕ, List, arith}
-use Rattle.strm_types.specs.declared.names.Side.{Side}
-use Rattle.strm_types.specs.declared.spots.Spot.{Spot}
+use Rattle.strm_laws.proofs.Prelude.{ℕ, List, arith, each-side}
+use Rattle.strm_laws.specs.Prelude.{Side, Spot, Cells, PlainEntry, Message, new_head}
 use Rattle.strm_laws.specs.Calls.{ioctl_begun}
-use Rattle.strm_types.specs.Cells.{Cells}
-use Rattle.strm_types.specs.Journal.{PlainEntry}
-use Rattle.strm_types.specs.Message.{Message}
 use Rattle.strm_laws.specs.Puts.{delivered}
 use Rattle.strm_laws.specs.Stacked.{Standing}
 use Rattle.strm_laws.specs.State.{State, Stream, opening}
-use Rattle.strm_types.specs.Heads.{new_head}
 use Rattle.strm_laws.specs.Step.{Step}
 use Rattle.strm_laws.specs.Within.{AreWithin, IsWithin}
 use Rattle.strm_laws.proofs.TurnHolds.{turn-holds}
 use Rattle.strm_laws.proofs.PutParts.{delivered-holds}
 use Rattle.strm_laws.proofs.WithinHeads.{put-within}
 use Rattle.strm_laws.proofs.EachStream.{Changes, begun-each, each-stays, each-turns, step-each}
-use Rattle.strm_types.proofs.BySide.{each-side}
 
 module _ {C : Type 0} where
   abbrev Within : Side → Stream C → Type 0

@@ -1,30 +1,21 @@
 -- What a write sends down a stream, chunk by chunk: it loses no cell, keeps what each delivery keeps, and is the same where the origins of
 -- cells are forgotten.
-use Rattle.std.proofs.Common.{ℕ, zero, suc, ◌≡◌, ◌+◌, Bool, true, false, cond, List, [], ◌∷◌, ◌++◌, length, map, take, drop, refl, sym, ap, ◌∙◌, arith}
-use Rattle.std.specs.Prelude.{count_by, not}
-use Rattle.std.proofs.lemmas.List.{drop-map, length-map, take-map}
-use Rattle.strm_types.specs.declared.names.Side.{Side}
-use Rattle.strm_types.specs.declared.spots.Spot.{Spot}
-use Rattle.strm_types.specs.declared.names.Dir.{Dir}
-use Rattle.strm_types.specs.Cells.{AreCells, Cells, plain}
-use Rattle.strm_types.specs.Names.{direction_from}
-use Rattle.strm_types.specs.Deliver.{Carried}
+use Rattle.strm_laws.proofs.Prelude.{ℕ, zero, suc, ◌≡◌, ◌+◌, Bool, true, false, cond, List, [], ◌∷◌, ◌++◌, length, map, take, drop, refl, sym, ap}
+use Rattle.strm_laws.proofs.Prelude.{◌∙◌, arith, count_by, not, drop-map, length-map, take-map, weight-data}
+use Rattle.strm_laws.specs.Prelude.{Side, Spot, Dir, AreCells, Cells, plain, direction_from, Carried, Message, data_message, map_carried, map_fate}
+use Rattle.strm_laws.specs.Prelude.{chunk_count, chunks_of, Down}
 use Rattle.strm_laws.specs.Kept.{state_weight}
-use Rattle.strm_types.specs.Message.{Message, data_message}
-use Rattle.strm_types.specs.Origins.{map_carried, map_fate}
 use Rattle.strm_laws.specs.Places.{weight_gone, weight_made}
 use Rattle.strm_laws.specs.Puts.{delivered}
 use Rattle.strm_laws.specs.State.{State, map_state}
-use Rattle.strm_types.specs.Write.{chunk_count, chunks_of}
 use Rattle.strm_laws.specs.Writes.{Wrote, below_head, cells_sent, chunks_sent, map_wrote, is_full_below}
 use Rattle.strm_laws.proofs.Deliveries.{delivered-keeps}
 use Rattle.strm_laws.proofs.DeliveryForgets.{map-join}
 use Rattle.strm_laws.proofs.DeliveryKeeps.{gone-append, made-append}
 use Rattle.strm_laws.proofs.Forgetting.{data-forgets}
 use Rattle.strm_laws.proofs.PutsForget.{delivered-forgets}
-use Rattle.strm_types.proofs.Weights.{first-cells, weight-data}
+use Rattle.strm_types.proofs.Weights.{first-cells}
 use Rattle.strm_laws.proofs.Past.{room-forgets}
-use Rattle.strm_types.specs.declared.names.Way.TheVariants.{Down}
 
 module _ {C : Type 0} where
   -- a write by whether the first queue below is full, and what a chunk's delivery and the chunks behind it lead to

@@ -1,18 +1,9 @@
 -- The state at which a journal begins, its base, with an origin for each booked byte that stands there: those of M_DATA, M_PROTO and
 -- M_PCPROTO, and those of unfinished lines. In each direction they are numbered from 0 up in the order of an image (docs/IMAGES.md).
 use Rattle.std.specs.Prelude.{ℕ, suc, ◌+◌, true, List, [], ◌∷◌, length, option_map, sum_by, None}
-use Rattle.strm_types.specs.declared.names.Dir.{Dir}
-use Rattle.strm_types.specs.declared.names.Side.{Side}
-use Rattle.strm_types.specs.declared.names.Side.TheVariants.{Master, Slave}
-use Rattle.strm_types.specs.declared.names.Way.{Way}
-use Rattle.strm_types.specs.declared.names.Way.TheVariants.{Up, Down}
-use Rattle.strm_types.specs.Cells.{Base, Tagged}
-use Rattle.strm_types.specs.Heads.{Head}
-use Rattle.strm_types.specs.Ldterms.{Ldterm, Between}
-use Rattle.strm_types.specs.Message.{Message, part, weight_of}
-use Rattle.strm_types.specs.Names.{direction_at}
-use Rattle.strm_types.specs.Queue.{Queue, weight}
-use Rattle.strm_types.specs.Standings.{QueuePair, messages_at}
+use Rattle.strm_laws.specs.Prelude.{Dir, Side, Master, Slave, Way, Up, Down, Base, Tagged, Head, Between, Message, part, weight_of, direction_at}
+use Rattle.strm_laws.specs.Prelude.{Queue, weight, QueuePair, messages_at}
+use Rattle.strm_types.specs.Ldterms.{Ldterm}
 use Rattle.strm_laws.specs.Stacked.{Module, OfLdterm, OfPtem, OfPckt, Standing, module_line}
 use Rattle.strm_laws.specs.State.{State, Stream}
 

@@ -1,7 +1,6 @@
 -- The base of a journal: the state at which it begins, and how many bytes had gone by each rule there.
 use Rattle.std.specs.Prelude.{ℕ}
-use Rattle.strm_types.specs.declared.names.Dir.{Dir}
-use Rattle.strm_types.specs.declared.rules.Fates.{Fates}
+use Rattle.strm_laws.specs.Prelude.{Dir, Fates}
 use Rattle.strm_laws.specs.Ledgers.{Balanced, FewBooked}
 use Rattle.strm_laws.specs.Restorable.{Restorable}
 use Rattle.strm_laws.specs.State.{AreOrdered, State}

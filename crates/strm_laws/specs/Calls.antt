@@ -1,43 +1,23 @@
 -- The calls on a pair: what each one does where nothing refuses it.
 use Rattle.std.specs.Prelude.{ℕ, suc, ◌+◌, Bool, true, false, not, min, if◌then◌else◌, List, [], length, map, take, Option, None, Some, option_map}
-use Rattle.strm_types.specs.declared.limits.TheConstants.{READ_MAX}
-use Rattle.strm_types.specs.declared.answers.Answer.TheVariants.{Done, Name, Count, Bytes, Msg, Sizes, Signals, Stop}
-use Rattle.strm_types.specs.declared.events.Event.TheVariants.{OpenMaster, Unlock, OpenSlave, Shut, Push, Pop, Look, Flush, Write, Read, Put, Get, Mode, Nread, Ioctl, IoctlResult}
+use Rattle.strm_laws.specs.Prelude.{READ_MAX, Done, Count, Bytes, Msg, Sizes, OpenMaster, Unlock, OpenSlave, Shut, Push, Pop, Look, Write, Read, Put}
+use Rattle.strm_laws.specs.Prelude.{Get, Mode, Nread, IoctlResult, StopSignal, Free, Waiting, Caller, Prio, Wanted, ModuleName, Side, Master, Slave}
+use Rattle.strm_laws.specs.Prelude.{Open, Down, Cells, cells_written, bytes_of, asks_group, group_behind, group_reply, driver_of, direction_from}
+use Rattle.strm_laws.specs.Prelude.{direction_of, enable_if, enable_some, head_of, new_head, with_written, head_draw, read_gone, read_queue}
+use Rattle.strm_laws.specs.Prelude.{read_lets_go, is_none_left, Carried, Fate, Request, Reply, get_gone, get_queue, get_lets_go, head_get, prio_got}
+use Rattle.strm_laws.specs.Prelude.{first_data, asking, ioctl_message, Message, cells_of, part, map_fate, put_message, no_parts, told_of, slot_behind}
+use Rattle.strm_types.specs.declared.answers.Answer.TheVariants.{Name, Signals, Stop}
+use Rattle.strm_types.specs.declared.events.Event.TheVariants.{Flush, Ioctl}
 use Rattle.strm_types.specs.declared.events.Event.TheVariants as events
-use Rattle.strm_types.specs.declared.signals.StopSignal.{StopSignal}
-use Rattle.strm_types.specs.declared.slots.Slot.TheVariants.{Free, Waiting}
-use Rattle.strm_types.specs.declared.events.Caller.{Caller}
 use Rattle.strm_types.specs.declared.modes.Mode as modes
-use Rattle.strm_types.specs.declared.modes.Prio.{Prio}
-use Rattle.strm_types.specs.declared.modes.Wanted.{Wanted}
-use Rattle.strm_types.specs.declared.names.ModuleName.{ModuleName}
-use Rattle.strm_types.specs.declared.names.Side.{Side}
-use Rattle.strm_types.specs.declared.names.Side.TheVariants.{Master, Slave}
-use Rattle.strm_types.specs.declared.names.Openness.TheVariants.{Open}
-use Rattle.strm_types.specs.declared.names.Way.TheVariants.{Down}
-use Rattle.strm_types.specs.Cells.{Cells, cells_written, bytes_of}
 use Rattle.strm_laws.specs.Earlier.{before_head}
-use Rattle.strm_types.specs.JobControl.{asks_group, group_behind, group_reply}
-use Rattle.strm_types.specs.Names.{driver_of, direction_from, direction_of, enable_if, enable_some, head_of}
 use Rattle.strm_laws.specs.State.{State, stream, with_stream, with_head_queue, with_ioctl, with_signals, book, with_book, map_state}
-use Rattle.strm_types.specs.Heads.{new_head, with_mode}
-use Rattle.strm_types.specs.Books.{with_written}
-use Rattle.strm_types.specs.Reads.{head_draw, read_gone, read_queue, read_lets_go}
+use Rattle.strm_types.specs.Heads.{with_mode}
 use Rattle.strm_laws.specs.Writes.{Wrote, cells_sent}
-use Rattle.strm_types.specs.Queue.{is_none_left}
 use Rattle.strm_laws.specs.Closes.{closed_at}
-use Rattle.strm_types.specs.Deliver.{Carried, Fate}
-use Rattle.strm_types.specs.Events.{Request, Reply}
-use Rattle.strm_types.specs.GetQueues.{get_gone, get_queue, get_lets_go}
-use Rattle.strm_types.specs.Gets.{head_get, prio_got, first_data}
-use Rattle.strm_types.specs.Ioctls.{asking, ioctl_message}
-use Rattle.strm_types.specs.Message.{Message, cells_of, part}
-use Rattle.strm_types.specs.Origins.{map_fate}
-use Rattle.strm_types.specs.PutMsg.{put_message, no_parts}
 use Rattle.strm_laws.specs.Pushes.{named_by, popped, pushed_named, top_on}
 use Rattle.strm_laws.specs.Puts.{delivered, flushed_on}
 use Rattle.strm_laws.specs.Refusals.{stop_of}
-use Rattle.strm_types.specs.Slots.{told_of, slot_behind}
 
 -- the name of the module on top is told; there is one where a look isn't refused
 abbrev pub name_told : Option ModuleName → Reply

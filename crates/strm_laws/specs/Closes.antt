@@ -1,18 +1,11 @@
 -- What flushes and closes take from the queues of a pair, and by which rule it goes; a close of a side (flushq(9F), flushband(9F),
 -- streamio(7I): I_FLUSH; close(2); STREAMS Programming Guide, "Flush Handling").
 use Rattle.std.specs.Prelude.{true, if◌then◌else◌, [], ◌∷◌, ◌++◌}
-use Rattle.strm_types.specs.declared.names.Side.{Side}
-use Rattle.strm_types.specs.declared.names.Side.TheVariants.{Master, Slave}
-use Rattle.strm_types.specs.declared.names.Openness.TheVariants.{Closed}
-use Rattle.strm_types.specs.declared.rules.Rule.{Rule}
-use Rattle.strm_types.specs.declared.rules.Rule.TheVariants.{EndClosed}
-use Rattle.strm_types.specs.Deliver.{Carried, Goes}
-use Rattle.strm_types.specs.Emptied.{Choice, of_all, cells_gone, queue_behind, writer_goes}
+use Rattle.strm_laws.specs.Prelude.{Side, Master, Slave, Closed, Rule, EndClosed, Carried, Goes, Choice, of_all, cells_gone, queue_behind}
+use Rattle.strm_laws.specs.Prelude.{writer_goes, driver_of, head_of, direction_of, is_open, enable_some, new_head}
 use Rattle.strm_laws.specs.Earlier.{before_head, before_driver}
 use Rattle.strm_laws.specs.Pushes.{modules_emptied}
-use Rattle.strm_types.specs.Names.{driver_of, head_of, direction_of, is_open, enable_some}
 use Rattle.strm_laws.specs.State.{State, stream, with_stream, with_head_queue, with_driver_queue}
-use Rattle.strm_types.specs.Heads.{new_head}
 
 module _ {C : Type 0} where
   -- the head's queue of a side is emptied, and the nearest earlier queue with service is enabled where a writer goes

@@ -1,15 +1,7 @@
 -- The modules of a side's stream by their places, and the nearest earlier queue with service, which is enabled where a queue has room
 -- again (STREAMS Programming Guide, "Flow Control"). Places count from the head's, 0, over the modules from the top, to the driver's.
 use Rattle.std.specs.Prelude.{ℕ, ◌≡◌, suc, ◌-◌, min, nat_le, if◌then◌else◌, List, [], length, map, slice_index_or, Option, None, Some}
-use Rattle.strm_types.specs.declared.limits.TheConstants.{MODULES}
-use Rattle.strm_types.specs.declared.names.Place.{Place}
-use Rattle.strm_types.specs.declared.names.QueueName.{QueueName}
-use Rattle.strm_types.specs.declared.names.Side.{Side}
-use Rattle.strm_types.specs.declared.names.Way.{Way}
-use Rattle.strm_types.specs.declared.names.Way.TheVariants.{Up, Down}
-use Rattle.strm_types.specs.Both.{AllSides}
-use Rattle.strm_types.specs.ModuleQueues.{place_before}
-use Rattle.strm_types.specs.Names.{driver_of, other, place_of}
+use Rattle.strm_laws.specs.Prelude.{MODULES, Place, QueueName, Side, Way, Up, Down, AllSides, place_before, driver_of, other, place_of}
 use Rattle.strm_laws.specs.Stacked.{Standing, module_name}
 use Rattle.strm_laws.specs.State.{State, stream}
 

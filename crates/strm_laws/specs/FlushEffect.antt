@@ -1,14 +1,9 @@
 -- What a flush of a side's stream takes where no module stands on it, said by the queues that it reaches (flushq(9F),
 -- flushband(9F); streamio(7I): I_FLUSH; STREAMS Programming Guide, "Flush Handling").
 use Rattle.std.specs.Prelude.{if◌then◌else◌, []}
-use Rattle.strm_types.specs.declared.events.FlushQueues.{FlushQueues}
+use Rattle.strm_laws.specs.Prelude.{FlushQueues, Side, Flushed, Carried, Choice, other, is_open}
 use Rattle.strm_types.specs.declared.events.FlushQueues.TheVariants.{Read, Write, Both}
-use Rattle.strm_types.specs.declared.names.Side.{Side}
-use Rattle.strm_types.specs.declared.rules.Rule.TheVariants.{Flushed}
-use Rattle.strm_types.specs.Deliver.{Carried}
 use Rattle.strm_laws.specs.Closes.{head_emptied, driver_emptied, and_then}
-use Rattle.strm_types.specs.Emptied.{Choice}
-use Rattle.strm_types.specs.Names.{other, is_open}
 use Rattle.strm_laws.specs.State.{State, stream}
 
 module _ {C : Type 0} where

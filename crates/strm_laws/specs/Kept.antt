@@ -2,26 +2,15 @@
 -- takes away.
 use Rattle.std.specs.Prelude.{◌≡◌, ℕ, ◌+◌, Bool, false, List, [], ◌∷◌, count_by}
 use Rattle.std.specs.List.{AllByRecursion}
-use Rattle.strm_types.specs.declared.names.Place.{Place}
-use Rattle.strm_types.specs.declared.names.Place.TheVariants.{Head, Ldterm, Driver}
-use Rattle.strm_types.specs.declared.names.Dir.{Dir}
-use Rattle.strm_types.specs.declared.names.Side.{Side}
-use Rattle.strm_types.specs.declared.names.Side.TheVariants.{Master, Slave}
-use Rattle.strm_types.specs.declared.names.Way.TheVariants.{Up, Down}
-use Rattle.strm_types.specs.declared.entries.Entry.TheVariants.{Called, Turned}
-use Rattle.strm_types.specs.Both.{AllSides}
-use Rattle.strm_types.specs.Cells.{Cells}
+use Rattle.strm_laws.specs.Prelude.{Place, Ldterm, Driver, Dir, Side, Master, Slave, Up, Down, Called, Turned, AllSides, Cells, direction_at}
+use Rattle.strm_laws.specs.Prelude.{direction_from, is_open, weight, Fate, tallied, Fates, PlainEntry}
+use Rattle.strm_types.specs.declared.names.Place.TheVariants.{Head}
 use Rattle.strm_laws.specs.LdtermWeights.{IgnoresMapping}
-use Rattle.strm_types.specs.Names.{direction_at, direction_from, is_open}
-use Rattle.strm_types.specs.Queue.{weight}
 use Rattle.strm_laws.specs.Stacked.{IsAtRest, modules_weight}
 use Rattle.strm_laws.specs.State.{State, Stream, stream}
-use Rattle.strm_types.specs.Deliver.{Fate, tallied}
 use Rattle.strm_laws.specs.Step.{after}
-use Rattle.strm_types.specs.declared.rules.Fates.{Fates}
 use Rattle.strm_laws.specs.Calls.{called}
 use Rattle.strm_laws.specs.Turns.{turned}
-use Rattle.strm_types.specs.Journal.{PlainEntry}
 
 module _ {C : Type 0} where
   -- A turn of a module's queue may map a byte to another one, as ICRNL does, so a test has to say the same of the two. All else leaves each

@@ -1,10 +1,7 @@
 -- ldterm over other cells, as where the origins of cells are forgotten.
 use Rattle.std.specs.Prelude.{map, option_map}
-use Rattle.strm_types.specs.Ldterms.{Discipline, Ldterm, Stage, Between, Begun, Answered, by_itself, discipline, pair_of}
-use Rattle.strm_types.specs.Message.{map_message}
-use Rattle.strm_types.specs.Origins.{map_acted}
-use Rattle.strm_types.specs.Service.{Serving}
-use Rattle.strm_types.specs.Standings.{map_pair}
+use Rattle.strm_laws.specs.Prelude.{Discipline, Stage, Between, Begun, Answered, discipline, map_message, map_acted, Serving, map_pair}
+use Rattle.strm_types.specs.Ldterms.{Ldterm, by_itself, pair_of}
 
 module _ {C D : Type 0} (f : C → D) where
   abbrev pub map_stage : Stage C → Stage D

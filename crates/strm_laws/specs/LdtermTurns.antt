@@ -1,12 +1,8 @@
 -- What holds of ldterm between the calls of its procedures.
 use Rattle.std.specs.Prelude.{◌≡◌, Bool, true, false, not, ◌&&◌, ◌==◌, [], None, is_some}
 use Rattle.std.specs.List.{list_any}
-use Rattle.strm_types.specs.declared.names.Way.{Way}
-use Rattle.strm_types.specs.declared.names.Way.TheVariants.{Up}
-use Rattle.strm_types.specs.Input.{is_data}
-use Rattle.strm_types.specs.Ldterms.{Discipline, Ldterm, Between, is_between}
-use Rattle.strm_types.specs.Message.{Message}
-use Rattle.strm_types.specs.Queue.{is_none_left}
+use Rattle.strm_laws.specs.Prelude.{Way, Up, is_data, Discipline, Between, is_between, Message, is_none_left}
+use Rattle.strm_types.specs.Ldterms.{Ldterm}
 
 -- a message as an echo is: M_DATA of band 0
 abbrev pub is_echo : {C : Type 0} → Message C → Bool

@@ -1,18 +1,10 @@
 -- Where the cells are that ldterm holds: on its queues and in its unfinished line, and in a turn of its read queue also in the
 -- message in work, as the byte that has begun, and among those that wait to go up together. Those on its queues are its stream's.
 use Rattle.std.specs.Prelude.{ℕ, ◌≡◌, ◌+◌, ◌*◌, ◌≤◌, Bool, true, false, [], ◌∷◌, count_by, Option, None, Some, unwrap_or}
-use Rattle.strm_types.specs.declared.names.Dir.{Dir}
-use Rattle.strm_types.specs.declared.names.Side.{Side}
-use Rattle.strm_types.specs.declared.names.Way.{Way}
-use Rattle.strm_types.specs.declared.names.Way.TheVariants.{Up, Down}
-use Rattle.strm_types.specs.Cells.{Cells}
-use Rattle.strm_types.specs.Deliver.{Acted}
-use Rattle.strm_types.specs.Input.{stages_done, to_treat}
-use Rattle.strm_types.specs.Ldterms.{Discipline, Ldterm, Stage, Between, Begun, Answered}
-use Rattle.strm_types.specs.Message.{Message, weight_of}
-use Rattle.strm_types.specs.Names.{direction_at}
+use Rattle.strm_laws.specs.Prelude.{Dir, Side, Way, Up, Down, Cells, Acted, stages_done, to_treat, Discipline, Stage, Between, Begun, Answered}
+use Rattle.strm_laws.specs.Prelude.{Message, weight_of, direction_at, weight, is_none_left}
+use Rattle.strm_types.specs.Ldterms.{Ldterm}
 use Rattle.strm_laws.specs.Places.{weight_sent, weight_gone, weight_made}
-use Rattle.strm_types.specs.Queue.{weight, is_none_left}
 
 -- how many cells of a message, if there is one, pass a test
 abbrev pub weight_in_work : {C : Type 0} → (C → Bool) → Option (Message C) → ℕ

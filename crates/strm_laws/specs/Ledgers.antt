@@ -1,23 +1,14 @@
 -- The ledger of a direction: how many bytes were written and made there, how many stand on its queues and in its unfinished lines, and how
 -- many have gone by each rule; and in how many places a single byte is (STREAMS Programming Guide, "Message Queues"; termio(7I)).
 use Rattle.std.specs.Prelude.{ℕ, ◌≡◌, ◌+◌, ◌<◌, ◌^◌, ◌==◌, nat_le, nat_lt, Bool, true, false, ◌&&◌, List, [], ◌∷◌, ◌++◌, length, sum_by}
+use Rattle.strm_laws.specs.Prelude.{Dir, MasterToSlave, SlaveToMaster, QueueName, Up, Down, Fates, RULES, Cells, Origin, Written, Made, Base, Tagged}
+use Rattle.strm_laws.specs.Prelude.{tagged, Fate, PlainEntry, other, side_from, fates_of}
 use Rattle.strm_types.specs.declared.ledger.Ledger.{Ledger}
-use Rattle.strm_types.specs.declared.names.Dir.{Dir}
-use Rattle.strm_types.specs.declared.names.Dir.TheVariants.{MasterToSlave, SlaveToMaster}
 use Rattle.strm_types.specs.declared.names.Place.TheVariants as places
-use Rattle.strm_types.specs.declared.names.QueueName.{QueueName}
-use Rattle.strm_types.specs.declared.names.Way.TheVariants.{Up, Down}
-use Rattle.strm_types.specs.declared.rules.Fates.{Fates}
-use Rattle.strm_types.specs.declared.rules.TheConstants.{RULES}
 use Rattle.strm_laws.specs.Based.{based, cells_in}
-use Rattle.strm_types.specs.Cells.{Cells, Origin, Written, Made, Base, Tagged, tagged}
-use Rattle.strm_types.specs.Deliver.{Fate}
-use Rattle.strm_types.specs.Journal.{PlainEntry}
 use Rattle.strm_laws.specs.Kept.{gone, state_weight}
-use Rattle.strm_types.specs.Names.{other, side_from}
 use Rattle.strm_laws.specs.Places.{weight_gone}
 use Rattle.strm_laws.specs.Pushes.{messages_on}
-use Rattle.strm_types.specs.Rules.{fates_of}
 use Rattle.strm_laws.specs.Stacked.{module_line}
 use Rattle.strm_laws.specs.State.{State, book, stream}
 use Rattle.strm_laws.specs.Step.{after, replay}

@@ -1,3 +1,4 @@
+pub mod Prelude
 pub mod State
 pub mod Writes
 pub mod Places

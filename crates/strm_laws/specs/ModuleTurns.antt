@@ -1,30 +1,15 @@
 -- Turns of the queues of modules (STREAMS Programming Guide, "Service Procedures", "Flow Control"; srv(9E), canputnext(9F),
 -- bcanput(9F), putbq(9F)). Places count from the head's, 0, over the modules from the top, to the driver's.
 use Rattle.std.specs.Prelude.{ℕ, zero, suc, ◌+◌, ◌-◌, ◌*◌, ◌==◌, max, min, Bool, true, false, not, if◌then◌else◌, List, [], ◌∷◌, ◌++◌, take, Option, None, Some}
-use Rattle.strm_types.specs.declared.answers.Turn.{Turn}
-use Rattle.strm_types.specs.declared.answers.Turn.TheVariants.{Moved, Blocked, Idle}
-use Rattle.strm_types.specs.declared.limits.TheConstants.{MODULES, HOPS}
-use Rattle.strm_types.specs.declared.names.Place.{Place}
-use Rattle.strm_types.specs.declared.names.QueueName.{QueueName}
-use Rattle.strm_types.specs.declared.names.Side.{Side}
-use Rattle.strm_types.specs.declared.names.Way.{Way}
-use Rattle.strm_types.specs.declared.names.Way.TheVariants.{Down}
-use Rattle.strm_types.specs.declared.spots.Asks.{Asks}
+use Rattle.strm_laws.specs.Prelude.{Turn, Moved, Blocked, Idle, MODULES, HOPS, Place, QueueName, Side, Way, Down, Asks, Spot, Cells, Acted, Fate}
+use Rattle.strm_laws.specs.Prelude.{Took, carried, in_turn, at_place, messages_at, queue_changed, act_among, change_among, direction_at, enable_if}
+use Rattle.strm_laws.specs.Prelude.{enable_some, same_place, end_relieves, has_more, turn_ended, first_size}
 use Rattle.strm_types.specs.declared.spots.Asks.TheVariants as asked
-use Rattle.strm_types.specs.declared.spots.Spot.{Spot}
-use Rattle.strm_types.specs.Cells.{Cells}
-use Rattle.strm_types.specs.Deliver.{Acted, Fate, Took, carried, in_turn}
 use Rattle.strm_laws.specs.Earlier.{places_of}
-use Rattle.strm_types.specs.ModuleQueues.{at_place}
-use Rattle.strm_types.specs.Standings.{messages_at, queue_changed}
-use Rattle.strm_types.specs.Modules.{act_among, change_among}
-use Rattle.strm_types.specs.Names.{direction_at, enable_if, enable_some, same_place}
 use Rattle.strm_laws.specs.Puts.{earlier_at, module_acted, put_in}
-use Rattle.strm_types.specs.Service.{end_relieves, has_more, turn_ended}
 use Rattle.strm_laws.specs.Stacked.{Standing, module_asks, module_rests, module_serves}
 use Rattle.strm_laws.specs.State.{State, Stream, book, stream, with_stream}
 use Rattle.strm_laws.specs.TurnOutcomes.{TurnOutcome, stayed_put}
-use Rattle.strm_types.specs.Queue.{first_size}
 use Rattle.strm_laws.specs.Past.{has_room_past, writer_waits}
 
 -- What calls of a turn lead to: the state behind them, what has gone or was made, how many bytes they treated, and whether the turn

@@ -1,33 +1,13 @@
 -- A pair as its callers see it, and what a call or a turn adds to it.
 use Rattle.std.specs.Prelude.{◌≡◌, ◌<◌, ◌⊎◌, ℕ, true, false, zero, suc, List, [], ◌∷◌, ◌++◌, Option, None, Some, slice_get}
-use Rattle.strm_types.specs.declared.limits.Config.{Config}
-use Rattle.strm_types.specs.declared.answers.Turn.{Turn}
-use Rattle.strm_types.specs.declared.answers.Turn.TheVariants.{Moved, Blocked, Idle}
-use Rattle.strm_types.specs.declared.limits.TheConstants.{STOP_BLOCKS}
-use Rattle.strm_types.specs.declared.names.Place.TheVariants.{Ldterm}
-use Rattle.strm_types.specs.declared.names.Side.{Side}
-use Rattle.strm_types.specs.declared.names.Side.TheVariants.{Master}
-use Rattle.strm_types.specs.declared.names.Way.{Way}
-use Rattle.strm_types.specs.declared.names.Way.TheVariants.{Up, Down}
-use Rattle.strm_types.specs.declared.entries.Entry.TheVariants.{Turned}
-use Rattle.strm_types.specs.declared.events.Caller.{Caller}
-use Rattle.strm_types.specs.declared.job_control.Verdict.{Verdict}
-use Rattle.strm_types.specs.declared.names.QueueName.{QueueName}
-use Rattle.strm_types.specs.declared.refusals.Refusal.{Refusal}
+use Rattle.strm_laws.specs.Prelude.{Config, Turn, Moved, Blocked, Idle, STOP_BLOCKS, Ldterm, Side, Master, Way, Up, Down, Turned, Caller, Verdict}
+use Rattle.strm_laws.specs.Prelude.{QueueName, Refusal, Request, PlainEntry, is_closed, is_open, turn_blocks, plain, tallied, no_fates, Fates}
 use Rattle.strm_laws.specs.State.{State, opening, stream}
 use Rattle.strm_laws.specs.Turns.{whole_turn}
-use Rattle.strm_types.specs.Events.{Request}
 use Rattle.strm_types.specs.JobControl.{judged}
-use Rattle.strm_types.specs.Journal.{PlainEntry}
-use Rattle.strm_types.specs.Names.{is_closed, is_open}
 use Rattle.strm_laws.specs.Refusals.{Free, enough, blocks_asked, refused, stop_of, turn_refused}
-use Rattle.strm_types.specs.Refused.{turn_blocks}
-use Rattle.strm_types.specs.Cells.{plain}
 use Rattle.strm_laws.specs.Step.{Step}
 use Rattle.strm_laws.specs.Kept.{gone}
-use Rattle.strm_types.specs.Deliver.{tallied}
-use Rattle.strm_types.specs.Rules.{no_fates}
-use Rattle.strm_types.specs.declared.rules.Fates.{Fates}
 
 -- A pair: its plain state, the base at which its journal begins, that is a state and how many bytes had gone by each rule there, the journal,
 -- the sizes that it was made with, how many blocks are free, and how many bytes have gone by each rule since it was made.

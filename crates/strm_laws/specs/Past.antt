@@ -1,11 +1,7 @@
 -- Whether a message may go on past a place of a side's stream, and a writer that waits for room there: the nearest queue past it is
 -- that of a module, or else the one at the stream's end (canputnext(9F), bcanput(9F); STREAMS Programming Guide, "Flow Control").
 use Rattle.std.specs.Prelude.{ℕ, Bool, not, Option, None, Some, unwrap_or}
-use Rattle.strm_types.specs.declared.names.Side.{Side}
-use Rattle.strm_types.specs.declared.names.Way.{Way}
-use Rattle.strm_types.specs.declared.names.Way.TheVariants.{Up, Down}
-use Rattle.strm_types.specs.ModuleQueues.{can_pass, place_past, waits_at, with_waiting}
-use Rattle.strm_types.specs.Queue.{Queue, is_full}
+use Rattle.strm_laws.specs.Prelude.{Side, Way, Up, Down, can_pass, place_past, waits_at, with_waiting, Queue, is_full}
 use Rattle.strm_laws.specs.State.{State, Stream, stream, with_stream, with_head_queue, with_driver_queue}
 
 module _ {C : Type 0} where

@@ -1,12 +1,6 @@
 -- Where the cells are that a delivery moves: each was there or was made on the way, and is held, on its way, or gone by a rule.
 use Rattle.std.specs.Prelude.{ℕ, zero, suc, ◌≡◌, ◌+◌, Bool, List, [], ◌∷◌, count_by}
-use Rattle.strm_types.specs.declared.names.Dir.{Dir}
-use Rattle.strm_types.specs.declared.names.Way.{Way}
-use Rattle.strm_types.specs.declared.names.Way.TheVariants.{Up}
-use Rattle.strm_types.specs.declared.spots.Spot.{Spot}
-use Rattle.strm_types.specs.Message.{Message, weight_of}
-use Rattle.strm_types.specs.Names.{direction_at}
-use Rattle.strm_types.specs.Deliver.{Parcel, Fate, Goes, Comes, Took, Carried}
+use Rattle.strm_laws.specs.Prelude.{Dir, Way, Up, Spot, Message, weight_of, direction_at, Parcel, Fate, Goes, Comes, Took, Carried}
 
 -- The direction in which a message goes that is on its way to a spot: to a head it comes up.
 abbrev pub way_to : ℕ → Way → Way

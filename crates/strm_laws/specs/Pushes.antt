@@ -1,33 +1,15 @@
 -- Modules that are pushed on a side's stream and taken off it: what is told the head, which queue is let come, and what goes with a
 -- module (streamio(7I): I_PUSH, I_POP, I_LOOK; STREAMS Programming Guide, "Modules"; ldterm(7M)).
 use Rattle.std.specs.Prelude.{Bool, true, false, not, if◌then◌else◌, List, [], ◌∷◌, ◌++◌, flat_map, Option, None, Some, is_some}
-use Rattle.strm_types.specs.declared.modes.ReadMode.{ReadMode}
-use Rattle.strm_types.specs.declared.modes.ReadMode.TheVariants.{ByteStream, MessageKeep}
-use Rattle.strm_types.specs.declared.names.ModuleName.{ModuleName}
+use Rattle.strm_laws.specs.Prelude.{ReadMode, ByteStream, MessageKeep, ModuleName, Place, Ldterm, Driver, QueueName, Side, Way, Up, Down, Rule}
+use Rattle.strm_laws.specs.Prelude.{ModulePopped, Spot, Acted, Carried, slot_dropped, new_ldterm, Message, may_push, top_name, without_module}
+use Rattle.strm_laws.specs.Prelude.{enable_if, place_of, mode_message, is_none_left, cleared, QueuePair, has_queues, messages_at, new_pair}
 use Rattle.strm_types.specs.declared.names.ModuleName.TheVariants as names
-use Rattle.strm_types.specs.declared.names.Place.{Place}
-use Rattle.strm_types.specs.declared.names.Place.TheVariants.{Head, Ldterm, Driver}
-use Rattle.strm_types.specs.declared.names.QueueName.{QueueName}
-use Rattle.strm_types.specs.declared.names.Side.{Side}
-use Rattle.strm_types.specs.declared.names.Way.{Way}
-use Rattle.strm_types.specs.declared.names.Way.TheVariants.{Up, Down}
-use Rattle.strm_types.specs.declared.rules.Rule.{Rule}
-use Rattle.strm_types.specs.declared.rules.Rule.TheVariants.{ModulePopped}
-use Rattle.strm_types.specs.declared.spots.Spot.{Spot}
-use Rattle.strm_types.specs.Deliver.{Acted, Carried}
-use Rattle.strm_types.specs.Dropped.{slot_dropped}
+use Rattle.strm_types.specs.declared.names.Place.TheVariants.{Head}
 use Rattle.strm_laws.specs.Earlier.{before_at}
-use Rattle.strm_types.specs.Ldterms.{new_ldterm}
-use Rattle.strm_types.specs.Message.{Message}
-use Rattle.strm_types.specs.Modules.{may_push, top_name, without_module}
-use Rattle.strm_types.specs.Names.{enable_if, place_of}
-use Rattle.strm_types.specs.Options.{mode_message}
 use Rattle.strm_types.specs.Pckts.{new_pckt}
 use Rattle.strm_types.specs.Ptems.{new_ptem}
 use Rattle.strm_laws.specs.Puts.{earlier_at, noted, put_at_head}
-use Rattle.strm_types.specs.Queue.{is_none_left}
-use Rattle.strm_types.specs.Service.{cleared}
-use Rattle.strm_types.specs.Standings.{QueuePair, has_queues, messages_at, new_pair}
 use Rattle.strm_laws.specs.Stacked.{Module, Standing, OfLdterm, OfPtem, OfPckt, module_name, without_kind_line, kind_line}
 use Rattle.strm_laws.specs.State.{State, Stream, stream, with_ioctl, with_stream}
 

@@ -1,10 +1,6 @@
 -- What becomes of a message with parts that goes down a side's stream, where no module stands on it (putq(9F)).
 use Rattle.std.specs.Prelude.{[]}
-use Rattle.strm_types.specs.declared.names.Side.{Side}
-use Rattle.strm_types.specs.Deliver.{Carried}
-use Rattle.strm_types.specs.Message.{Message}
-use Rattle.strm_types.specs.Names.{driver_of, enable_if}
-use Rattle.strm_types.specs.Queue.{put_on, put_enables}
+use Rattle.strm_laws.specs.Prelude.{Side, Carried, Message, driver_of, enable_if, put_on, put_enables}
 use Rattle.strm_laws.specs.State.{State, stream, with_stream, with_driver_queue}
 
 module _ {C : Type 0} where

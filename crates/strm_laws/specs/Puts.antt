@@ -1,32 +1,12 @@
 -- What a message does that is put at a spot of a pair, and with all that it gives rise to (STREAMS Programming Guide, "Put
 -- Procedures"): at a head, at a module, at a driver, or at a place where nothing stands. What a module makes on the way is booked.
 use Rattle.std.specs.Prelude.{ℕ, suc, ◌≡◌, ◌-◌, ◌&&◌, ◌==◌, nat_le, if◌then◌else◌, List, [], ◌∷◌, length, slice_index_or, Option, None, Some}
-use Rattle.strm_types.specs.declared.events.FlushQueues.{FlushQueues}
-use Rattle.strm_types.specs.declared.kinds.Band.{Band}
-use Rattle.strm_types.specs.declared.limits.TheConstants.{MODULES, HOPS}
-use Rattle.strm_types.specs.declared.names.Dir.{Dir}
-use Rattle.strm_types.specs.declared.names.Side.{Side}
-use Rattle.strm_types.specs.declared.names.Side.TheVariants.{Master}
-use Rattle.strm_types.specs.declared.names.Place.{Place}
+use Rattle.strm_laws.specs.Prelude.{FlushQueues, Band, MODULES, HOPS, Dir, Side, Master, Place, QueueName, Way, Up, Down, EndClosed, Across, Note}
+use Rattle.strm_laws.specs.Prelude.{Enable, Room, Spot, with_made, Cells, Acted, Carried, Comes, Fate, Goes, Took, carried, driver_put, asked_of}
+use Rattle.strm_laws.specs.Prelude.{flush_bytes, flush_message, is_bare_flush, head_put, Message, cells_of, put_among, other, is_open, is_closed}
+use Rattle.strm_laws.specs.Prelude.{direction_at, enable_found}
 use Rattle.strm_types.specs.declared.names.Place.TheVariants as places
-use Rattle.strm_types.specs.declared.names.QueueName.{QueueName}
-use Rattle.strm_types.specs.declared.names.Way.{Way}
-use Rattle.strm_types.specs.declared.names.Way.TheVariants.{Up, Down}
-use Rattle.strm_types.specs.declared.rules.Rule.TheVariants.{EndClosed}
-use Rattle.strm_types.specs.declared.spots.Across.{Across}
-use Rattle.strm_types.specs.declared.spots.Note.{Note}
-use Rattle.strm_types.specs.declared.spots.Note.TheVariants.{Enable, Room}
-use Rattle.strm_types.specs.declared.spots.Spot.{Spot}
-use Rattle.strm_types.specs.Books.{with_made}
-use Rattle.strm_types.specs.Cells.{Cells}
-use Rattle.strm_types.specs.Deliver.{Acted, Carried, Comes, Fate, Goes, Took, carried}
-use Rattle.strm_types.specs.Drivers.{driver_put}
-use Rattle.strm_types.specs.Flushing.{asked_of, flush_bytes, flush_message, is_bare_flush}
-use Rattle.strm_types.specs.Heads.{head_put}
-use Rattle.strm_types.specs.Message.{Message, cells_of}
 use Rattle.strm_laws.specs.Earlier.{before_at, driver_place, modules_on, places_of, queue_named}
-use Rattle.strm_types.specs.Modules.{put_among}
-use Rattle.strm_types.specs.Names.{other, is_open, is_closed, direction_at, enable_found}
 use Rattle.strm_laws.specs.Stacked.{Standing, module_puts}
 use Rattle.strm_laws.specs.State.{State, book, stream, with_book, with_stream, with_driver_queue}
 

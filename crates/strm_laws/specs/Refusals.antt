@@ -1,40 +1,21 @@
 -- Which refusal a call or a turn meets: the first whose condition holds, in this order. A side that isn't open; an
 -- argument; a book that is full; a full journal; too few free blocks; what the state says: job control, and what is there.
 use Rattle.std.specs.Prelude.{ℕ, Bool, true, not, ◌&&◌, ◌||◌, nat_lt, nat_le, ◌+◌, ◌-◌, List, length, Option, None, is_some}
-use Rattle.strm_types.specs.declared.limits.Config.{Config}
-use Rattle.strm_types.specs.declared.job_control.Verdict.{Verdict}
-use Rattle.strm_types.specs.declared.signals.StopSignal.{StopSignal}
-use Rattle.strm_types.specs.JobControl.{foreground, held, refusal_behind, stop_in}
-use Rattle.strm_types.specs.declared.events.Caller.{Caller}
-use Rattle.strm_types.specs.declared.names.QueueName.{QueueName}
-use Rattle.strm_types.specs.declared.refusals.Refusal.{Refusal}
-use Rattle.strm_types.specs.declared.refusals.Refusal.TheVariants.{Einval, Eagain, Enxio, Enosr, Erange, JournalFull}
-use Rattle.strm_types.specs.declared.names.Dir.TheVariants.{MasterToSlave, SlaveToMaster}
-use Rattle.strm_types.specs.declared.names.Side.{Side}
-use Rattle.strm_types.specs.declared.names.Side.TheVariants.{Master, Slave}
-use Rattle.strm_types.specs.declared.needs.Needs.{Needs}
-use Rattle.strm_types.specs.declared.needs.Reach.{Reach}
+use Rattle.strm_laws.specs.Prelude.{Config, Verdict, StopSignal, foreground, held, refusal_behind, stop_in, Caller, QueueName, Refusal, Einval}
+use Rattle.strm_laws.specs.Prelude.{Eagain, Enxio, Enosr, Erange, JournalFull, MasterToSlave, SlaveToMaster, Side, Master, Slave, Needs, Reach}
+use Rattle.strm_laws.specs.Prelude.{is_master, is_enabled, is_open, is_closed, is_free, result_refusal, chunk_count, read_refusal, get_refusal}
+use Rattle.strm_laws.specs.Prelude.{put_waits, IOCTL_END, OpenMaster, OpenSlave, Push, Pop, Look, Write, Read, Put, Get, IoctlResult, Request, needs}
+use Rattle.strm_laws.specs.Prelude.{PlainEntry, room_used, messages_at, Up, or_else, unless, has_no_data}
 use Rattle.strm_types.specs.declared.needs.Reach.TheVariants as reaches
 use Rattle.std.specs.List.{list_any}
-use Rattle.strm_types.specs.Names.{is_master, is_enabled, is_open, is_never, is_closed}
+use Rattle.strm_types.specs.Names.{is_never}
 use Rattle.strm_laws.specs.Pushes.{may_stand, named_by, top_on}
 use Rattle.strm_laws.specs.State.{State, book, stream}
-use Rattle.strm_types.specs.Slots.{is_free, result_refusal}
-use Rattle.strm_types.specs.Write.{chunk_count}
-use Rattle.strm_types.specs.Reads.{read_refusal}
-use Rattle.strm_types.specs.Gets.{get_refusal}
-use Rattle.strm_types.specs.PutMsg.{put_blocks, put_waits}
-use Rattle.strm_types.specs.declared.limits.TheConstants.{IOCTL_END}
-use Rattle.strm_types.specs.declared.events.Event.TheVariants.{OpenMaster, OpenSlave, Push, Pop, Look, Write, Read, Put, Get, Ioctl, IoctlResult}
+use Rattle.strm_types.specs.PutMsg.{put_blocks}
+use Rattle.strm_types.specs.declared.events.Event.TheVariants.{Ioctl}
 use Rattle.strm_types.specs.Books as books
-use Rattle.strm_types.specs.Events.{Request}
-use Rattle.strm_types.specs.Needs.{needs}
-use Rattle.strm_types.specs.Journal.{PlainEntry, room_used}
 use Rattle.strm_laws.specs.Writes.{is_full_below}
 use Rattle.strm_laws.specs.Stacked.{Standing}
-use Rattle.strm_types.specs.Standings.{messages_at}
-use Rattle.strm_types.specs.declared.names.Way.TheVariants.{Up}
-use Rattle.strm_types.specs.Refused.{or_else, unless, has_no_data}
 
 -- how many blocks of each kind are free
 pub record Free : Type 0 where

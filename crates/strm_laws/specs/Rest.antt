@@ -2,20 +2,10 @@
 -- (STREAMS Programming Guide, "Service Procedures"; srv(9E)).
 use Rattle.std.specs.Prelude.{ℕ, suc, ◌≡◌, ◌≤◌, ◌+◌, ◌*◌, Bool, true, false, List, [], ◌∷◌, length, sum_by, count_by, Option, None, Some}
 use Rattle.std.specs.List.{list_any}
-use Rattle.strm_types.specs.declared.kinds.MsgKind.{MsgKind}
-use Rattle.strm_types.specs.declared.kinds.MsgKind.TheVariants.{Data, Proto, Ioctl}
-use Rattle.strm_types.specs.declared.names.ModuleName.{ModuleName}
+use Rattle.strm_laws.specs.Prelude.{MsgKind, Data, Proto, Ioctl, ModuleName, Ldterm, Driver, QueueName, Side, Master, Slave, Up, Down, disciplined}
+use Rattle.strm_laws.specs.Prelude.{Discipline, Stage, Between, Begun, Answered, Message, cells_of, is_enabled, other, echo_most}
 use Rattle.strm_types.specs.declared.names.ModuleName.TheVariants as names
-use Rattle.strm_types.specs.declared.names.Place.TheVariants.{Head, Ldterm, Driver}
-use Rattle.strm_types.specs.declared.names.QueueName.{QueueName}
-use Rattle.strm_types.specs.declared.names.Side.{Side}
-use Rattle.strm_types.specs.declared.names.Side.TheVariants.{Master, Slave}
-use Rattle.strm_types.specs.declared.names.Way.TheVariants.{Up, Down}
-use Rattle.strm_types.specs.LdtermStands.{disciplined}
-use Rattle.strm_types.specs.Ldterms.{Discipline, Stage, Between, Begun, Answered}
-use Rattle.strm_types.specs.Message.{Message, cells_of}
-use Rattle.strm_types.specs.Names.{is_enabled, other}
-use Rattle.strm_types.specs.Service.{echo_most}
+use Rattle.strm_types.specs.declared.names.Place.TheVariants.{Head}
 use Rattle.strm_laws.specs.Restorable.{is_ldterm}
 use Rattle.strm_laws.specs.StackCosts.{Stands, stands_of, stands_on}
 use Rattle.strm_laws.specs.Stacked.{Module, OfLdterm, Standing}

@@ -2,42 +2,19 @@
 -- said of the message in work and of options isn't stored: by it calls and turns keep the rest.
 use Rattle.std.specs.Prelude.{◌≡◌, ◌≤◌, ◌<◌, ◌+◌, ◌^◌, ◌||◌, Bool, true, false, List, [], map, length, Option, None, Some, is_some}
 use Rattle.std.specs.List.{AllByRecursion, list_any}
-use Rattle.strm_types.specs.declared.events.Event.TheVariants.{Put}
-use Rattle.strm_types.specs.declared.entries.Entry.TheVariants.{Called, Turned}
-use Rattle.strm_types.specs.declared.kinds.MsgKind.{MsgKind}
-use Rattle.strm_types.specs.declared.kinds.MsgKind.TheVariants.{Ioctl, Iocack, Iocnak, Setopts}
-use Rattle.strm_types.specs.declared.limits.TheConstants.{BANDS, IOCTL_MAX, IOCTL_END, MODULES}
-use Rattle.strm_types.specs.declared.keys.TheConstants.{LINE_MAX}
-use Rattle.strm_types.specs.declared.output.TheConstants.{COLUMN_MAX}
-use Rattle.strm_types.specs.declared.modes.Prio.{Prio}
-use Rattle.strm_types.specs.declared.modes.Prio.TheVariants.{High, Band}
-use Rattle.strm_types.specs.declared.names.ModuleName.{ModuleName}
+use Rattle.strm_laws.specs.Prelude.{Put, Called, Turned, MsgKind, Ioctl, Iocack, Iocnak, Setopts, BANDS, IOCTL_MAX, IOCTL_END, MODULES, LINE_MAX}
+use Rattle.strm_laws.specs.Prelude.{COLUMN_MAX, Prio, High, ModuleName, Place, Ldterm, Driver, QueueName, Side, Way, Up, Down, Free, Termios}
+use Rattle.strm_laws.specs.Prelude.{AllSides, crosses, Request, Head as TheHead, is_data, PlainEntry, is_control_kind, is_body_kind, is_ioctl}
+use Rattle.strm_laws.specs.Prelude.{waits_there, Message, is_part, is_high_priority, is_master, is_open, place_of, options_in, Flow, IsOrdered, Queue}
+use Rattle.strm_laws.specs.Prelude.{QueuePair, has_queues}
+use Rattle.strm_types.specs.declared.modes.Prio.TheVariants.{Band}
 use Rattle.strm_types.specs.declared.names.ModuleName.TheVariants as names
-use Rattle.strm_types.specs.declared.names.Place.{Place}
-use Rattle.strm_types.specs.declared.names.Place.TheVariants.{Head, Ldterm, Driver}
-use Rattle.strm_types.specs.declared.names.QueueName.{QueueName}
-use Rattle.strm_types.specs.declared.names.Side.{Side}
-use Rattle.strm_types.specs.declared.names.Way.{Way}
-use Rattle.strm_types.specs.declared.names.Way.TheVariants.{Up, Down}
-use Rattle.strm_types.specs.declared.slots.Slot.TheVariants.{Free}
-use Rattle.strm_types.specs.declared.termios.Termios.{Termios}
-use Rattle.strm_types.specs.Both.{AllSides}
-use Rattle.strm_types.specs.Drivers.{crosses}
-use Rattle.strm_types.specs.Events.{Request}
-use Rattle.strm_types.specs.Heads.{Head as TheHead}
-use Rattle.strm_types.specs.Input.{is_data}
-use Rattle.strm_types.specs.Journal.{PlainEntry}
-use Rattle.strm_types.specs.Kinds.{is_control_kind, is_body_kind}
-use Rattle.strm_types.specs.Commands.{is_ioctl}
-use Rattle.strm_types.specs.Ldterms.{Ldterm as TheLdterm, waits_there}
-use Rattle.strm_types.specs.Message.{Message, is_part, is_high_priority}
-use Rattle.strm_types.specs.Names.{IsOnce, is_master, is_open, place_of}
-use Rattle.strm_types.specs.Options.{options_in}
-use Rattle.strm_types.specs.Queue.{Flow, IsOrdered, Queue}
+use Rattle.strm_types.specs.declared.names.Place.TheVariants.{Head}
+use Rattle.strm_types.specs.Ldterms.{Ldterm as TheLdterm}
+use Rattle.strm_types.specs.Names.{IsOnce}
 use Rattle.strm_laws.specs.Kept.{AreIdle}
 use Rattle.strm_laws.specs.StackCosts.{EachOnce, Stands, stands_of, stands_on}
 use Rattle.strm_laws.specs.Within.{AreWithin}
-use Rattle.strm_types.specs.Standings.{QueuePair, has_queues}
 use Rattle.strm_laws.specs.Stacked.{Module, OfLdterm, OfPtem, OfPckt, Standing, module_name}
 use Rattle.strm_laws.specs.State.{State, Stream}
 

@@ -2,16 +2,12 @@
 -- number for what goes across.
 use Rattle.std.specs.Prelude.{ℕ, zero, suc, ◌+◌, ◌-◌, ◌==◌, nat_le, min, Bool, not, ◌&&◌, ◌||◌, if◌then◌else◌, List, [], ◌∷◌, ◌++◌, length, map, sum_by, count_by, take}
 use Rattle.std.specs.List.{list_all}
-use Rattle.strm_types.specs.declared.limits.TheConstants.{HOPS, MODULES}
-use Rattle.strm_types.specs.declared.names.ModuleName.{ModuleName}
+use Rattle.strm_laws.specs.Prelude.{HOPS, MODULES, ModuleName, Side, Way, Up, Down, Costs, Does, beyond, other, same_module, At, Shape, Held, Asking}
+use Rattle.strm_laws.specs.Prelude.{Acking, FlushR, FlushW, FlushRW, FlushMixed, Packed, Passing, is_flushing, Crossing, ToDriver, ToReaders}
+use Rattle.strm_laws.specs.Prelude.{driver_does, head_does, name_does}
 use Rattle.strm_types.specs.declared.names.ModuleName.TheVariants as names
-use Rattle.strm_types.specs.declared.names.Side.{Side}
-use Rattle.strm_types.specs.declared.names.Way.{Way}
-use Rattle.strm_types.specs.declared.names.Way.TheVariants.{Up, Down}
-use Rattle.strm_types.specs.Budgets.{Costs, Does, Table, beyond, most_on}
-use Rattle.strm_types.specs.Names.{other, same_module}
-use Rattle.strm_types.specs.Shapes.{At, Shape, Held, Asking, Acking, FlushR, FlushW, FlushRW, FlushMixed, Packed, Passing, is_flushing}
-use Rattle.strm_types.specs.Tables.{Crossing, Drives, ToDriver, ToReaders, does_nothing, driver_does, head_does, name_does}
+use Rattle.strm_types.specs.Budgets.{Table, most_on}
+use Rattle.strm_types.specs.Tables.{Drives, does_nothing}
 use Rattle.strm_laws.specs.StackCosts.{Stands, stands_on}
 
 -- a message of a shape at a place of a side's stream

@@ -1,11 +1,7 @@
 -- How much more may be made before a book is full, in units of what a packet makes at most: the bytes of a message, of which there are no more than
 -- 65536 blocks hold, and the number of its kind (pckt(7M)).
 use Rattle.std.specs.Prelude.{ℕ, ◌-◌, ◌/◌, min}
-use Rattle.strm_types.specs.declared.names.Dir.TheVariants.{MasterToSlave, SlaveToMaster}
-use Rattle.strm_types.specs.declared.spots.Spot.{Spot}
-use Rattle.strm_types.specs.Message.{Message}
-use Rattle.strm_types.specs.Shapes.{shape_of}
-use Rattle.strm_types.specs.Tables.{name_does}
+use Rattle.strm_laws.specs.Prelude.{MasterToSlave, SlaveToMaster, Spot, Message, shape_of, name_does}
 use Rattle.strm_laws.specs.Stacked.{Standing, module_name}
 use Rattle.strm_laws.specs.State.{State, book}
 

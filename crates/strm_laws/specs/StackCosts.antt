@@ -1,14 +1,7 @@
 -- Which modules stand on the streams of a pair, and what each takes of a message that is put at it.
 use Rattle.std.specs.Prelude.{ℕ, ◌≤◌, zero, suc, ◌+◌, Bool, if◌then◌else◌, false, List, map, slice_index_or}
-use Rattle.strm_types.specs.declared.both.Both.{Both}
-use Rattle.strm_types.specs.declared.names.ModuleName.{ModuleName}
-use Rattle.strm_types.specs.declared.names.Side.{Side}
-use Rattle.strm_types.specs.declared.spots.Spot.{Spot}
-use Rattle.strm_types.specs.Both.{AllSides, get, map_both}
+use Rattle.strm_laws.specs.Prelude.{Both, ModuleName, Side, Spot, AllSides, get, map_both, Message, same_module, name_does}
 use Rattle.strm_types.specs.Budgets.{own_at}
-use Rattle.strm_types.specs.Message.{Message}
-use Rattle.strm_types.specs.Names.{same_module}
-use Rattle.strm_types.specs.Tables.{name_does}
 use Rattle.strm_laws.specs.Stacked.{Standing, module_name}
 use Rattle.strm_laws.specs.State.{State}
 

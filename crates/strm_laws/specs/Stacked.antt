@@ -2,27 +2,15 @@
 -- STREAMS Programming Guide, "Modules"). There are three kinds of modules. Of what is said here only what a module does differs by its kind; its queues are
 -- the stream's, and what is said of them is said once for all kinds.
 use Rattle.std.specs.Prelude.{ℕ, ◌+◌, Bool, true, List, [], ◌∷◌, sum_by, flat_map, Option, None, Some}
-use Rattle.strm_types.specs.declared.names.ModuleName.{ModuleName}
+use Rattle.strm_laws.specs.Prelude.{ModuleName, Dir, Side, Way, Up, Down, Asks, Spot, Cells, Acted, Discipline, Rests, Message, direction_at, Pckt}
+use Rattle.strm_laws.specs.Prelude.{pckt_puts, Ptem, ptem_puts, Queue, weight, Serving, done_by, served_by, QueuePair}
 use Rattle.strm_types.specs.declared.names.ModuleName.TheVariants as names
-use Rattle.strm_types.specs.declared.names.Dir.{Dir}
-use Rattle.strm_types.specs.declared.names.Side.{Side}
-use Rattle.strm_types.specs.declared.names.Way.{Way}
-use Rattle.strm_types.specs.declared.names.Way.TheVariants.{Up, Down}
-use Rattle.strm_types.specs.declared.spots.Asks.{Asks}
 use Rattle.strm_types.specs.declared.spots.Asks.TheVariants.{Empty}
-use Rattle.strm_types.specs.declared.spots.Spot.{Spot}
-use Rattle.strm_types.specs.Cells.{Cells}
-use Rattle.strm_types.specs.Deliver.{Acted}
 use Rattle.strm_types.specs.LdtermStands.{as_stands, asks_there, puts_there, serves_there}
-use Rattle.strm_types.specs.Ldterms.{Discipline, Ldterm, Rests, lineless}
-use Rattle.strm_types.specs.Message.{Message}
-use Rattle.strm_types.specs.Names.{direction_at}
-use Rattle.strm_types.specs.Pckts.{Pckt, pckt_puts}
-use Rattle.strm_types.specs.Ptems.{Ptem, ptem_puts}
-use Rattle.strm_types.specs.Queue.{Queue, weight}
-use Rattle.strm_types.specs.Service.{Serving, acts_alone, done_by, served_by, unserved}
+use Rattle.strm_types.specs.Ldterms.{Ldterm, lineless}
+use Rattle.strm_types.specs.Service.{acts_alone, unserved}
 use Rattle.strm_types.specs.Standings as standings
-use Rattle.strm_types.specs.Standings.{QueuePair, map_standing}
+use Rattle.strm_types.specs.Standings.{map_standing}
 use Rattle.strm_laws.specs.LdtermOrigins.{map_own}
 use Rattle.strm_laws.specs.LdtermTurns.{ldterm_rests}
 use Rattle.strm_laws.specs.LdtermWeights.{own_weight}

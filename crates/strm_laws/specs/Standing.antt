@@ -1,8 +1,7 @@
 -- Which typed bytes stand (termio(7I): "Canonical Mode Input Processing"). The edits of a line are listed newest first, and each is
 -- numbered by how many came before it. A byte stands while no later edit takes it.
 use Rattle.std.specs.Prelude.{ℕ, zero, suc, ◌+◌, Bool, true, false, not, ◌&&◌, ◌||◌, ◌==◌, nat_lt, nat_le, if◌then◌else◌, List, [], ◌∷◌, ◌++◌, length, Option, None, Some}
-use Rattle.strm_types.specs.declared.keys.TheConstants.{LINE_MAX}
-use Rattle.strm_types.specs.Lines.{Edit, Types, ErasesByte, ErasesWord, ErasesAll}
+use Rattle.strm_laws.specs.Prelude.{LINE_MAX, Edit, Types, ErasesByte, ErasesWord, ErasesAll}
 
 -- whether a number below another one passes a test, and how many do
 abbrev pub some_below : ℕ → (ℕ → Bool) → Bool

@@ -1,20 +1,10 @@
 -- The plain state of a pair: what every call acts on.
 use Rattle.std.specs.Prelude.{ℕ, Bool, true, List, [], ◌∷◌, ◌++◌, length, map, sum_by}
 use Rattle.std.specs.List.{AllByRecursion}
-use Rattle.strm_types.specs.declared.names.Side.{Side}
-use Rattle.strm_types.specs.declared.names.Side.TheVariants.{Master, Slave}
-use Rattle.strm_types.specs.declared.names.QueueName.{QueueName}
-use Rattle.strm_types.specs.declared.names.Dir.{Dir}
-use Rattle.strm_types.specs.declared.names.Openness.{Openness}
+use Rattle.strm_laws.specs.Prelude.{Side, Master, Slave, QueueName, Dir, Openness, Book, Both, get, set, map_both, side_from, Head, new_head}
+use Rattle.strm_laws.specs.Prelude.{map_head, PlainSlot, Queue, IsOrdered, new_queue, map_queue}
 use Rattle.strm_types.specs.declared.names.Openness.TheVariants.{Never}
-use Rattle.strm_types.specs.declared.books.Book.{Book}
-use Rattle.strm_types.specs.declared.both.Both.{Both}
-use Rattle.strm_types.specs.Both.{get, set, map_both}
 use Rattle.strm_types.specs.Books.{new_book}
-use Rattle.strm_types.specs.Names.{side_from}
-use Rattle.strm_types.specs.Heads.{Head, new_head, map_head}
-use Rattle.strm_types.specs.Slots.{PlainSlot}
-use Rattle.strm_types.specs.Queue.{Queue, IsOrdered, new_queue, map_queue}
 use Rattle.strm_laws.specs.Stacked.{Standing, map_module, queues_of_modules}
 
 -- a driver: what it has for the other side

@@ -1,17 +1,9 @@
 -- Steps of a pair, and the replay of a journal.
 use Rattle.std.specs.Prelude.{◌≡◌, true, List, [], ◌∷◌, None}
-use Rattle.strm_types.specs.declared.events.Caller.{Caller}
-use Rattle.strm_types.specs.declared.names.QueueName.{QueueName}
-use Rattle.strm_types.specs.declared.answers.Turn.{Turn}
-use Rattle.strm_types.specs.declared.entries.Entry.TheVariants.{Called, Turned}
-use Rattle.strm_types.specs.Cells.{Cells}
-use Rattle.strm_types.specs.Names.{is_enabled}
+use Rattle.strm_laws.specs.Prelude.{Caller, QueueName, Turn, Called, Turned, Cells, is_enabled, Request, Reply, PlainEntry, or_else}
 use Rattle.strm_laws.specs.State.{State}
 use Rattle.strm_laws.specs.Turns.{turned}
-use Rattle.strm_types.specs.Events.{Request, Reply}
 use Rattle.strm_laws.specs.Calls.{called}
-use Rattle.strm_types.specs.Journal.{PlainEntry}
-use Rattle.strm_types.specs.Refused.{or_else}
 use Rattle.strm_laws.specs.Refusals.{in_range, refused_at_once, refused_by_state}
 
 module _ {C : Type 0} (cells : Cells C) where

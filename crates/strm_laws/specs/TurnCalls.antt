@@ -1,16 +1,9 @@
 -- The calls of a turn of a module's queue as they are made over plain bytes: each goes as far as it may, or stops for want of blocks (srv(9E);
 -- STREAMS Programming Guide, "Service Procedures").
 use Rattle.std.specs.Prelude.{ℕ, ◌≡◌, ◌-◌, Bool, false, List, ◌++◌, slice_index_or, Option, None, Some}
-use Rattle.strm_types.specs.declared.limits.TheConstants.{HOPS}
-use Rattle.strm_types.specs.declared.spots.Spot.{Spot}
-use Rattle.strm_types.specs.Cells.{plain}
-use Rattle.strm_types.specs.Deliver.{Acted, Carried, carried, in_turn}
-use Rattle.strm_types.specs.LdtermCalls.{Ends}
-use Rattle.strm_types.specs.LdtermStands.{disciplined}
-use Rattle.strm_types.specs.Ldterms.{Discipline, Ldterm, new_ldterm}
-use Rattle.strm_types.specs.ModuleQueues.{at_place}
-use Rattle.strm_types.specs.Modules.{act_among}
-use Rattle.strm_types.specs.Standings.{new_pair}
+use Rattle.strm_laws.specs.Prelude.{HOPS, Spot, plain, Acted, Carried, carried, in_turn, Ends, disciplined, Discipline, new_ldterm, at_place}
+use Rattle.strm_laws.specs.Prelude.{act_among, new_pair}
+use Rattle.strm_types.specs.Ldterms.{Ldterm}
 use Rattle.strm_laws.specs.Puts.{module_acted, put_in}
 use Rattle.strm_laws.specs.Stacked.{Module, OfLdterm, Standing, module_serves}
 use Rattle.strm_laws.specs.State.{State, stream}

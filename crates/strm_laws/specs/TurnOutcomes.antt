@@ -1,8 +1,6 @@
 -- What turns lead to (STREAMS Programming Guide, "Service Procedures").
 use Rattle.std.specs.Prelude.{List, [], map}
-use Rattle.strm_types.specs.declared.answers.Turn.{Turn}
-use Rattle.strm_types.specs.Deliver.{Fate}
-use Rattle.strm_types.specs.Origins.{map_fate}
+use Rattle.strm_laws.specs.Prelude.{Turn, Fate, map_fate}
 use Rattle.strm_laws.specs.State.{State, map_state}
 
 -- what a turn leads to, and what goes on the way by which rule

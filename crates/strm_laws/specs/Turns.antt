@@ -1,23 +1,14 @@
 -- Turns of the service procedures (STREAMS Programming Guide, "Service Procedures"; canput(9F), getq(9F)).
 use Rattle.std.specs.Prelude.{ℕ, Bool, true, false, not, ◌&&◌, ◌||◌, ◌==◌, if◌then◌else◌, List, [], ◌∷◌}
-use Rattle.strm_types.specs.declared.answers.Turn.{Turn}
-use Rattle.strm_types.specs.declared.answers.Turn.TheVariants.{Moved, Blocked, Idle}
-use Rattle.strm_types.specs.declared.names.Side.{Side}
-use Rattle.strm_types.specs.declared.names.Place.{Place}
-use Rattle.strm_types.specs.declared.names.Place.TheVariants.{Head, Ldterm, Driver}
-use Rattle.strm_types.specs.declared.names.QueueName.{QueueName}
-use Rattle.strm_types.specs.Message.{Message, size_of, band_of, is_held}
-use Rattle.strm_types.specs.Queue.{Queue, is_none_left, left_with, relieved, relieves, first_size}
-use Rattle.strm_types.specs.Cells.{Cells}
-use Rattle.strm_types.specs.declared.names.Way.{Way}
-use Rattle.strm_types.specs.declared.names.Way.TheVariants.{Up}
-use Rattle.strm_types.specs.declared.spots.Spot.{Spot}
+use Rattle.strm_laws.specs.Prelude.{Turn, Moved, Blocked, Idle, Side, Place, Ldterm, Driver, QueueName, Message, size_of, band_of, is_held, Queue}
+use Rattle.strm_laws.specs.Prelude.{is_none_left, left_with, relieved, relieves, first_size, Cells, Way, Up, Spot, other, driver_of, is_open, without}
+use Rattle.strm_laws.specs.Prelude.{enable_if, enable_some}
+use Rattle.strm_types.specs.declared.names.Place.TheVariants.{Head}
 use Rattle.strm_laws.specs.Puts.{delivered}
 use Rattle.strm_laws.specs.Earlier.{before_driver, driver_place, modules_on}
 use Rattle.strm_laws.specs.ModuleTurns.{module_turned, whole_module}
 use Rattle.strm_laws.specs.Past.{has_room_past, writer_waits}
 use Rattle.strm_laws.specs.TurnOutcomes.{TurnOutcome, stayed_put}
-use Rattle.strm_types.specs.Names.{other, driver_of, is_open, without, enable_if, enable_some}
 use Rattle.strm_laws.specs.State.{State, Stream, stream, with_stream, with_driver_queue}
 
 module _ {C : Type 0} where

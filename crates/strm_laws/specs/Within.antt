@@ -1,10 +1,7 @@
 -- That what a stream head keeps has a bounded size: the signals that wait, and the answer of the ioctl under way.
 use Rattle.std.specs.Prelude.{◌≤◌, length}
-use Rattle.strm_types.specs.declared.limits.TheConstants.{IOCTL_MAX}
-use Rattle.strm_types.specs.Both.{AllSides}
+use Rattle.strm_laws.specs.Prelude.{IOCTL_MAX, AllSides, answer_bytes, Head}
 use Rattle.strm_types.specs.Signals.{AreSignals}
-use Rattle.strm_types.specs.Slots.{answer_bytes}
-use Rattle.strm_types.specs.Heads.{Head}
 use Rattle.strm_laws.specs.State.{State}
 
 -- each signal waits once, and the answer has at most 256 bytes

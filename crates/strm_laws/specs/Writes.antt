@@ -1,16 +1,9 @@
 -- A write on a side's stream, as modules see it: its chunks go down from the head, one after the other (write(2), streamio(7I); STREAMS
 -- Programming Guide, "Flow Control").
 use Rattle.std.specs.Prelude.{ℕ, ◌+◌, if◌then◌else◌, List, [], ◌∷◌, ◌++◌, length, map, Bool, not}
-use Rattle.strm_types.specs.declared.names.Side.{Side}
-use Rattle.strm_types.specs.declared.names.Way.TheVariants.{Down}
-use Rattle.strm_types.specs.declared.spots.Spot.{Spot}
-use Rattle.strm_types.specs.Cells.{Cells}
-use Rattle.strm_types.specs.Deliver.{Fate}
-use Rattle.strm_types.specs.Message.{data_message}
-use Rattle.strm_types.specs.Origins.{map_fate}
+use Rattle.strm_laws.specs.Prelude.{Side, Down, Spot, Cells, Fate, data_message, map_fate, chunk_count, chunks_of}
 use Rattle.strm_laws.specs.Puts.{delivered}
 use Rattle.strm_laws.specs.State.{State, map_state}
-use Rattle.strm_types.specs.Write.{chunk_count, chunks_of}
 use Rattle.strm_laws.specs.Past.{has_room_past}
 
 -- the place below a side's head

@@ -1,15 +1,10 @@
 -- What the first message of a queue asks.
-use Rattle.std.proofs.Common.{ℕ, ◌≡◌, Bool, [], map, sym, ap, ◌∙◌}
-use Rattle.strm_types.specs.declared.kinds.MsgKind.{MsgKind}
-use Rattle.strm_types.specs.declared.names.Way.{Way}
+use Rattle.strm_ldterm.proofs.Prelude.{ℕ, ◌≡◌, Bool, [], map, sym, ap, ◌∙◌, kind-is, band-is}
+use Rattle.strm_ldterm.specs.Prelude.{MsgKind, Way, StoreValue, list_at, message_of, messages_on, asked_first}
 use Rattle.strm_types.specs.declared.spots.Asks.TheVariants as asked
 use Rattle.strm_blocks.specs.declared.asked.Peek.{Peek}
-use Rattle.strm_blocks.specs.Blocks.{StoreValue, list_at}
 use Rattle.strm_blocks.specs.Outcomes.{PeekedFirst}
-use Rattle.strm_msg.specs.Messages.{message_of}
-use Rattle.strm_msg.proofs.Chains.{kind-is, band-is}
-use Rattle.strm_queue.specs.Stored.{messages_on}
-use Rattle.strm_types.specs.Asking.{asked_by, asked_first}
+use Rattle.strm_types.specs.Asking.{asked_by}
 
 pub asked-peek : (s : StoreValue) (k : ℕ) (way : Way) (stopped : Bool) (peek : Peek) → PeekedFirst s k peek → asked_first way stopped (messages_on s k) ≡ asked_by way stopped peek.kind peek.band.0
 asked-peek s k way stopped peek p =

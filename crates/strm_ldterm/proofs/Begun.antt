@@ -1,24 +1,13 @@
 -- A byte of the message in work that begins.
-use Rattle.std.proofs.Common.{ℕ, ◌≡◌, ◌+◌, Bool, true, false, cond, List, [], ◌∷◌, drop, refl, sym, ap, subst, ◌∙◌, arith}
-use Rattle.std.specs.Prelude.{Option, None, Some, is_some, map, option_map, slice_index_or, MatchOption, ◌&&◌}
+use Rattle.strm_ldterm.proofs.Prelude.{ℕ, ◌≡◌, ◌+◌, Bool, true, false, cond, List, [], ◌∷◌, drop, refl, sym, ap, subst, ◌∙◌, arith, Option, None}
+use Rattle.strm_ldterm.proofs.Prelude.{Some, is_some, option_map, slice_index_or, ◌&&◌}
+use Rattle.strm_ldterm.specs.Prelude.{Down, Fates, Spot, Acted, toward, onward, is_data_kind, cells_left, left_of, with_left, restarts, sends}
+use Rattle.strm_ldterm.specs.Prelude.{Message, cells_of, bare, begins, stroke_at, StoreValue, IsStore, token, message_of, Sent, once, AreIn, HasRoom}
+use Rattle.strm_ldterm.specs.Prelude.{SameOwn, message_in, times_sent, parcels_in, AreChains, InHand}
+use Rattle.std.specs.Prelude.{map, MatchOption}
 use Rattle.strm_types.specs.declared.kinds.MsgKind.TheVariants.{Start}
-use Rattle.strm_types.specs.declared.names.Way.TheVariants.{Down}
-use Rattle.strm_types.specs.declared.rules.Fates.{Fates}
-use Rattle.strm_types.specs.declared.spots.Spot.{Spot}
 use Rattle.strm_types.specs.Cells as cells
-use Rattle.strm_types.specs.Deliver.{Acted, toward, onward}
-use Rattle.strm_types.specs.Flush.{is_data_kind}
-use Rattle.strm_types.specs.Input.{cells_left, left_of, with_left}
-use Rattle.strm_types.specs.Keys.{restarts}
 use Rattle.strm_types.specs.Ldterms as ldterms
-use Rattle.strm_types.specs.Ldterms.{sends}
-use Rattle.strm_types.specs.Message.{Message, cells_of}
-use Rattle.strm_types.specs.Typing.{bare, begins, stroke_at}
-use Rattle.strm_blocks.specs.Blocks.{StoreValue, IsStore, token}
-use Rattle.strm_msg.specs.Messages.{message_of}
-use Rattle.strm_frame.specs.declared.parcels.Sent.{Sent}
-use Rattle.strm_frame.specs.Hands.{once, AreIn, HasRoom, SameOwn}
-use Rattle.strm_frame.specs.Outboxes.{message_in, times_sent, parcels_in, AreChains}
 use Rattle.strm_ldterm.specs.declared.ldterm.Stage.TheVariants.{Begun}
 use Rattle.strm_ldterm.specs.Becoming.{Becomes}
 use Rattle.strm_ldterm.specs.Does.{Alters, Proceeds}
@@ -30,7 +19,6 @@ use Rattle.strm_ldterm.proofs.Flushed.{alters-none}
 use Rattle.strm_ldterm.proofs.Proceeding.{proceeds-alters}
 use Rattle.strm_ldterm.proofs.Sends.{sends-made, sends-none}
 use Rattle.strm_ldterm.proofs.Skipped.{left-all, left-none}
-use Rattle.strm_blocks.specs.declared.in_hand.InHand.{InHand}
 
 -- Another message has come for the one in work.
 module _ (s t : StoreValue) (x : Paired) (m r : InHand) (now : Message ℕ) (there : x.in_work ≡ Some m) (st : IsStore t) (held : IsHeld s x) (kept : AreIn s (λ _. 0) (keeps x)) (b : Becomes s t (token m) (token r) now) where

@@ -1,17 +1,12 @@
 -- The module beside a store in which its lists, or what it keeps in hand, change.
-use Rattle.std.proofs.Common.{ℕ, ◌≡◌, ◌≢◌, ◌<◌, ◌+◌, eqb, Bool, true, false, cond, List, [], ◌∷◌, length, refl, sym, ap, subst, arith}
-use Rattle.std.specs.Prelude.{is_some, map}
-use Rattle.std.proofs.lemmas.List.Sums.{sum_by-cons}
-use Rattle.strm_blocks.specs.Blocks.{Held, StoreValue, IsStore, IsInHand, in_hand, list_at, dropped, times_in, chain_in}
+use Rattle.strm_ldterm.proofs.Prelude.{ℕ, ◌≡◌, ◌≢◌, ◌<◌, ◌+◌, eqb, Bool, true, false, cond, List, [], ◌∷◌, length, refl, sym, ap, subst, arith}
+use Rattle.strm_ldterm.proofs.Prelude.{is_some, sum_by-cons, once-self, once-apart}
+use Rattle.strm_ldterm.specs.Prelude.{Held, StoreValue, IsStore, IsInHand, in_hand, list_at, dropped, times_in, chain_in, Queue, message_of, queue_in}
+use Rattle.strm_ldterm.specs.Prelude.{messages_on, Changes, FreesBlocks, once, CanPut, OnlyOwn, SameOwn, queue-ready}
+use Rattle.std.specs.Prelude.{map}
 use Rattle.strm_blocks.proofs.Laws.{in_hand-dropped}
-use Rattle.strm_queue.specs.declared.queue.Queue.{Queue}
-use Rattle.strm_msg.specs.Messages.{message_of}
-use Rattle.strm_queue.specs.Stored.{queue_in, messages_on, Changes, FreesBlocks}
-use Rattle.strm_frame.specs.Hands.{once, CanPut, OnlyOwn, SameOwn}
-use Rattle.strm_frame.proofs.Handing.{once-self, once-apart}
 use Rattle.strm_ldterm.specs.Stands.{ldterm_in, owns, keeps, EndsPlain, IsHeld, IsData, IsGathered, Paired}
 use Rattle.strm_ldterm.specs.Does.{Alters}
-use Rattle.strm_frame.specs.StandingLaws.{queue-ready}
 use Rattle.strm_ldterm.specs.Frames.{kept-same, form-same, each-same, data-same, gathered-same}
 
 -- a chain with a block is in hand

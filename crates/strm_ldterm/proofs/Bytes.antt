@@ -1,19 +1,9 @@
 -- Bytes of the message in work, one after the other.
-use Rattle.std.proofs.Common.{ℕ, ◌≡◌, ◌≤◌, ◌<◌, ◌+◌, ◌-◌, ◌*◌, ◌⊎◌, inl, inr, Bool, true, false, List, [], ◌++◌, length, refl, sym, ap, subst, ◌∙◌, arith}
-use Rattle.std.specs.Prelude.{Option, None, Some, is_some, nat_lt}
-use Rattle.strm_types.specs.declared.limits.TheConstants.{STOP_BLOCKS}
-use Rattle.strm_types.specs.declared.rules.Fates.{Fates}
-use Rattle.strm_types.specs.declared.spots.Note.{Note}
-use Rattle.strm_types.specs.declared.spots.Spot.{Spot}
-use Rattle.strm_types.specs.Input.{cells_left, stages_done, to_treat}
+use Rattle.strm_ldterm.proofs.Prelude.{ℕ, ◌≡◌, ◌≤◌, ◌<◌, ◌+◌, ◌-◌, ◌*◌, ◌⊎◌, inl, inr, Bool, true, false, List, [], ◌++◌, length, refl, sym, ap}
+use Rattle.strm_ldterm.proofs.Prelude.{subst, ◌∙◌, arith, Option, None, Some, is_some, nat_lt, nat_tests}
+use Rattle.strm_ldterm.specs.Prelude.{STOP_BLOCKS, Fates, Note, Spot, cells_left, stages_done, to_treat, Between, Begun, Answered, is_none_left}
+use Rattle.strm_ldterm.specs.Prelude.{StoreValue, IsStore, Sent, HasRoom, least_free, InHand}
 use Rattle.strm_types.specs.Ldterms as ldterms
-use Rattle.strm_types.specs.Ldterms.{Between, Begun, Answered}
-use Rattle.strm_types.specs.Queue.{is_none_left}
-use Rattle.strm_blocks.specs.Blocks.{StoreValue, IsStore}
-use Rattle.std.proofs.lemmas.Bool.Decides.{nat_tests}
-use Rattle.strm_frame.specs.declared.parcels.Sent.{Sent}
-use Rattle.strm_frame.specs.Hands.{HasRoom}
-use Rattle.strm_frame.specs.Serves.{least_free}
 use Rattle.strm_ldterm.specs.Called.{RunsInto}
 use Rattle.strm_ldterm.specs.Does.{Proceeds}
 use Rattle.strm_ldterm.specs.FreeBefore.{IsFreeBefore, all_free, blocks_grown}
@@ -24,7 +14,6 @@ use Rattle.strm_ldterm.proofs.FreeBefore.{each-more, free-next}
 use Rattle.strm_ldterm.proofs.Joining.{parcels-none, proceeds-joined}
 use Rattle.strm_ldterm.proofs.Treated.{none-under-way}
 use Rattle.strm_ldterm.proofs.Turning.{Acts, ahead-more}
-use Rattle.strm_blocks.specs.declared.in_hand.InHand.{InHand}
 
 -- how far a byte is
 pub done-few : (stage : ldterms.Stage ℕ) → stages_done stage ≤ 2

@@ -1,29 +1,13 @@
 -- Calls of the service procedure of the read queue.
-use Rattle.std.proofs.Common.{ℕ, ◌≡◌, ◌≤◌, ◌<◌, ◌+◌, ◌-◌, ◌*◌, Bool, true, false, cond, List, [], ◌++◌, length, refl, sym, ap, subst, ◌∙◌, arith, append-nil}
-use Rattle.std.proofs.lemmas.Bool.{false≢true}
-use Rattle.std.specs.Prelude.{is_some, nat_lt, unwrap_or}
-use Rattle.strm_types.specs.declared.limits.TheConstants.{STOP_BLOCKS}
-use Rattle.strm_types.specs.declared.rules.Fates.{Fates}
-use Rattle.strm_types.specs.declared.spots.Note.{Note}
-use Rattle.strm_types.specs.declared.spots.Spot.{Spot}
-use Rattle.strm_types.specs.Cells.{plain}
-use Rattle.strm_types.specs.Input.{cells_left, finished, stages_done, to_treat, treats}
+use Rattle.strm_ldterm.proofs.Prelude.{ℕ, ◌≡◌, ◌≤◌, ◌<◌, ◌+◌, ◌-◌, ◌*◌, Bool, true, false, cond, List, [], ◌++◌, length, refl, sym, ap, subst, ◌∙◌}
+use Rattle.strm_ldterm.proofs.Prelude.{arith, append-nil, false≢true, is_some, nat_lt, unwrap_or, nat_tests}
+use Rattle.strm_ldterm.specs.Prelude.{STOP_BLOCKS, Fates, Note, Spot, plain, cells_left, finished, stages_done, to_treat, treats, is_none_left}
+use Rattle.strm_ldterm.specs.Prelude.{Serving, StoreValue, IsStore, Outbox, Sent, Served, HasRoom, sent_of, least_free, stop_at, stop_of, FreesNone}
 use Rattle.strm_types.specs.Ldterms as ldterms
-use Rattle.strm_types.specs.Queue.{is_none_left}
-use Rattle.strm_types.specs.Service.{Serving}
-use Rattle.strm_blocks.specs.Blocks.{StoreValue, IsStore}
-use Rattle.std.proofs.lemmas.Bool.Decides.{nat_tests}
 use Rattle.arrayvec.specs.ArrayVec.{ArrayVec}
 use Rattle.strm_frame.specs.declared.modules.Acts as frame
-use Rattle.strm_frame.specs.declared.parcels.Outbox.{Outbox}
-use Rattle.strm_frame.specs.declared.parcels.Sent.{Sent}
-use Rattle.strm_frame.specs.declared.service.Served.{Served}
-use Rattle.strm_frame.specs.Hands.{HasRoom}
-use Rattle.strm_frame.specs.Outboxes.{sent_of}
-use Rattle.strm_frame.specs.Serves.{least_free, stop_at, stop_of}
 use Rattle.strm_ldterm.specs.Called.{EndsAt, RunsOut, RunsInto, TreatsAs, begun_in, treated_by}
 use Rattle.strm_ldterm.specs.Does.{Proceeds}
-use Rattle.strm_queue.specs.Stored.{FreesNone}
 use Rattle.strm_ldterm.specs.FreeBefore.{IsFreeBefore, all_free}
 use Rattle.strm_ldterm.specs.Stands.{ldterm_in, stage_in, Paired}
 use Rattle.strm_ldterm.specs.Turns.{ahead, bytes_on, leaves, one_after, stages_left, under_way}

@@ -1,10 +1,9 @@
 -- Columns of lines, and of what is rubbed out.
-use Rattle.std.proofs.Common.{◌≡◌, ℕ, ◌+◌, ◌-◌, ◌≤◌, Bool, true, false, List, [], ◌∷◌, ◌++◌, take, drop, refl, sym, ap, ◌∙◌, arith}
-use Rattle.std.specs.Prelude.{if◌then◌else◌}
+use Rattle.strm_ldterm.proofs.Prelude.{◌≡◌, ℕ, ◌+◌, ◌-◌, ◌≤◌, Bool, true, false, List, [], ◌∷◌, ◌++◌, take, drop, refl, sym, ap, ◌∙◌, arith}
+use Rattle.strm_ldterm.proofs.Prelude.{if◌then◌else◌}
+use Rattle.strm_ldterm.specs.Prelude.{Termios, column_from, rub_out, echo, echoe}
 use Rattle.std.proofs.lemmas.List.{take-append-drop}
-use Rattle.strm_types.specs.declared.termios.Termios.{Termios}
-use Rattle.strm_types.specs.Echo.{column_from, erase_echo, rub_out, under_echo, width_at}
-use Rattle.strm_types.specs.Termios.{echo, echoe}
+use Rattle.strm_types.specs.Echo.{erase_echo, under_echo, width_at}
 
 -- what a condition that holds chooses
 chosen : (holds : Bool) (this that : List ℕ) → holds ≡ true → (if holds then this else that) ≡ this

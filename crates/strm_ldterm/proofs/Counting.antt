@@ -1,23 +1,12 @@
 -- What stages of a turn on plain bytes do to what is left to treat and to what is noted.
-use Rattle.std.proofs.Common.{ℕ, zero, suc, ◌≡◌, ◌≤◌, ◌<◌, ◌+◌, ◌*◌, Bool, true, false, cond, List, [], ◌∷◌, ◌++◌, length, refl, sym, ap, ◌∙◌, arith}
-use Rattle.std.proofs.lemmas.Bool.{false≢true}
+use Rattle.strm_ldterm.proofs.Prelude.{ℕ, zero, suc, ◌≡◌, ◌≤◌, ◌<◌, ◌+◌, ◌*◌, Bool, true, false, cond, List, [], ◌∷◌, ◌++◌, length, refl, sym, ap}
+use Rattle.strm_ldterm.proofs.Prelude.{◌∙◌, arith, false≢true, not, ◌&&◌, Option, None, Some, is_some, strikes-stay}
+use Rattle.strm_ldterm.specs.Prelude.{Note, Enable, Down, Spot, plain, cells_made, begins_next, cells_left, next_stage, stage_at, stages_done}
+use Rattle.strm_ldterm.specs.Prelude.{to_treat, with_left, restarts, onward, Discipline, Stage, Between, Begun, Answered, sends, Message, cells_of}
+use Rattle.strm_ldterm.specs.Prelude.{is_none_left, is_full, put_enables, bare, begins, echoed, echo_dir, echo_grows, echo_lost, echo_stands}
+use Rattle.strm_ldterm.specs.Prelude.{is_lnext, stroke_at, strikes, struck, wakes, data_message}
 use Rattle.std.proofs.lemmas.List.{length-append}
-use Rattle.std.specs.Prelude.{not, ◌&&◌, Option, None, Some, is_some}
-use Rattle.strm_types.specs.declared.spots.Note.{Note}
-use Rattle.strm_types.specs.declared.spots.Note.TheVariants.{Enable}
-use Rattle.strm_types.specs.declared.names.Way.TheVariants.{Down}
 use Rattle.strm_types.specs.declared.kinds.MsgKind.TheVariants as kinds
-use Rattle.strm_types.specs.declared.spots.Spot.{Spot}
-use Rattle.strm_types.specs.Cells.{plain, cells_made}
-use Rattle.strm_types.specs.Input.{begins_next, cells_left, next_stage, stage_at, stages_done, to_treat, with_left}
-use Rattle.strm_types.specs.Keys.{restarts}
-use Rattle.strm_types.specs.Deliver.{onward}
-use Rattle.strm_types.specs.Ldterms.{Discipline, Stage, Between, Begun, Answered, sends}
-use Rattle.strm_types.specs.Message.{Message, cells_of}
-use Rattle.strm_types.specs.Queue.{is_none_left, is_full, put_enables}
-use Rattle.strm_types.specs.Typing.{bare, begins, echoed, echo_dir, echo_grows, echo_lost, echo_stands, is_lnext, stroke_at, strikes, struck, wakes}
-use Rattle.strm_types.specs.Message.{data_message}
-use Rattle.strm_types.proofs.StrikesStay.{strikes-stay}
 use Rattle.strm_ldterm.specs.Turns.{ahead, notes_left}
 use Rattle.strm_ldterm.proofs.Turning.{Acts}
 

@@ -1,32 +1,14 @@
 -- The turn's echo, which begins or grows last on the write queue.
-use Rattle.std.proofs.Common.{ℕ, suc, ◌≡◌, ◌≤◌, ◌<◌, ◌+◌, ◌*◌, Bool, true, false, cond, List, [], ◌∷◌, ◌++◌, length, refl, sym, ap, subst, ◌∙◌, arith}
-use Rattle.std.specs.Prelude.{not, ◌&&◌}
-use Rattle.strm_types.specs.declared.names.Dir.{Dir}
-use Rattle.strm_types.specs.declared.names.Way.TheVariants.{Down}
-use Rattle.strm_types.specs.declared.rules.Fates.{Fates}
-use Rattle.strm_types.specs.declared.rules.Rule.TheVariants.{EchoFull}
-use Rattle.strm_types.specs.declared.spots.Note.{Note}
-use Rattle.strm_types.specs.declared.spots.Note.TheVariants.{Enable}
-use Rattle.strm_types.specs.declared.spots.Spot.{Spot}
-use Rattle.strm_types.specs.Cells.{plain, cells_made}
-use Rattle.strm_types.specs.Deliver.{Acted, Fate, Comes, tallied}
+use Rattle.strm_ldterm.proofs.Prelude.{ℕ, suc, ◌≡◌, ◌≤◌, ◌<◌, ◌+◌, ◌*◌, Bool, true, false, cond, List, [], ◌∷◌, ◌++◌, length, refl, sym, ap, subst}
+use Rattle.strm_ldterm.proofs.Prelude.{◌∙◌, arith, not, ◌&&◌, free_m-is, once-apart}
+use Rattle.strm_ldterm.specs.Prelude.{Dir, Down, Fates, EchoFull, Note, Enable, Spot, plain, cells_made, Acted, Fate, Comes, tallied, sends, Message}
+use Rattle.strm_ldterm.specs.Prelude.{cells_of, data_message, band_of, is_high_priority, told_more, made_more, echo_dir, grown, echo_grows}
+use Rattle.strm_ldterm.specs.Prelude.{echo_stands, echo_lost, echoed, chunk_count, StoreValue, IsStore, in_hand, list_at, Queue, queue_in}
+use Rattle.strm_ldterm.specs.Prelude.{messages_on, once, AreIn, HasRoom, times_sent, parcels_in, AreChains, queue-ready}
 use Rattle.strm_types.specs.Ldterms as ldterms
-use Rattle.strm_types.specs.Ldterms.{sends}
-use Rattle.strm_types.specs.Message.{Message, cells_of, data_message, band_of, is_high_priority}
 use Rattle.strm_types.specs.Queue as queues
-use Rattle.strm_types.specs.Rules.{told_more, made_more}
-use Rattle.strm_types.specs.Typing.{echo_dir, grown, echo_grows, echo_stands, echo_lost, echoed}
-use Rattle.strm_types.specs.Write.{chunk_count}
-use Rattle.strm_blocks.proofs.Laws.{free_m-is}
-use Rattle.strm_blocks.specs.Blocks.{StoreValue, IsStore, in_hand, list_at}
-use Rattle.strm_queue.specs.declared.queue.Queue.{Queue}
-use Rattle.strm_queue.specs.Stored.{queue_in, messages_on}
-use Rattle.strm_frame.specs.Hands.{once, AreIn, HasRoom}
-use Rattle.strm_frame.specs.Outboxes.{times_sent, parcels_in, AreChains}
-use Rattle.strm_frame.proofs.Handing.{once-apart}
 use Rattle.strm_ldterm.specs.Stands.{ldterm_in, keeps, EndsPlain, IsData, IsGathered, IsHeld, Paired}
 use Rattle.strm_ldterm.specs.Does.{Proceeds}
-use Rattle.strm_frame.specs.StandingLaws.{queue-ready}
 use Rattle.strm_ldterm.specs.Frames.{data-same, each-same, form-same, gathered-same, kept-same}
 use Rattle.strm_ldterm.specs.Grown.{BeginsLast, GrowsLast, Rewrites}
 

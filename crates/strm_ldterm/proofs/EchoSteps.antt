@@ -1,9 +1,8 @@
 -- An echo that is added to a message run by run.
-use Rattle.std.proofs.Common.{ℕ, ◌≡◌, ◌≤◌, ◌<◌, ◌+◌, ◌-◌, ◌*◌, List, ◌++◌, length, take, drop, refl, sym, ap, subst, ◌∙◌, arith, length-drop, take-append-drop}
+use Rattle.strm_ldterm.proofs.Prelude.{ℕ, ◌≡◌, ◌≤◌, ◌<◌, ◌+◌, ◌-◌, ◌*◌, List, ◌++◌, length, take, drop, refl, sym, ap, subst, ◌∙◌, arith, length-drop}
+use Rattle.strm_ldterm.proofs.Prelude.{take-append-drop, drop-drop, take_all}
+use Rattle.strm_ldterm.specs.Prelude.{StoreValue, HasRoom}
 use Rattle.std.proofs.Math.Seq.{take-add}
-use Rattle.std.proofs.lemmas.List.{drop-drop, take_all}
-use Rattle.strm_blocks.specs.Blocks.{StoreValue}
-use Rattle.strm_frame.specs.Hands.{HasRoom}
 use Rattle.strm_ldterm.specs.Stands.{IsData}
 use Rattle.strm_ldterm.specs.Grown.{Grown, Begins}
 use Rattle.strm_ldterm.proofs.Grows.{grown-none, grown-both, begins-grown}

@@ -1,26 +1,10 @@
 -- What the module keeps in hand, and lets go at the end of a call.
-use Rattle.std.proofs.Common.{ℕ, ◌≡◌, ◌+◌, true, false, cond, List, [], ◌∷◌, length, refl, sym, ap, subst, ◌∙◌, arith}
-use Rattle.std.specs.Prelude.{Option, None, Some, IfSome}
-use Rattle.std.proofs.lemmas.Bool.{false≢true}
-use Rattle.strm_types.specs.declared.names.Way.TheVariants.{Up}
-use Rattle.strm_types.specs.declared.rules.Fates.{Fates}
-use Rattle.strm_types.specs.declared.spots.Spot.{Spot}
+use Rattle.strm_ldterm.proofs.Prelude.{ℕ, ◌≡◌, ◌+◌, true, false, cond, List, [], ◌∷◌, length, refl, sym, ap, subst, ◌∙◌, arith, Option, None, Some}
+use Rattle.strm_ldterm.proofs.Prelude.{IfSome, false≢true, data_in, data-shown, data_in-cells, one-parts, one-chains}
+use Rattle.strm_ldterm.specs.Prelude.{Up, Fates, Spot, toward, onward, back_on, cells_left, sends, Message, cells_of, data_message, is_none_left}
+use Rattle.strm_ldterm.specs.Prelude.{gathered_up, StoreValue, in_hand, token, InHand, data_bytes, Sent, once, AreIn, CanPut, message_in, times_sent}
 use Rattle.strm_types.specs.Cells as cells
-use Rattle.strm_types.specs.Deliver.{toward, onward}
-use Rattle.strm_types.specs.Input.{back_on, cells_left}
-use Rattle.strm_types.specs.Ldterms.{sends}
-use Rattle.strm_types.specs.Message.{Message, cells_of, data_message}
 use Rattle.strm_types.specs.Queue as plain
-use Rattle.strm_types.specs.Queue.{is_none_left}
-use Rattle.strm_types.specs.Typing.{gathered_up}
-use Rattle.strm_blocks.specs.Blocks.{StoreValue, in_hand, token}
-use Rattle.strm_blocks.specs.declared.in_hand.InHand.{InHand}
-use Rattle.strm_msg.specs.Bytes.{data_bytes}
-use Rattle.strm_msg.proofs.Chains.{data_in, data-shown, data_in-cells}
-use Rattle.strm_frame.specs.declared.parcels.Sent.{Sent}
-use Rattle.strm_frame.specs.Hands.{once, AreIn, CanPut}
-use Rattle.strm_frame.specs.Outboxes.{message_in, times_sent}
-use Rattle.strm_frame.proofs.Handing.{one-parts, one-chains}
 use Rattle.strm_ldterm.specs.Stands.{ldterm_in, kept_in, cells_kept, times_kept, keeps, IsHeld, IsData, IsOrdinary, IsGathered, Paired}
 use Rattle.strm_ldterm.specs.Does.{Alters, Proceeds}
 use Rattle.strm_ldterm.proofs.Flushed.{alters-none}

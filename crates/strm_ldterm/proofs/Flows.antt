@@ -1,19 +1,10 @@
 -- Bytes that go out one after the other into a buffer: runs of printed ones, and others.
-use Rattle.std.proofs.Common.{ℕ, ◌≡◌, ◌≤◌, ◌+◌, true, List, [], ◌∷◌, ◌++◌, length, take, drop, refl, sym, ap, ◌∙◌, arith, append-nil, append_assoc, length-append, length-drop}
+use Rattle.strm_ldterm.proofs.Prelude.{ℕ, ◌≡◌, ◌≤◌, ◌+◌, true, List, [], ◌∷◌, ◌++◌, length, take, drop, refl, sym, ap, ◌∙◌, arith, append-nil}
+use Rattle.strm_ldterm.proofs.Prelude.{append_assoc, length-append, length-drop, in_front, posts-join, posts-same}
+use Rattle.strm_ldterm.specs.Prelude.{Dir, Posted, COLUMN_MAX, Fates, Spot, Termios, plain, tallied, made_of, Output, post, posts, told_for, wrapped}
+use Rattle.strm_ldterm.specs.Prelude.{output_dir}
 use Rattle.std.proofs.Math.Seq.{take-add, take-length}
 use Rattle.std.specs.List.{AllByRecursion}
-use Rattle.strm_types.specs.declared.names.Dir.{Dir}
-use Rattle.strm_types.specs.declared.output.Posted.{Posted}
-use Rattle.strm_types.specs.declared.output.TheConstants.{COLUMN_MAX}
-use Rattle.strm_types.specs.declared.rules.Fates.{Fates}
-use Rattle.strm_types.specs.declared.spots.Spot.{Spot}
-use Rattle.strm_types.specs.declared.termios.Termios.{Termios}
-use Rattle.strm_types.specs.Cells.{plain}
-use Rattle.strm_types.specs.Deliver.{tallied}
-use Rattle.strm_types.specs.Input.{made_of}
-use Rattle.strm_types.specs.Output.{Output, post, posts, told_for, wrapped}
-use Rattle.strm_types.specs.OutputTurns.{output_dir}
-use Rattle.strm_types.proofs.Outputs.{in_front, posts-join, posts-same}
 use Rattle.strm_ldterm.specs.declared.output_runs.Flow.{Flow}
 use Rattle.strm_ldterm.specs.Posting.{FlowsAs, bytes_given, is_printed}
 use Rattle.strm_ldterm.proofs.Pouring.{byte-out, run-out}

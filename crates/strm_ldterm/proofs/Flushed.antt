@@ -1,25 +1,12 @@
 -- What an M_FLUSH takes from the module, step by step.
-use Rattle.std.proofs.Common.{ℕ, ◌≡◌, Bool, true, false, cond, List, [], ◌∷◌, ◌++◌, refl, sym, ap, subst, ◌∙◌, arith, append-nil}
-use Rattle.std.specs.Prelude.{Option}
-use Rattle.strm_types.specs.declared.kinds.Band.{Band}
-use Rattle.strm_types.specs.declared.names.Way.TheVariants.{Up, Down}
-use Rattle.strm_types.specs.declared.rules.Fates.{Fates}
-use Rattle.strm_types.specs.declared.rules.Rule.TheVariants.{Flushed}
-use Rattle.strm_types.specs.declared.spots.Note.{Note}
-use Rattle.strm_types.specs.declared.spots.Note.TheVariants.{Room}
-use Rattle.strm_types.specs.declared.spots.Spot.{Spot}
-use Rattle.strm_types.specs.Deliver.{Acted, Fate, Goes, counted_with, tallied}
-use Rattle.strm_types.specs.Emptied.{Choice, of_data, cells_gone, emptied, none_goes, queue_behind, stayed, writer_goes}
+use Rattle.strm_ldterm.proofs.Prelude.{ℕ, ◌≡◌, Bool, true, false, cond, List, [], ◌∷◌, ◌++◌, refl, sym, ap, subst, ◌∙◌, arith, append-nil, Option}
+use Rattle.strm_ldterm.proofs.Prelude.{◌&&◌, not}
+use Rattle.strm_ldterm.specs.Prelude.{Band, Up, Down, Fates, Flushed, Note, Room, Spot, Acted, Fate, Goes, counted_with, tallied, Choice, of_data}
+use Rattle.strm_ldterm.specs.Prelude.{cells_gone, stayed, sends, both, queue_flushed, line_flushed, read_flushed, write_flushed, takes_band_0, AreIn}
+use Rattle.strm_ldterm.specs.Prelude.{FlushAsked, direction_at, StoreValue, Queue, queue_in, messages_on, Changes, FreesBlocks}
+use Rattle.strm_types.specs.Emptied.{emptied, none_goes, queue_behind, writer_goes}
 use Rattle.strm_types.specs.Ldterms as ldterms
-use Rattle.strm_types.specs.Ldterms.{sends, both, queue_flushed, line_flushed, read_flushed, write_flushed, takes_band_0}
-use Rattle.std.specs.Prelude.{◌&&◌, not}
-use Rattle.strm_frame.specs.Hands.{AreIn}
-use Rattle.strm_types.specs.declared.flushing.FlushAsked.{FlushAsked}
-use Rattle.strm_types.specs.Names.{direction_at}
 use Rattle.strm_types.specs.Queue as plain
-use Rattle.strm_blocks.specs.Blocks.{StoreValue}
-use Rattle.strm_queue.specs.declared.queue.Queue.{Queue}
-use Rattle.strm_queue.specs.Stored.{queue_in, messages_on, Changes, FreesBlocks}
 use Rattle.strm_ldterm.specs.Stands.{ldterm_in, keeps, EndsPlain, IsHeld, Paired}
 use Rattle.strm_ldterm.specs.Does.{Alters, Flushes}
 use Rattle.strm_ldterm.proofs.Beside.{alters-quieter, read-plain, read-alters, write-plain, write-alters}

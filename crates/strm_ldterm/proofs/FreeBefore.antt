@@ -1,14 +1,8 @@
 -- How many blocks are free before a byte of a call begins.
-use Rattle.std.proofs.Common.{ℕ, zero, suc, ◌≡◌, ◌≤◌, ◌<◌, ◌+◌, ◌-◌, ◌*◌, Bool, true, false, List, [], ◌∷◌, ◌++◌, length, take, refl, ap, subst, arith}
-use Rattle.std.proofs.lemmas.Bool.Decides.{nat_tests}
+use Rattle.strm_ldterm.proofs.Prelude.{ℕ, zero, suc, ◌≡◌, ◌≤◌, ◌<◌, ◌+◌, ◌-◌, ◌*◌, Bool, true, false, List, [], ◌∷◌, ◌++◌, length, take, refl, ap}
+use Rattle.strm_ldterm.proofs.Prelude.{subst, arith, nat_tests, nat_lt}
+use Rattle.strm_ldterm.specs.Prelude.{STOP_BLOCKS, Spot, Discipline, Message, cells_of, StoreValue, HasRoom}
 use Rattle.std.specs.List.{AllByRecursion}
-use Rattle.std.specs.Prelude.{nat_lt}
-use Rattle.strm_types.specs.declared.limits.TheConstants.{STOP_BLOCKS}
-use Rattle.strm_types.specs.declared.spots.Spot.{Spot}
-use Rattle.strm_types.specs.Ldterms.{Discipline}
-use Rattle.strm_types.specs.Message.{Message, cells_of}
-use Rattle.strm_blocks.specs.Blocks.{StoreValue}
-use Rattle.strm_frame.specs.Hands.{HasRoom}
 use Rattle.strm_ldterm.specs.FreeBefore.{blocks_for, blocks_grown, echo_size, last_size}
 use Rattle.strm_ldterm.specs.Turns.{ahead, bytes_on, stages_left}
 

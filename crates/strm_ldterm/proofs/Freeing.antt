@@ -1,12 +1,11 @@
 -- A message in hand that is put back on a queue frees no block.
-use Rattle.std.proofs.Common.{ℕ, ◌≡◌, ◌≤◌, ◌<◌, ◌+◌, List, length, refl, sym, subst, arith}
+use Rattle.strm_ldterm.proofs.Prelude.{ℕ, ◌≡◌, ◌≤◌, ◌<◌, ◌+◌, List, length, refl, sym, subst, arith, sum-put_back, total-placed, total-dropped}
+use Rattle.strm_ldterm.proofs.Prelude.{used-is, references-is, free_m-is, free_d-more}
+use Rattle.strm_ldterm.specs.Prelude.{Block, StoreValue, IsInHand, list_at, in_hand, placed, dropped, put_back, names_of, total, free_m, free_d}
+use Rattle.strm_ldterm.specs.Prelude.{least_free, FreesNone}
 use Rattle.std.proofs.Math.Nat.{le-min, min-le_left, min-le_right}
 use Rattle.std.specs.Prelude.{sum_by}
-use Rattle.strm_types.proofs.Ranked.{sum-put_back}
-use Rattle.strm_blocks.specs.Blocks.{Block, StoreValue, IsInHand, list_at, in_hand, placed, dropped, put_back, rank_of, names_of, total, free_m, free_d}
-use Rattle.strm_blocks.proofs.Laws.{total-placed, total-dropped, used-is, references-is, free_m-is, free_d-more}
-use Rattle.strm_frame.specs.Serves.{least_free}
-use Rattle.strm_queue.specs.Stored.{FreesNone}
+use Rattle.strm_blocks.specs.Blocks.{rank_of}
 
 pub none-freed : (s : StoreValue) → FreesNone s s
 none-freed s = (omega arith, omega arith)

@@ -1,16 +1,9 @@
 -- Bytes of the message in work that go out off its front.
-use Rattle.std.proofs.lemmas.Bool.{cases_eq}
-use Rattle.std.proofs.Common.{inl, inr, ℕ, ◌≡◌, ◌≤◌, ◌<◌, List, [], ◌++◌, length, drop, take, sym, ap, subst, ◌∙◌, arith, length-append, length-take}
-use Rattle.std.specs.Prelude.{Some}
-use Rattle.strm_types.specs.declared.rules.Fates.{Fates}
-use Rattle.strm_types.specs.Input.{cells_left, left_of, with_left}
+use Rattle.strm_ldterm.proofs.Prelude.{cases_eq, inl, inr, ℕ, ◌≡◌, ◌≤◌, ◌<◌, List, [], ◌++◌, length, drop, take, sym, ap, subst, ◌∙◌, arith}
+use Rattle.strm_ldterm.proofs.Prelude.{length-append, length-take, Some}
+use Rattle.strm_ldterm.specs.Prelude.{Fates, cells_left, left_of, with_left, sends, Message, cells_of, StoreValue, IsStore, token, InHand, AreIn}
+use Rattle.strm_ldterm.specs.Prelude.{message_in}
 use Rattle.strm_types.specs.Ldterms as ldterms
-use Rattle.strm_types.specs.Ldterms.{sends}
-use Rattle.strm_types.specs.Message.{Message, cells_of}
-use Rattle.strm_blocks.specs.Blocks.{StoreValue, IsStore, token}
-use Rattle.strm_blocks.specs.declared.in_hand.InHand.{InHand}
-use Rattle.strm_frame.specs.Hands.{AreIn}
-use Rattle.strm_frame.specs.Outboxes.{message_in}
 use Rattle.strm_ldterm.specs.Becoming.{Becomes}
 use Rattle.strm_ldterm.specs.Does.{Proceeds}
 use Rattle.strm_ldterm.specs.Stands.{ldterm_in, keeps, IsHeld, Paired}

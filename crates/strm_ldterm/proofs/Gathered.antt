@@ -1,18 +1,9 @@
 -- Bytes that are gathered, in a message that is kept in hand: a new one, or one that grows.
-use Rattle.std.proofs.Common.{ℕ, ◌≡◌, ◌≢◌, ◌<◌, ◌+◌, eqb, cond, List, [], ◌++◌, length, length-append, refl, sym, ap, subst, ◌∙◌, arith}
-use Rattle.std.specs.Prelude.{None, Some}
-use Rattle.std.proofs.lemmas.List.Sums.{sum_by-cons}
-use Rattle.strm_types.specs.declared.rules.Fates.{Fates}
+use Rattle.strm_ldterm.proofs.Prelude.{ℕ, ◌≡◌, ◌≢◌, ◌<◌, ◌+◌, eqb, cond, List, [], ◌++◌, length, length-append, refl, sym, ap, subst, ◌∙◌, arith}
+use Rattle.strm_ldterm.proofs.Prelude.{None, Some, sum_by-cons, in_hand-held_other, in_hand-changed_other, times-replaced, once-self}
+use Rattle.strm_ldterm.specs.Prelude.{Fates, sends, Message, cells_of, data_message, Block, Held, StoreValue, IsStore, in_hand, list_at, held}
+use Rattle.strm_ldterm.specs.Prelude.{times_in, token, InHand, once, AreIn, message_in, times_sent, parcels_in, AreChains}
 use Rattle.strm_types.specs.Ldterms as ldterms
-use Rattle.strm_types.specs.Ldterms.{sends}
-use Rattle.strm_types.specs.Message.{Message, cells_of, data_message}
-use Rattle.strm_blocks.specs.Blocks.{Block, Held, StoreValue, IsStore, in_hand, list_at, held, times_in, token}
-use Rattle.strm_blocks.proofs.Laws.{in_hand-held_other, in_hand-changed_other}
-use Rattle.strm_blocks.specs.declared.in_hand.InHand.{InHand}
-use Rattle.strm_msg.proofs.Hands.{times-replaced}
-use Rattle.strm_frame.specs.Hands.{once, AreIn}
-use Rattle.strm_frame.specs.Outboxes.{message_in, times_sent, parcels_in, AreChains}
-use Rattle.strm_frame.proofs.Handing.{once-self}
 use Rattle.strm_ldterm.specs.Stands.{ldterm_in, times_kept, keeps, IsHeld, IsGathered, Paired}
 use Rattle.strm_ldterm.specs.Does.{Proceeds}
 use Rattle.strm_ldterm.specs.Frames.{ldterm-frame}

@@ -1,23 +1,18 @@
 -- Messages of data in hand that grow.
-use Rattle.std.proofs.Common.{ℕ, suc, ◌≡◌, ◌≢◌, ◌≤◌, ◌<◌, ◌+◌, ◌-◌, false, cond, eqb, List, [], ◌∷◌, ◌++◌, length, take, drop, refl, sym, ap, subst, ◌∙◌, arith, append_assoc, append-nil, length-append, take-append-drop, inl, inr}
-use Rattle.std.proofs.lemmas.List.{take_all}
-use Rattle.std.proofs.lemmas.List.Sums.{sum_by-cons, sum_by-append}
-use Rattle.strm_types.specs.declared.kinds.MsgKind.{MsgKind}
+use Rattle.strm_ldterm.proofs.Prelude.{ℕ, suc, ◌≡◌, ◌≢◌, ◌≤◌, ◌<◌, ◌+◌, ◌-◌, false, cond, eqb, List, [], ◌∷◌, ◌++◌, length, take, drop, refl, sym, ap}
+use Rattle.strm_ldterm.proofs.Prelude.{subst, ◌∙◌, arith, append_assoc, append-nil, length-append, take-append-drop, inl, inr, take_all, sum_by-cons}
+use Rattle.strm_ldterm.proofs.Prelude.{sum_by-append, in_hand-changed_other, total-held, total-changed, used-is, references-is, free_m-is, data_in}
+use Rattle.strm_ldterm.proofs.Prelude.{data-shown, data-all, data-control, data_in-cells, band-is, held-changed, stays-chain, times-replaced}
+use Rattle.strm_ldterm.proofs.Prelude.{chunk-one}
+use Rattle.strm_ldterm.specs.Prelude.{MsgKind, Message, cells_of, data_message, is_high_priority, chunk_count, Block, Held, StoreValue, times_in}
+use Rattle.strm_ldterm.specs.Prelude.{IsStore, IsInHand, block_at, in_hand, dropped, changed, extended, with_block, written, total, names_of, free_m}
+use Rattle.strm_ldterm.specs.Prelude.{free_d, bytes_of, data_bytes, MadeOf, TooFew, message_of, AreData, IsChain, once, HasRoom, SamePool, message_in}
 use Rattle.strm_types.specs.declared.kinds.MsgKind.TheVariants as kinds
-use Rattle.strm_types.specs.Message.{Message, cells_of, data_message, is_high_priority}
-use Rattle.strm_types.specs.Write.{chunk_count}
-use Rattle.strm_blocks.specs.Blocks.{Block, Held, StoreValue, times_in, IsStore, IsInHand, block_at, in_hand, dropped, changed, extended, with_block, written, total, names_of, free_m, free_d}
-use Rattle.strm_blocks.proofs.Laws.{in_hand-changed_other, total-held, total-changed, used-is, references-is, free_m-is, free_d-same}
-use Rattle.strm_msg.specs.Bytes.{bytes_of, data_bytes}
-use Rattle.strm_msg.specs.Made.{MadeOf, TooFew}
-use Rattle.strm_msg.specs.Messages.{message_of, AreData, IsChain}
-use Rattle.strm_msg.proofs.Chains.{data_in, data-shown, data-all, data-control, data_in-cells, band-is}
+use Rattle.strm_blocks.proofs.Laws.{free_d-same}
 use Rattle.strm_msg.proofs.AdjustingBytes.{bytes-append}
-use Rattle.strm_msg.proofs.Hands.{held-apart, held-changed, stays-chain, gone, changed-chain, changed-twice, changed-same, times-replaced}
+use Rattle.strm_msg.proofs.Hands.{held-apart, gone, changed-chain, changed-twice, changed-same}
 use Rattle.strm_msg.proofs.InHand.{came-first, came-apart}
-use Rattle.strm_queue.proofs.OneMade.{chunk-one, one-made}
-use Rattle.strm_frame.specs.Hands.{once, HasRoom, SamePool}
-use Rattle.strm_frame.specs.Outboxes.{message_in}
+use Rattle.strm_queue.proofs.OneMade.{one-made}
 use Rattle.strm_ldterm.specs.Stands.{IsData, IsOrdinary}
 use Rattle.strm_ldterm.specs.Grown.{Grown, Begins}
 use Rattle.strm_ldterm.proofs.Beside.{chain-in-hand}

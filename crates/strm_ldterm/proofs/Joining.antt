@@ -1,14 +1,8 @@
 -- One stage of a turn after the other, on a store.
-use Rattle.std.proofs.Common.{ℕ, ◌≡◌, ◌≤◌, ◌+◌, Bool, true, false, cond, List, [], ◌∷◌, ◌++◌, refl, sym, ap, subst, ◌∙◌, arith}
-use Rattle.strm_types.specs.declared.rules.Fates.{Fates}
-use Rattle.strm_types.specs.declared.spots.Note.{Note}
-use Rattle.strm_types.specs.Deliver.{Fate, counted_with, tallied}
+use Rattle.strm_ldterm.proofs.Prelude.{ℕ, ◌≡◌, ◌≤◌, ◌+◌, Bool, true, false, cond, List, [], ◌∷◌, ◌++◌, refl, sym, ap, subst, ◌∙◌, arith}
+use Rattle.strm_ldterm.specs.Prelude.{Fates, Note, Fate, counted_with, tallied, is_none_left, StoreValue, IsStore, Sent, AreIn, parcels_in}
+use Rattle.strm_ldterm.specs.Prelude.{times_sent, AreChains}
 use Rattle.strm_types.specs.Ldterms as ldterms
-use Rattle.strm_types.specs.Queue.{is_none_left}
-use Rattle.strm_blocks.specs.Blocks.{StoreValue, IsStore}
-use Rattle.strm_frame.specs.declared.parcels.Sent.{Sent}
-use Rattle.strm_frame.specs.Hands.{AreIn}
-use Rattle.strm_frame.specs.Outboxes.{parcels_in, times_sent, AreChains}
 use Rattle.strm_ldterm.specs.declared.ldterm.Stage.{Stage}
 use Rattle.strm_ldterm.specs.Stands.{ldterm_in, keeps, stage_in, IsHeld, Paired}
 use Rattle.strm_ldterm.specs.Does.{Proceeds}

@@ -1,23 +1,15 @@
 -- A message of data of band 0 that stands last.
-use Rattle.std.proofs.Common.{ℕ, ◌≡◌, ◌≤◌, ◌<◌, ◌+◌, Bool, true, false, cond, List, [], ◌∷◌, ◌++◌, refl, ap, ◌∙◌, arith}
-use Rattle.std.specs.Prelude.{not, ◌&&◌, ◌||◌, ◌==◌, nat_le, Option, None, Some, filter}
+use Rattle.strm_ldterm.proofs.Prelude.{ℕ, ◌≡◌, ◌≤◌, ◌<◌, ◌+◌, Bool, true, false, cond, List, [], ◌∷◌, ◌++◌, refl, ap, ◌∙◌, arith, not, ◌&&◌, ◌||◌}
+use Rattle.strm_ldterm.proofs.Prelude.{◌==◌, nat_le, Option, None, Some, and_parts, nat_tests, sum_by-append}
+use Rattle.strm_ldterm.specs.Prelude.{Band, MsgKind, Message, data_message, is_high_priority, rank_of, Way, Up, Down, Choice, of_data, stayed}
+use Rattle.strm_ldterm.specs.Prelude.{is_data_kind, read_ioc, goes_behind, waits_behind, waits_on, takes_band_0, waits_there}
+use Rattle.std.specs.Prelude.{filter}
 use Rattle.std.specs.List.{AllByRecursion}
-use Rattle.std.proofs.lemmas.Bool.{and_parts}
-use Rattle.std.proofs.lemmas.Bool.Decides.{nat_tests}
-use Rattle.std.proofs.lemmas.List.Sums.{sum_by-append}
-use Rattle.strm_types.specs.declared.kinds.Band.{Band}
-use Rattle.strm_types.specs.declared.kinds.MsgKind.{MsgKind}
 use Rattle.strm_types.specs.declared.kinds.MsgKind.TheVariants as kinds
-use Rattle.strm_types.specs.Message.{Message, data_message, has_parts, is_high_priority, rank_of}
+use Rattle.strm_types.specs.Message.{has_parts}
 use Rattle.strm_types.specs.declared.limits.TheConstants.{HIGH_PRIORITY_RANK}
-use Rattle.strm_types.specs.declared.names.Way.{Way}
-use Rattle.strm_types.specs.declared.names.Way.TheVariants.{Up, Down}
 use Rattle.strm_types.specs.Commands.{is_asked, is_ioctl}
-use Rattle.strm_types.specs.Emptied.{Choice, of_data, stayed}
-use Rattle.strm_types.specs.Flush.{is_data_kind, counted_band}
-use Rattle.strm_types.specs.Ioctls.{read_ioc}
-use Rattle.strm_types.specs.LdtermPuts.{goes_behind, waits_behind, waits_on}
-use Rattle.strm_types.specs.Ldterms.{takes_band_0, waits_there}
+use Rattle.strm_types.specs.Flush.{counted_band}
 use Rattle.strm_types.specs.Queue as plain
 use Rattle.strm_types.specs.Ranked as ranked
 use Rattle.strm_types.proofs.Ranked.{put-last}

@@ -1,3 +1,4 @@
+pub mod Prelude
 mod Columns
 mod EchoBytes
 mod LineEnds

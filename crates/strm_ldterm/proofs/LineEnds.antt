@@ -1,9 +1,8 @@
 -- A line without the bytes at its end that pass a test, byte by byte from its end.
-use Rattle.std.proofs.Common.{◌≡◌, ℕ, ◌+◌, ◌-◌, ◌<◌, ◌≤◌, Bool, true, false, not, List, [], ◌∷◌, ◌++◌, length, take, get_or, refl, sym, ap, ◌∙◌, arith}
-use Rattle.std.specs.Prelude.{◌&&◌, if◌then◌else◌}
-use Rattle.std.proofs.lemmas.List.{take_more}
-use Rattle.strm_types.specs.Lines.{is_blank, without_end}
-use Rattle.strm_types.specs.Queue.{is_none_left}
+use Rattle.strm_ldterm.proofs.Prelude.{◌≡◌, ℕ, ◌+◌, ◌-◌, ◌<◌, ◌≤◌, Bool, true, false, List, [], ◌∷◌, ◌++◌, length, take, get_or, refl, sym, ap, ◌∙◌}
+use Rattle.strm_ldterm.proofs.Prelude.{arith, ◌&&◌, if◌then◌else◌, take_more}
+use Rattle.strm_ldterm.specs.Prelude.{is_blank, without_end, is_none_left}
+use Rattle.std.proofs.Common.{not}
 
 module _ {C : Type 0} (test : C → Bool) where
   -- one byte in front of what is left

@@ -1,22 +1,11 @@
 -- What a byte that is struck sends goes to the places next to ldterm's own: up to three messages.
-use Rattle.std.proofs.Common.{ℕ, suc, ◌+◌, ◌-◌, Bool, true, false, cond, List, [], ◌∷◌, ◌++◌}
-use Rattle.std.specs.Prelude.{not}
-use Rattle.strm_types.specs.declared.flushing.FlushAsked.{FlushAsked}
-use Rattle.strm_types.specs.declared.keys.Key.{Key}
-use Rattle.strm_types.specs.declared.keys.Key.TheVariants.{Stop, Start, Intr, Quit, Susp, Ignored, Eof, Erase, Kill, Werase, Reprint, Lnext, Delimiter, Ordinary}
+use Rattle.strm_ldterm.proofs.Prelude.{ℕ, suc, ◌+◌, ◌-◌, Bool, true, false, cond, List, [], ◌∷◌, ◌++◌, not}
+use Rattle.strm_ldterm.specs.Prelude.{FlushAsked, Key, Stop, Start, Intr, Quit, Susp, Ignored, Eof, Erase, Kill, Werase, Reprint, Lnext, Delimiter}
+use Rattle.strm_ldterm.specs.Prelude.{Ordinary, Way, Up, Down, Flushed, SignalKey, LineFull, LineOver, Spot, Cells, Acted, Parcel, onward}
+use Rattle.strm_ldterm.specs.Prelude.{flush_bytes, flush_message, Discipline, sends, Types, edited, has_room, Message, data_message, icanon, imaxbel}
+use Rattle.strm_ldterm.specs.Prelude.{noflsh, added, bare, gathered_up, is_lnext, lost, signals, stroke_at, strikes, struck, up_alone}
 use Rattle.strm_types.specs.declared.kinds.MsgKind.TheVariants as kinds
-use Rattle.strm_types.specs.declared.names.Way.{Way}
-use Rattle.strm_types.specs.declared.names.Way.TheVariants.{Up, Down}
-use Rattle.strm_types.specs.declared.rules.Rule.TheVariants.{Flushed, SignalKey, LineFull, LineOver}
-use Rattle.strm_types.specs.declared.spots.Spot.{Spot}
-use Rattle.strm_types.specs.Cells.{Cells}
-use Rattle.strm_types.specs.Deliver.{Acted, Parcel, onward}
-use Rattle.strm_types.specs.Flushing.{flush_bytes, flush_message}
-use Rattle.strm_types.specs.Ldterms.{Discipline, sends}
-use Rattle.strm_types.specs.Lines.{Types, edited, has_room}
-use Rattle.strm_types.specs.Message.{Message, data_message}
-use Rattle.strm_types.specs.Termios.{icanon, imaxbel, noflsh}
-use Rattle.strm_types.specs.Typing.{added, bare, both_ways, dropped, gathered_up, is_blank_cell, is_lnext, lost, sigint, signals, sigquit, sigtstp, stroke_at, strikes, struck, up_alone}
+use Rattle.strm_types.specs.Typing.{both_ways, dropped, is_blank_cell, sigint, sigquit, sigtstp}
 
 -- what holds of so many parcels or fewer, each on its way to a next place
 module _ {C : Type 0} (cells : Cells C) (here : Spot) (P : ℕ → List (Parcel C) → Type 0) (none : (n : ℕ) → P n [])

@@ -1,17 +1,7 @@
 -- A turn of the write queue in which the first message passes whole.
-use Rattle.std.proofs.Common.{ℕ, ◌≡◌, Bool, true, false, cond, List, [], ◌∷◌, refl, sym}
-use Rattle.std.proofs.lemmas.Bool.{false≢true}
-use Rattle.std.specs.Prelude.{◌&&◌, Option, not}
-use Rattle.strm_types.specs.declared.names.Way.TheVariants.{Down}
-use Rattle.strm_types.specs.declared.spots.Spot.{Spot}
-use Rattle.strm_types.specs.Cells.{plain}
-use Rattle.strm_types.specs.Input.{is_data, passes}
+use Rattle.strm_ldterm.proofs.Prelude.{ℕ, ◌≡◌, Bool, true, false, cond, List, [], ◌∷◌, refl, sym, false≢true, ◌&&◌, Option, not, turn_of}
+use Rattle.strm_ldterm.specs.Prelude.{Down, Spot, plain, is_data, passes, Message, cells_of, output_serves, posted, unchanged, is_none_left, opost}
 use Rattle.strm_types.specs.Ldterms as ldterms
-use Rattle.strm_types.specs.Message.{Message, cells_of}
-use Rattle.strm_types.specs.OutputTurns.{output_serves, posted, unchanged}
-use Rattle.strm_types.specs.Queue.{is_none_left}
-use Rattle.strm_types.specs.Termios.{opost}
-use Rattle.strm_types.proofs.OutputStops.{turn_of}
 use Rattle.strm_ldterm.specs.Bounds.{goes_out}
 
 module _ (here : Spot) (stop : Option ℕ) where

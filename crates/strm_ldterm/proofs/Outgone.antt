@@ -1,38 +1,18 @@
 -- Turns of the write queue: what the definition says of bytes that go out, and of what passes whole, and a call that did so on a store.
-use Rattle.std.proofs.Common.{ℕ, ◌≡◌, ◌≤◌, ◌<◌, ◌+◌, ◌-◌, Bool, true, false, cond, List, [], ◌∷◌, ◌++◌, length, map, take, drop, refl, sym, ap, subst, ◌∙◌, arith, append-nil, length-drop}
-use Rattle.std.proofs.lemmas.Bool.{false≢true}
-use Rattle.std.proofs.lemmas.Bool.Decides.{nat_tests}
+use Rattle.strm_ldterm.proofs.Prelude.{ℕ, ◌≡◌, ◌≤◌, ◌<◌, ◌+◌, ◌-◌, Bool, true, false, cond, List, [], ◌∷◌, ◌++◌, length, map, take, drop, refl, sym}
+use Rattle.strm_ldterm.proofs.Prelude.{ap, subst, ◌∙◌, arith, append-nil, length-drop, false≢true, nat_tests, ◌&&◌, Option, None, Some, is_some}
+use Rattle.strm_ldterm.proofs.Prelude.{nat_lt, not, unwrap_or, turn_of}
+use Rattle.strm_ldterm.specs.Prelude.{STOP_BLOCKS, Down, Fates, Note, Spot, plain, Fate, onward, back_on, cells_left, is_data, left_of, sends}
+use Rattle.strm_ldterm.specs.Prelude.{Message, cells_of, size_of, Output, posts, output_dir, output_serves, posted, unchanged, with_given}
+use Rattle.strm_ldterm.specs.Prelude.{is_none_left, left_with, first_size, Serving, opost, bytes_left, StoreValue, IsStore, Outbox, Served, sent_of}
+use Rattle.strm_ldterm.specs.Prelude.{HasRoom, least_free, stop_at, stop_of, FreesNone}
 use Rattle.std.proofs.lemmas.List.{length-take}
-use Rattle.std.specs.Prelude.{◌&&◌, Option, None, Some, is_some, nat_lt, not, unwrap_or}
 use Rattle.arrayvec.specs.ArrayVec.{ArrayVec}
-use Rattle.strm_types.specs.declared.limits.TheConstants.{STOP_BLOCKS}
-use Rattle.strm_types.specs.declared.names.Way.TheVariants.{Down}
-use Rattle.strm_types.specs.declared.rules.Fates.{Fates}
-use Rattle.strm_types.specs.declared.spots.Note.{Note}
-use Rattle.strm_types.specs.declared.spots.Spot.{Spot}
-use Rattle.strm_types.specs.Cells.{plain}
-use Rattle.strm_types.specs.Deliver.{Fate, onward}
-use Rattle.strm_types.specs.Input.{back_on, cells_left, is_data, left_of}
 use Rattle.strm_types.specs.Ldterms as ldterms
-use Rattle.strm_types.specs.Ldterms.{sends}
-use Rattle.strm_types.specs.Message.{Message, cells_of, size_of}
-use Rattle.strm_types.specs.Output.{Output, posts}
-use Rattle.strm_types.specs.OutputTurns.{Outgoing, output_dir, output_serves, posted, unchanged, with_given}
-use Rattle.strm_types.specs.Queue.{is_none_left, left_with, first_size}
-use Rattle.strm_types.specs.Service.{Serving}
-use Rattle.strm_types.specs.Termios.{opost}
-use Rattle.strm_types.specs.LdtermCalls.{bytes_left}
-use Rattle.strm_types.proofs.OutputStops.{turn_of}
-use Rattle.strm_blocks.specs.Blocks.{StoreValue, IsStore}
-use Rattle.strm_frame.specs.declared.parcels.Outbox.{Outbox}
-use Rattle.strm_frame.specs.declared.service.Served.{Served}
-use Rattle.strm_frame.specs.Outboxes.{sent_of}
-use Rattle.strm_frame.specs.Hands.{HasRoom}
-use Rattle.strm_frame.specs.Serves.{least_free, stop_at, stop_of}
+use Rattle.strm_types.specs.OutputTurns.{Outgoing}
 use Rattle.strm_ldterm.specs.Bounds.{goes_out, passes_whole}
 use Rattle.strm_ldterm.specs.Called.{ServesAs, at_work, bytes_of_way}
 use Rattle.strm_ldterm.specs.Does.{Proceeds}
-use Rattle.strm_queue.specs.Stored.{FreesNone}
 use Rattle.strm_ldterm.specs.Outgone.{BeganOutput, data_of, let_go}
 use Rattle.strm_ldterm.specs.Posting.{PoursAs, poured}
 use Rattle.strm_ldterm.specs.FreeBefore.{IsFreeBefore, all_free}

@@ -1,41 +1,22 @@
 -- The first message of a queue is taken into the hand, where the module keeps none there.
-use Rattle.std.proofs.Common.{ℕ, ◌≡◌, ◌<◌, ◌+◌, eqb, Bool, true, false, cond, List, [], ◌∷◌, length, map, refl, sym, ap, subst, ◌∙◌, arith}
-use Rattle.std.specs.Prelude.{◌&&◌, Option, None, Some, nat_lt, not, unwrap_or}
-use Rattle.std.proofs.lemmas.Bool.{false≢true}
-use Rattle.std.proofs.lemmas.Bool.Decides.{nat_tests}
-use Rattle.std.proofs.lemmas.List.Sums.{sum_by-cons}
-use Rattle.strm_types.specs.declared.kinds.MsgKind.{MsgKind}
+use Rattle.strm_ldterm.proofs.Prelude.{ℕ, ◌≡◌, ◌<◌, ◌+◌, eqb, Bool, true, false, cond, List, [], ◌∷◌, length, map, refl, sym, ap, subst, ◌∙◌, arith}
+use Rattle.strm_ldterm.proofs.Prelude.{◌&&◌, Option, None, Some, nat_lt, not, unwrap_or, false≢true, nat_tests, sum_by-cons, in_hand-held_other}
+use Rattle.strm_ldterm.proofs.Prelude.{kind-is, data_in, data-shown, data_in-cells, once-self, once-apart, one-parts, one-chains, no-parts}
+use Rattle.strm_ldterm.proofs.Prelude.{none-chains}
+use Rattle.strm_ldterm.specs.Prelude.{MsgKind, Up, Down, Fates, Spot, toward, is_data, input_begins, passes, treats, sends, Message, cells_of}
+use Rattle.strm_ldterm.specs.Prelude.{size_of, output_serves, is_none_left, left_with, Serving, opost, Block, Held, StoreValue, IsStore, in_hand}
+use Rattle.strm_ldterm.specs.Prelude.{list_at, block_at, held, times_in, chain_in, token, InHand, data_bytes, message_of, IsChain, Queue, messages_on}
+use Rattle.strm_ldterm.specs.Prelude.{Sent, once, OnlyOwn, message_in, times_sent, parcels_in, AreChains, queue-ready}
 use Rattle.strm_types.specs.declared.kinds.MsgKind.TheVariants as kinds
-use Rattle.strm_types.specs.declared.names.Way.TheVariants.{Up, Down}
-use Rattle.strm_types.specs.declared.rules.Fates.{Fates}
-use Rattle.strm_types.specs.declared.spots.Spot.{Spot}
 use Rattle.strm_types.specs.Cells as cells
-use Rattle.strm_types.specs.Deliver.{toward}
-use Rattle.strm_types.specs.Input.{is_data, input_begins, passes, treats, nothing_served}
+use Rattle.strm_types.specs.Input.{nothing_served}
 use Rattle.strm_types.specs.Ldterms as ldterms
-use Rattle.strm_types.specs.Ldterms.{sends}
-use Rattle.strm_types.specs.Message.{Message, cells_of, size_of}
-use Rattle.strm_types.specs.OutputTurns.{output_serves}
 use Rattle.strm_types.specs.Queue as plain
-use Rattle.strm_types.specs.Queue.{is_none_left, left_with}
-use Rattle.strm_types.specs.Service.{Serving}
-use Rattle.strm_types.specs.Termios.{opost}
-use Rattle.strm_blocks.specs.Blocks.{Block, Held, StoreValue, IsStore, in_hand, list_at, block_at, held, times_in, chain_in, token}
-use Rattle.strm_blocks.proofs.Laws.{in_hand-held_other}
-use Rattle.strm_blocks.specs.declared.in_hand.InHand.{InHand}
-use Rattle.strm_msg.specs.Bytes.{data_bytes}
-use Rattle.strm_msg.specs.Messages.{message_of, IsChain}
-use Rattle.strm_msg.proofs.Chains.{kind-is, data_in, data-shown, data_in-cells, data_in-size}
-use Rattle.strm_queue.specs.declared.queue.Queue.{Queue}
-use Rattle.strm_queue.specs.Stored.{messages_on, Dequeued}
-use Rattle.strm_frame.specs.declared.parcels.Sent.{Sent}
-use Rattle.strm_frame.specs.Hands.{once, OnlyOwn}
-use Rattle.strm_frame.specs.Outboxes.{message_in, times_sent, parcels_in, AreChains}
-use Rattle.strm_frame.proofs.Handing.{once-self, once-apart, one-parts, one-chains, no-parts, none-chains}
+use Rattle.strm_msg.proofs.Chains.{data_in-size}
+use Rattle.strm_queue.specs.Stored.{Dequeued}
 use Rattle.strm_ldterm.specs.Stands.{ldterm_in, owns, times_kept, keeps, IsHeld, Paired}
 use Rattle.strm_ldterm.specs.Bounds.{goes_out, passes_whole}
 use Rattle.strm_ldterm.specs.Does.{Proceeds}
-use Rattle.strm_frame.specs.StandingLaws.{queue-ready}
 use Rattle.strm_ldterm.specs.Frames.{form-same}
 use Rattle.strm_ldterm.specs.Began.{BeganWhole, BeganWork}
 use Rattle.strm_ldterm.specs.Outgone.{BeganOutput, PassedDown, output_of}

@@ -1,27 +1,11 @@
 -- An M_FLUSH that passes, and puts by their kind.
-use Rattle.std.proofs.Common.{ℕ, ◌≡◌, Bool, true, false, cond, List, [], ◌∷◌, ◌++◌, refl, sym, ap, ◌∙◌, append-nil}
-use Rattle.strm_types.specs.declared.flushing.FlushAsked.{FlushAsked}
-use Rattle.strm_types.specs.declared.kinds.MsgKind.{MsgKind}
+use Rattle.strm_ldterm.proofs.Prelude.{ℕ, ◌≡◌, Bool, true, false, cond, List, [], ◌∷◌, ◌++◌, refl, sym, ap, ◌∙◌, append-nil, ◌&&◌, not}
+use Rattle.strm_ldterm.specs.Prelude.{FlushAsked, MsgKind, Up, Down, Fates, Note, Spot, Acted, tallied, onward, is_data_kind, is_flush, ldterm_puts}
+use Rattle.strm_ldterm.specs.Prelude.{passes_on_way, waits_on, sends, both, queue_flushed, line_flushed, read_flushed, write_flushed, takes_band_0}
+use Rattle.strm_ldterm.specs.Prelude.{flush_passes, queued_at, Message, Flushed, StoreValue, IsStore, message_of, Acts, CanPut, message_in}
 use Rattle.strm_types.specs.declared.kinds.MsgKind.TheVariants as kinds
-use Rattle.strm_types.specs.declared.names.Way.TheVariants.{Up, Down}
-use Rattle.strm_types.specs.declared.rules.Fates.{Fates}
-use Rattle.strm_types.specs.declared.spots.Note.{Note}
-use Rattle.strm_types.specs.declared.spots.Spot.{Spot}
-use Rattle.strm_types.specs.Deliver.{Acted, tallied, onward}
-use Rattle.strm_types.specs.Flush.{is_data_kind}
-use Rattle.strm_types.specs.Flushing.{is_flush}
-use Rattle.strm_types.specs.LdtermPuts.{ldterm_puts, passes_on_way, waits_on}
 use Rattle.strm_types.specs.Ldterms as ldterms
-use Rattle.strm_types.specs.Ldterms.{sends, both, queue_flushed, line_flushed, read_flushed, write_flushed, takes_band_0, flush_passes, queued_at}
-use Rattle.std.specs.Prelude.{◌&&◌, not}
-use Rattle.strm_types.specs.Message.{Message}
 use Rattle.strm_types.specs.Service.{line_gone}
-use Rattle.strm_types.specs.declared.rules.Rule.TheVariants.{Flushed}
-use Rattle.strm_blocks.specs.Blocks.{StoreValue, IsStore}
-use Rattle.strm_msg.specs.Messages.{message_of}
-use Rattle.strm_frame.specs.declared.modules.Acts.{Acts}
-use Rattle.strm_frame.specs.Hands.{CanPut}
-use Rattle.strm_frame.specs.Outboxes.{message_in}
 use Rattle.strm_ldterm.specs.Stands.{ldterm_in, keeps, Paired}
 use Rattle.strm_ldterm.specs.Does.{Does, Flushes}
 use Rattle.strm_ldterm.proofs.Steps.{still-chain, alters-does}

@@ -1,33 +1,17 @@
 -- Plain bytes that are treated at once are treated one after the other.
-use Rattle.std.proofs.Common.{ℕ, zero, suc, ◌≡◌, ◌≤◌, ◌<◌, ◌+◌, ◌*◌, ◌%◌, ◌^◌, Bool, true, false, cond, List, [], ◌∷◌, ◌++◌, length, drop, take, refl, sym, ap, subst, ◌∙◌, arith, append-nil, append_assoc, length-append, length-take, take-append-drop}
-use Rattle.std.proofs.lemmas.Bool.{false≢true}
-use Rattle.std.proofs.lemmas.Bool.Decides.{nat_tests}
-use Rattle.std.proofs.lemmas.List.Sums.{sum_by-cons}
+use Rattle.strm_ldterm.proofs.Prelude.{ℕ, zero, suc, ◌≡◌, ◌≤◌, ◌<◌, ◌+◌, ◌*◌, ◌%◌, ◌^◌, Bool, true, false, cond, List, [], ◌∷◌, ◌++◌, length, drop}
+use Rattle.strm_ldterm.proofs.Prelude.{take, refl, sym, ap, subst, ◌∙◌, arith, append-nil, append_assoc, length-append, length-take, take-append-drop}
+use Rattle.strm_ldterm.proofs.Prelude.{false≢true, nat_tests, sum_by-cons, not, ◌&&◌, ◌||◌, ◌==◌, Option, None, Some, option_map}
+use Rattle.strm_ldterm.specs.Prelude.{Ordinary, Stroke, LINE_MAX, Dir, Down, Fates, Note, Enable, Spot, Termios, plain, Comes, tallied, echo_of}
+use Rattle.strm_ldterm.specs.Prelude.{is_control, shown_control, tab, begins_next, cells_left, left_of, next_stage, with_left, carriage_return}
+use Rattle.strm_ldterm.specs.Prelude.{lowered, newline, stripped, stroke_of, taken_as, Discipline, Between, Begun, sends, has_room, Message, band_of}
+use Rattle.strm_ldterm.specs.Prelude.{cells_of, data_message, is_high_priority, rank_of, size_of, count_of, flow_of, is_full, is_none_left}
+use Rattle.strm_ldterm.specs.Prelude.{put_enables, made_more, echo, icanon, imaxbel, added, echo_dir, echo_grows, echo_stands, echoed, grown}
 use Rattle.std.specs.List.{AllByRecursion, list_any}
-use Rattle.std.specs.Prelude.{not, ◌&&◌, ◌||◌, ◌==◌, Option, None, Some, option_map}
-use Rattle.strm_types.specs.declared.keys.Key.TheVariants.{Ordinary}
-use Rattle.strm_types.specs.declared.keys.Stroke.{Stroke}
-use Rattle.strm_types.specs.declared.keys.TheConstants.{LINE_MAX}
-use Rattle.strm_types.specs.declared.names.Dir.{Dir}
 use Rattle.strm_types.specs.declared.names.Dir.TheVariants.{MasterToSlave, SlaveToMaster}
-use Rattle.strm_types.specs.declared.names.Way.TheVariants.{Down}
-use Rattle.strm_types.specs.declared.rules.Fates.{Fates}
-use Rattle.strm_types.specs.declared.spots.Note.{Note}
-use Rattle.strm_types.specs.declared.spots.Note.TheVariants.{Enable}
-use Rattle.strm_types.specs.declared.spots.Spot.{Spot}
-use Rattle.strm_types.specs.declared.termios.Termios.{Termios}
-use Rattle.strm_types.specs.Cells.{plain}
-use Rattle.strm_types.specs.Deliver.{Comes, tallied}
-use Rattle.strm_types.specs.Echo.{echo_byte, echo_of, is_control, shown_control, tab, typed_echo}
-use Rattle.strm_types.specs.Input.{begins_next, cells_left, left_of, next_stage, with_left}
-use Rattle.strm_types.specs.Keys.{carriage_return, lowered, newline, stripped, stroke_of, taken_as}
-use Rattle.strm_types.specs.Ldterms.{Discipline, Between, Begun, sends}
-use Rattle.strm_types.specs.Lines.{has_room}
-use Rattle.strm_types.specs.Message.{Message, band_of, cells_of, data_message, is_high_priority, rank_of, size_of}
-use Rattle.strm_types.specs.Queue.{count_of, flow_of, is_full, is_none_left, put, put_enables}
-use Rattle.strm_types.specs.Rules.{made_more}
-use Rattle.strm_types.specs.Termios.{echo, echoctl, echonl, icanon, imaxbel}
-use Rattle.strm_types.specs.Typing.{added, echo_dir, echo_grows, echo_stands, echoed, grown}
+use Rattle.strm_types.specs.Echo.{echo_byte, typed_echo}
+use Rattle.strm_types.specs.Queue.{put}
+use Rattle.strm_types.specs.Termios.{echoctl, echonl}
 use Rattle.strm_ldterm.specs.FreeBefore.{blocks_grown, echo_size, last_size}
 use Rattle.strm_ldterm.specs.PlainRuns.{has_keys, is_plain, run_done, run_echoed, turns_ends, typed_run}
 use Rattle.strm_ldterm.specs.Stands.{EndsPlain}

@@ -1,19 +1,9 @@
 -- Output on a store: bytes of the message in work that go out, one after the other.
-use Rattle.std.proofs.Common.{ℕ, zero, suc, ◌≡◌, ◌≤◌, ◌<◌, ◌+◌, ◌-◌, ◌⊎◌, inl, inr, true, List, [], ◌++◌, length, drop, take, refl, sym, ap, subst, ◌∙◌, arith, append-nil, length-append, length-drop}
-use Rattle.std.specs.Prelude.{is_some}
-use Rattle.strm_types.specs.declared.limits.TheConstants.{STOP_BLOCKS}
-use Rattle.strm_types.specs.declared.rules.Fates.{Fates}
-use Rattle.strm_types.specs.declared.spots.Spot.{Spot}
-use Rattle.strm_types.specs.Cells.{plain}
-use Rattle.strm_types.specs.Deliver.{Acted, Fate, tallied}
-use Rattle.strm_types.specs.Input.{cells_left, with_left}
+use Rattle.strm_ldterm.proofs.Prelude.{ℕ, zero, suc, ◌≡◌, ◌≤◌, ◌<◌, ◌+◌, ◌-◌, ◌⊎◌, inl, inr, true, List, [], ◌++◌, length, drop, take, refl, sym, ap}
+use Rattle.strm_ldterm.proofs.Prelude.{subst, ◌∙◌, arith, append-nil, length-append, length-drop, is_some}
+use Rattle.strm_ldterm.specs.Prelude.{STOP_BLOCKS, Fates, Spot, plain, Acted, Fate, tallied, cells_left, with_left, sends, Output, posts, output_dir}
+use Rattle.strm_ldterm.specs.Prelude.{StoreValue, IsStore, Sent, HasRoom}
 use Rattle.strm_types.specs.Ldterms as ldterms
-use Rattle.strm_types.specs.Ldterms.{sends}
-use Rattle.strm_types.specs.Output.{Output, posts}
-use Rattle.strm_types.specs.OutputTurns.{output_dir}
-use Rattle.strm_blocks.specs.Blocks.{StoreValue, IsStore}
-use Rattle.strm_frame.specs.declared.parcels.Sent.{Sent}
-use Rattle.strm_frame.specs.Hands.{HasRoom}
 use Rattle.strm_ldterm.specs.declared.output_runs.Flow.{Flow}
 use Rattle.strm_ldterm.specs.FreeBefore.{IsFreeBefore, all_free, blocks_grown}
 use Rattle.strm_ldterm.specs.Does.{Proceeds}

@@ -1,28 +1,15 @@
 -- Output on plain bytes: what a byte gives, what a run of printed bytes gives, and bytes that go out one after the other.
-use Rattle.std.proofs.Common.{ℕ, suc, ◌≡◌, ◌≤◌, ◌<◌, ◌+◌, ◌-◌, Bool, true, false, cond, List, [], ◌∷◌, ◌++◌, length, take, drop, replicate, refl, sym, ap, subst, ◌∙◌, arith, append_assoc}
-use Rattle.std.specs.Prelude.{Option, None, Some, is_some, not, nat_le, nat_lt, ◌==◌, ◌&&◌}
+use Rattle.strm_ldterm.proofs.Prelude.{ℕ, suc, ◌≡◌, ◌≤◌, ◌<◌, ◌+◌, ◌-◌, Bool, true, false, cond, List, [], ◌∷◌, ◌++◌, length, take, drop, replicate}
+use Rattle.strm_ldterm.proofs.Prelude.{refl, sym, ap, subst, ◌∙◌, arith, append_assoc, Option, None, Some, is_some, not, nat_le, nat_lt, ◌==◌, ◌&&◌}
+use Rattle.strm_ldterm.proofs.Prelude.{and_parts, false≢true, nat_tests, drop-drop, in_front, posts-join, posts-same}
+use Rattle.strm_ldterm.specs.Prelude.{Dir, Given, Byte, Ended, Spaces, Nothing, Posted, COLUMN_MAX, Spot, Termios, plain, is_control, tab, Acted}
+use Rattle.strm_ldterm.specs.Prelude.{cells_left, left_of, made_of, carriage_return, newline, Message, cells_of, Output, post, posts, raised, space}
+use Rattle.strm_ldterm.specs.Prelude.{told_for, wrapped, output_dir}
 use Rattle.std.specs.List.{AllByRecursion}
-use Rattle.std.proofs.lemmas.Bool.{and_parts, false≢true}
-use Rattle.std.proofs.lemmas.Bool.Decides.{nat_tests}
-use Rattle.std.proofs.lemmas.List.{drop-drop}
 use Rattle.std.proofs.Math.Seq.{take-add}
-use Rattle.strm_types.specs.declared.names.Dir.{Dir}
-use Rattle.strm_types.specs.declared.output.Given.{Given}
-use Rattle.strm_types.specs.declared.output.Given.TheVariants.{Byte, Ended, Spaces, Nothing}
-use Rattle.strm_types.specs.declared.output.Posted.{Posted}
-use Rattle.strm_types.specs.declared.output.TheConstants.{COLUMN_MAX}
-use Rattle.strm_types.specs.declared.spots.Spot.{Spot}
-use Rattle.strm_types.specs.declared.termios.Termios.{Termios}
-use Rattle.strm_types.specs.Cells.{plain}
-use Rattle.strm_types.specs.Echo.{is_control, tab}
-use Rattle.strm_types.specs.Deliver.{Acted}
-use Rattle.strm_types.specs.Input.{cells_left, left_of, made_of}
-use Rattle.strm_types.specs.Keys.{carriage_return, newline}
 use Rattle.strm_types.specs.Ldterms as ldterms
-use Rattle.strm_types.specs.Message.{Message, cells_of}
-use Rattle.strm_types.specs.Output.{Motion, Newline, Return, Tab, Backspace, Control, Printing, Output, backspace, given_for, made_for, motion_of, post, posted_as, posts, raised, space, told_for, wrapped}
-use Rattle.strm_types.specs.OutputTurns.{output_dir}
-use Rattle.strm_types.proofs.Outputs.{in_front, posts-alone, posts-join, posts-low, posts-same}
+use Rattle.strm_types.specs.Output.{Motion, Newline, Return, Tab, Backspace, Control, Printing, backspace, given_for, made_for, motion_of, posted_as}
+use Rattle.strm_types.proofs.Outputs.{posts-alone, posts-low}
 use Rattle.strm_types.specs.Termios.{olcuc}
 use Rattle.strm_ldterm.specs.Posting.{bytes_given, is_printed, poured}
 use Rattle.strm_ldterm.specs.Turns.{one_after}

@@ -1,13 +1,9 @@
 -- Stages of a turn, one after the other.
-use Rattle.std.proofs.Common.{ℕ, ◌≡◌, ◌<◌, ◌+◌, List, [], ◌∷◌, ◌++◌, refl, sym, ap, ◌∙◌, arith}
-use Rattle.strm_types.specs.declared.rules.Fates.{Fates}
-use Rattle.strm_types.specs.Deliver.{Acted, Fate, counted_with, tallied}
+use Rattle.strm_ldterm.proofs.Prelude.{ℕ, ◌≡◌, ◌<◌, ◌+◌, List, [], ◌∷◌, ◌++◌, refl, sym, ap, ◌∙◌, arith}
+use Rattle.strm_ldterm.specs.Prelude.{Fates, Acted, Fate, counted_with, tallied, sends, both, StoreValue, IsStore, in_hand, Sent, AreIn, times_sent}
+use Rattle.strm_ldterm.specs.Prelude.{parcels_in, AreChains}
 use Rattle.strm_types.specs.Ldterms as ldterms
-use Rattle.strm_types.specs.Ldterms.{sends, both}
-use Rattle.strm_blocks.specs.Blocks.{StoreValue, IsStore, in_hand}
-use Rattle.strm_frame.specs.declared.parcels.Sent.{Sent}
-use Rattle.strm_frame.specs.Hands.{AreIn}
-use Rattle.strm_frame.specs.Outboxes.{times_sent, parcel_in, parcels_in, AreChains}
+use Rattle.strm_frame.specs.Outboxes.{parcel_in}
 use Rattle.strm_frame.proofs.Handing.{parcels-same, chains-same}
 use Rattle.strm_ldterm.specs.declared.ldterm.Stage.{Stage}
 use Rattle.strm_ldterm.specs.Stands.{ldterm_in, stage_in, keeps, Paired}

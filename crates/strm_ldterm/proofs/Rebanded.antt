@@ -1,32 +1,14 @@
 -- M_DATA in hand that is given another band, and goes on.
-use Rattle.std.proofs.Common.{ℕ, ◌≡◌, ◌≤◌, ◌<◌, ◌+◌, eqb, cond, List, [], ◌∷◌, length, map, refl, sym, ap, subst, ◌∙◌, arith}
-use Rattle.std.proofs.lemmas.Bool.{false≢true}
-use Rattle.std.specs.Prelude.{None, Some}
-use Rattle.std.proofs.lemmas.List.Sums.{sum_by-cons}
+use Rattle.strm_ldterm.proofs.Prelude.{ℕ, ◌≡◌, ◌≤◌, ◌<◌, ◌+◌, eqb, cond, List, [], ◌∷◌, length, map, refl, sym, ap, subst, ◌∙◌, arith, false≢true}
+use Rattle.strm_ldterm.proofs.Prelude.{None, Some, sum_by-cons, total-changed, used-is, references-is, free_m-is, free_d-more, in_hand-changed}
+use Rattle.strm_ldterm.proofs.Prelude.{in_hand-changed_other, data_in-cells, data-control, times-replaced, once-apart, one-parts, one-chains}
+use Rattle.strm_ldterm.specs.Prelude.{Way, Down, Fates, Spot, toward, onward, sends, Message, cells_of, is_high_priority, with_given, Block}
+use Rattle.strm_ldterm.specs.Prelude.{StoreValue, IsInHand, in_hand, list_at, block_at, changed, banded, names_of, token, InHand, bytes_of}
+use Rattle.strm_ldterm.specs.Prelude.{message_of, IsChain, Sent, once, AreIn, CanPut, Shifts, message_in, times_sent, FreesNone}
 use Rattle.strm_types.specs.declared.kinds.MsgKind.TheVariants as kinds
-use Rattle.strm_types.specs.declared.names.Way.{Way}
-use Rattle.strm_types.specs.declared.names.Way.TheVariants.{Down}
-use Rattle.strm_types.specs.declared.rules.Fates.{Fates}
-use Rattle.strm_types.specs.declared.spots.Spot.{Spot}
-use Rattle.strm_types.specs.Deliver.{toward, onward}
-use Rattle.strm_types.specs.Ldterms.{sends}
-use Rattle.strm_types.specs.Message.{Message, cells_of, is_high_priority}
-use Rattle.strm_types.specs.OutputTurns.{with_given}
-use Rattle.strm_blocks.specs.Blocks.{Block, StoreValue, IsInHand, in_hand, list_at, block_at, changed, banded, names_of, token}
-use Rattle.strm_blocks.proofs.Laws.{total-changed, used-is, references-is, free_m-is, free_d-more, in_hand-changed, in_hand-changed_other}
-use Rattle.strm_blocks.specs.declared.in_hand.InHand.{InHand}
-use Rattle.strm_msg.specs.Bytes.{bytes_of}
-use Rattle.strm_msg.specs.Messages.{message_of, IsChain}
-use Rattle.strm_msg.proofs.Chains.{data_in-cells, data-control}
-use Rattle.strm_msg.proofs.Hands.{times-replaced}
-use Rattle.strm_frame.specs.declared.parcels.Sent.{Sent}
-use Rattle.strm_frame.specs.Hands.{once, AreIn, CanPut, Shifts}
-use Rattle.strm_frame.specs.Outboxes.{message_in, times_sent}
-use Rattle.strm_frame.proofs.Handing.{once-apart, one-parts, one-chains}
 use Rattle.strm_ldterm.specs.Becoming.{Becomes}
 use Rattle.strm_ldterm.specs.Does.{Proceeds}
 use Rattle.strm_ldterm.specs.Frames.{ldterm-frame}
-use Rattle.strm_queue.specs.Stored.{FreesNone}
 use Rattle.strm_ldterm.specs.Outgone.{data_of}
 use Rattle.strm_ldterm.specs.Stands.{IsData, IsHeld, cells_kept, kept_in, keeps, ldterm_in, owns, Paired}
 use Rattle.strm_ldterm.proofs.Finished.{gathered-held, gathered-splits, work-held, work-splits}

@@ -1,27 +1,19 @@
 -- A message in hand that is put back on a queue, and one that the module kept.
-use Rattle.std.proofs.Common.{ℕ, ◌≡◌, ◌<◌, List, length, map, refl, sym, ap, subst, ◌∙◌, arith}
-use Rattle.std.proofs.lemmas.Bool.{false≢true}
-use Rattle.std.specs.Prelude.{None, Some}
+use Rattle.strm_ldterm.proofs.Prelude.{ℕ, ◌≡◌, ◌<◌, List, length, map, refl, sym, ap, subst, ◌∙◌, arith, false≢true, None, Some, sum-put_back}
+use Rattle.strm_ldterm.proofs.Prelude.{total-placed, total-dropped, used-is, references-is, free_m-is, free_d-more, shifts-joined}
+use Rattle.strm_ldterm.specs.Prelude.{back_on, Block, StoreValue, IsStore, IsInHand, list_at, in_hand, placed, dropped, put_back, names_of, total}
+use Rattle.strm_ldterm.specs.Prelude.{token, InHand, message_of, IsChain, Queue, plain_flows, queue_in, messages_on, IsReady, Changes, FreesBlocks}
+use Rattle.strm_ldterm.specs.Prelude.{AreIn, CanPut, OnlyOwn, message_in}
 use Rattle.strm_types.specs.Queue as plain
 use Rattle.strm_types.specs.Ldterms as ldterms
-use Rattle.strm_types.specs.Input.{back_on}
-use Rattle.strm_types.proofs.Ranked.{sum-put_back}
-use Rattle.strm_blocks.specs.Blocks.{Block, StoreValue, IsStore, IsInHand, list_at, in_hand, placed, dropped, put_back, rank_of, names_of, total, token}
-use Rattle.strm_blocks.proofs.Laws.{total-placed, total-dropped, used-is, references-is, free_m-is, free_d-more}
-use Rattle.strm_blocks.specs.declared.in_hand.InHand.{InHand}
-use Rattle.strm_msg.specs.Messages.{message_of, IsChain, AreMessages}
+use Rattle.strm_blocks.specs.Blocks.{rank_of}
+use Rattle.strm_msg.specs.Messages.{AreMessages}
 use Rattle.strm_msg.proofs.Chains.{put_back-chains}
-use Rattle.strm_queue.specs.declared.queue.Queue.{Queue}
-use Rattle.strm_queue.specs.Flows.{plain_flows}
 use Rattle.strm_queue.specs.Kept.{AreCounted}
 use Rattle.strm_queue.specs.Queues.{OnlyCounts}
-use Rattle.strm_queue.specs.Stored.{queue_in, messages_on, IsReady, Changes, FreesBlocks}
 use Rattle.strm_queue.proofs.Holding.{put_back-messages}
 use Rattle.strm_queue.proofs.Placed.{Landed, landed}
 use Rattle.strm_queue.proofs.Queued.{queue-by}
-use Rattle.strm_frame.specs.Hands.{AreIn, CanPut, OnlyOwn}
-use Rattle.strm_frame.specs.Outboxes.{message_in}
-use Rattle.strm_frame.proofs.Shifting.{shifts-joined}
 use Rattle.strm_ldterm.specs.Stands.{ldterm_in, owns, keeps, IsHeld, Paired}
 use Rattle.strm_ldterm.specs.Does.{Alters}
 use Rattle.strm_ldterm.specs.Frames.{ldterm-frame}

@@ -1,22 +1,12 @@
 -- A message of data that stands last on a queue is taken off it, grows and is put back, or a new one is put there.
-use Rattle.std.proofs.Common.{ℕ, ◌≡◌, ◌≢◌, ◌<◌, ◌+◌, eqb, cond, List, [], ◌∷◌, ◌++◌, refl, sym, ap, subst, ◌∙◌, arith}
-use Rattle.std.proofs.lemmas.List.Sums.{sum_by-cons}
+use Rattle.strm_ldterm.proofs.Prelude.{ℕ, ◌≡◌, ◌≢◌, ◌<◌, ◌+◌, eqb, cond, List, [], ◌∷◌, ◌++◌, refl, sym, ap, subst, ◌∙◌, arith, sum_by-cons}
+use Rattle.strm_ldterm.proofs.Prelude.{in_hand-held_other, kind-is, band-is, shifts-joined}
+use Rattle.strm_ldterm.specs.Prelude.{plain, Message, cells_of, data_message, rank_of, grown, Held, StoreValue, IsStore, chain_in, dropped, in_hand}
+use Rattle.strm_ldterm.specs.Prelude.{list_at, times_in, message_of, Queue, queue_in, messages_on, Changes, FreesBlocks, IsReady, once, CanPut}
+use Rattle.strm_ldterm.specs.Prelude.{HasRoom, Shifts, message_in, queue-ready}
 use Rattle.strm_types.specs.declared.kinds.MsgKind.TheVariants as kinds
-use Rattle.strm_types.specs.Cells.{plain}
-use Rattle.strm_types.specs.Message.{Message, cells_of, data_message, rank_of}
 use Rattle.strm_types.specs.Queue as queues
-use Rattle.strm_types.specs.Typing.{grown}
-use Rattle.strm_blocks.specs.Blocks.{Held, StoreValue, IsStore, chain_in, dropped, in_hand, list_at, times_in}
-use Rattle.strm_blocks.proofs.Laws.{in_hand-held_other}
-use Rattle.strm_msg.specs.Messages.{message_of}
-use Rattle.strm_msg.proofs.Chains.{kind-is, band-is}
-use Rattle.strm_queue.specs.declared.queue.Queue.{Queue}
-use Rattle.strm_queue.specs.Stored.{queue_in, messages_on, Changes, FreesBlocks, IsReady}
 use Rattle.strm_queue.specs.Taken.{TakenLast}
-use Rattle.strm_frame.specs.Hands.{once, CanPut, HasRoom, Shifts}
-use Rattle.strm_frame.specs.Outboxes.{message_in}
-use Rattle.strm_frame.proofs.Shifting.{shifts-joined}
-use Rattle.strm_frame.specs.StandingLaws.{queue-ready}
 use Rattle.strm_ldterm.specs.Frames.{}
 use Rattle.strm_ldterm.specs.Grown.{Begins, BeginsLast, Grown, GrowsLast, Rewrites}
 use Rattle.strm_ldterm.specs.Stands.{EndsPlain, IsOrdinary}

@@ -1,22 +1,10 @@
 -- Runs of plain bytes on a store.
-use Rattle.std.proofs.Common.{ℕ, ◌≡◌, ◌≤◌, ◌<◌, ◌+◌, ◌*◌, Bool, true, false, cond, List, [], ◌∷◌, ◌++◌, length, drop, refl, sym, ap, subst, ◌∙◌, arith, length-append}
+use Rattle.strm_ldterm.proofs.Prelude.{ℕ, ◌≡◌, ◌≤◌, ◌<◌, ◌+◌, ◌*◌, Bool, true, false, cond, List, [], ◌∷◌, ◌++◌, length, drop, refl, sym, ap, subst}
+use Rattle.strm_ldterm.proofs.Prelude.{◌∙◌, arith, length-append, Option, None, Some, is_some, option_map, slice_index_or}
+use Rattle.strm_ldterm.specs.Prelude.{STOP_BLOCKS, Fates, Note, Spot, Termios, LINE_MAX, cells_left, left_of, with_left, sends, Message, echo, icanon}
+use Rattle.strm_ldterm.specs.Prelude.{echo_grows, echo_stands, plain, StoreValue, IsStore, HasRoom, InHand}
 use Rattle.std.specs.List.{AllByRecursion}
-use Rattle.std.specs.Prelude.{Option, None, Some, is_some, option_map, slice_index_or}
-use Rattle.strm_types.specs.declared.limits.TheConstants.{STOP_BLOCKS}
-use Rattle.strm_types.specs.declared.rules.Fates.{Fates}
-use Rattle.strm_types.specs.declared.spots.Note.{Note}
-use Rattle.strm_types.specs.declared.spots.Spot.{Spot}
-use Rattle.strm_types.specs.declared.termios.Termios.{Termios}
-use Rattle.strm_types.specs.declared.keys.TheConstants.{LINE_MAX}
-use Rattle.strm_types.specs.Input.{cells_left, left_of, with_left}
 use Rattle.strm_types.specs.Ldterms as ldterms
-use Rattle.strm_types.specs.Ldterms.{sends}
-use Rattle.strm_types.specs.Message.{Message}
-use Rattle.strm_types.specs.Termios.{echo, icanon}
-use Rattle.strm_types.specs.Typing.{echo_grows, echo_stands}
-use Rattle.strm_types.specs.Cells.{plain}
-use Rattle.strm_blocks.specs.Blocks.{StoreValue, IsStore}
-use Rattle.strm_frame.specs.Hands.{HasRoom}
 use Rattle.strm_ldterm.specs.Does.{Proceeds}
 use Rattle.strm_ldterm.specs.FreeBefore.{blocks_grown}
 use Rattle.strm_ldterm.specs.PlainRuns.{MayRun, is_plain, run_echoed, typed_run}
@@ -28,7 +16,6 @@ use Rattle.strm_ldterm.proofs.FreeBefore.{free-on, room-for}
 use Rattle.strm_ldterm.proofs.Joining.{proceeds-joined, takes-more}
 use Rattle.strm_ldterm.proofs.PlainRuns.{Runs, done-as, run-blocks, runs-done}
 use Rattle.strm_ldterm.proofs.Treated.{none-under-way}
-use Rattle.strm_blocks.specs.declared.in_hand.InHand.{InHand}
 
 -- bytes that aren't marked are plain
 pub all-plain : (t : Termios) (odd : List Bool) (run : List ℕ) → ((b : ℕ) → slice_index_or odd b true ≡ false → is_plain t b ≡ true) → AllByRecursion (λ b. slice_index_or odd b true ≡ false) run

@@ -1,43 +1,23 @@
 -- Messages that are made in one block, and that the module sends on.
-use Rattle.std.proofs.Common.{ℕ, ◌≡◌, ◌≤◌, ◌<◌, ◌+◌, ◌-◌, cond, eqb, true, false, List, [], ◌∷◌, ◌++◌, length, take, refl, sym, ap, subst, ◌∙◌, arith, inl, inr}
-use Rattle.std.specs.Prelude.{min, nat_lt}
-use Rattle.std.proofs.lemmas.Bool.Decides.{nat_tests}
-use Rattle.std.proofs.lemmas.List.{take_all}
-use Rattle.std.proofs.lemmas.List.Sums.{sum_by-cons}
-use Rattle.strm_types.specs.declared.kinds.MsgKind.{MsgKind}
-use Rattle.strm_types.specs.declared.kinds.MsgKind.TheVariants.{Data, Stop}
-use Rattle.strm_types.specs.declared.names.Dir.{Dir}
-use Rattle.strm_types.specs.declared.names.Way.TheVariants.{Up}
-use Rattle.strm_types.specs.declared.rules.Fates.{Fates}
+use Rattle.strm_ldterm.proofs.Prelude.{ℕ, ◌≡◌, ◌≤◌, ◌<◌, ◌+◌, ◌-◌, cond, eqb, true, false, List, [], ◌∷◌, ◌++◌, length, take, refl, sym, ap, subst}
+use Rattle.strm_ldterm.proofs.Prelude.{◌∙◌, arith, inl, inr, nat_lt, nat_tests, take_all, sum_by-cons, data-shown, data_in, data-all, data-control}
+use Rattle.strm_ldterm.proofs.Prelude.{stays-chain, held-changed, chunk-one, once-self, one-parts, one-chains, no-parts, none-chains}
+use Rattle.strm_ldterm.specs.Prelude.{MsgKind, Data, Dir, Up, Fates, Note, Spot, plain, Acted, Fate, Parcel, tallied, is_data_kind, Message}
+use Rattle.strm_ldterm.specs.Prelude.{data_message, direction_at, told_more, bare, lost, chunk_count, Block, Held, StoreValue, IsStore, IsInHand}
+use Rattle.strm_ldterm.specs.Prelude.{IsFreshName, in_hand, list_at, held, changed, times_in, free_m, free_d, written, extended, token, bytes_of}
+use Rattle.strm_ldterm.specs.Prelude.{data_bytes, MadeOf, TooFew, message_of, IsChain, Sent, once, AreIn, SameOwn, HasRoom, times_sent}
+use Rattle.std.specs.Prelude.{min}
+use Rattle.strm_types.specs.declared.kinds.MsgKind.TheVariants.{Stop}
 use Rattle.strm_types.specs.declared.rules.Rule.{Rule}
-use Rattle.strm_types.specs.declared.spots.Note.{Note}
-use Rattle.strm_types.specs.declared.spots.Spot.{Spot}
-use Rattle.strm_types.specs.Cells.{plain}
-use Rattle.strm_types.specs.Deliver.{Acted, Fate, Parcel, tallied}
-use Rattle.strm_types.specs.Flush.{is_data_kind}
 use Rattle.strm_types.specs.Ldterms as ldterms
-use Rattle.strm_types.specs.Message.{Message, data_message}
-use Rattle.strm_types.specs.Names.{direction_at}
-use Rattle.strm_types.specs.Rules.{told_more}
-use Rattle.strm_types.specs.Typing.{bare, lost}
-use Rattle.strm_types.specs.Write.{chunk_count}
-use Rattle.strm_blocks.specs.Blocks.{Block, Held, StoreValue, IsStore, IsInHand, IsFreshName, in_hand, list_at, held, changed, times_in, references, free_m, free_d, copy_of, filled_block, written, taken_by, extended, token}
+use Rattle.strm_blocks.specs.Blocks.{references, copy_of, filled_block, taken_by}
 use Rattle.strm_blocks.specs.Outcomes.{Copied, NoneFree}
 use Rattle.strm_blocks.proofs.Laws.{in_hand-held}
-use Rattle.strm_msg.specs.Bytes.{bytes_of, data_bytes}
-use Rattle.strm_msg.specs.Made.{MadeOf, TooFew, copies_of, pieces}
-use Rattle.strm_msg.specs.Messages.{message_of, IsChain}
-use Rattle.strm_msg.proofs.Chains.{data-shown, data_in, data-all, data-control}
+use Rattle.strm_msg.specs.Made.{copies_of, pieces}
 use Rattle.strm_msg.proofs.Counts.{references-held, free_m-held, free_d-fresh}
-use Rattle.strm_msg.proofs.Hands.{stays-chain, held-changed}
 use Rattle.strm_msg.proofs.MadePlain.{made-plain}
 use Rattle.strm_msg.proofs.Making.{names-one}
 use Rattle.strm_msg.proofs.Pieces.{length-pieces}
-use Rattle.strm_queue.proofs.OneMade.{chunk-one}
-use Rattle.strm_frame.specs.declared.parcels.Sent.{Sent}
-use Rattle.strm_frame.specs.Hands.{once, AreIn, SameOwn, HasRoom}
-use Rattle.strm_frame.specs.Outboxes.{times_sent}
-use Rattle.strm_frame.proofs.Handing.{once-self, one-parts, one-chains, no-parts, none-chains}
 use Rattle.strm_ldterm.specs.Stands.{ldterm_in, owns, keeps, IsHeld, Paired}
 use Rattle.strm_ldterm.specs.Does.{Proceeds}
 use Rattle.strm_ldterm.specs.Frames.{ldterm-frame}

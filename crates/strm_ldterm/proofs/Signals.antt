@@ -1,23 +1,10 @@
 -- Signal keys, step by step.
-use Rattle.std.proofs.Common.{ℕ, ◌≡◌, ◌+◌, Bool, true, false, cond, List, [], ◌∷◌, ◌++◌, refl, sym, subst, arith, append-nil}
-use Rattle.std.specs.Prelude.{None}
-use Rattle.strm_types.specs.declared.kinds.MsgKind.TheVariants.{Flush, Pcsig}
-use Rattle.strm_types.specs.declared.names.Way.TheVariants.{Up}
-use Rattle.strm_types.specs.declared.rules.Fates.{Fates}
-use Rattle.strm_types.specs.declared.flushing.FlushAsked.{FlushAsked}
-use Rattle.strm_types.specs.declared.rules.Rule.TheVariants.{Flushed, SignalKey}
-use Rattle.strm_types.specs.declared.spots.Spot.{Spot}
-use Rattle.strm_types.specs.Cells.{plain}
-use Rattle.strm_types.specs.Deliver.{Acted, onward}
-use Rattle.strm_types.specs.Flush.{is_data_kind}
-use Rattle.strm_types.specs.Flushing.{flush_message, flush_bytes}
+use Rattle.strm_ldterm.proofs.Prelude.{ℕ, ◌≡◌, ◌+◌, Bool, true, false, cond, List, [], ◌∷◌, ◌++◌, refl, sym, subst, arith, append-nil, None}
+use Rattle.strm_ldterm.specs.Prelude.{Pcsig, Up, Fates, FlushAsked, Flushed, SignalKey, Spot, plain, Acted, onward, is_data_kind, flush_message}
+use Rattle.strm_ldterm.specs.Prelude.{flush_bytes, sends, both, line_flushed, lost, bare, gathered_up, signals, noflsh, StoreValue, IsStore, Sent}
+use Rattle.strm_ldterm.specs.Prelude.{AreIn, HasRoom}
+use Rattle.strm_types.specs.declared.kinds.MsgKind.TheVariants.{Flush}
 use Rattle.strm_types.specs.Ldterms as ldterms
-use Rattle.strm_types.specs.Ldterms.{sends, both, line_flushed}
-use Rattle.strm_types.specs.Typing.{lost, bare, gathered_up, signals}
-use Rattle.strm_types.specs.Termios.{noflsh}
-use Rattle.strm_blocks.specs.Blocks.{StoreValue, IsStore}
-use Rattle.strm_frame.specs.declared.parcels.Sent.{Sent}
-use Rattle.strm_frame.specs.Hands.{AreIn, HasRoom}
 use Rattle.strm_ldterm.specs.Does.{Flushes, Proceeds}
 use Rattle.strm_ldterm.specs.Stands.{ldterm_in, keeps, Paired}
 use Rattle.strm_ldterm.proofs.Proceeding.{proceeds-alters, proceeds-kept, proceeds-both}

@@ -1,23 +1,20 @@
 -- Blocks and bytes that leave the front of a message of data in hand.
-use Rattle.std.proofs.lemmas.Bool.{cases_eq}
-use Rattle.std.proofs.Common.{inl, inr, ℕ, ◌≡◌, ◌≢◌, ◌≤◌, ◌<◌, ◌+◌, false, cond, eqb, List, [], ◌∷◌, ◌++◌, length, take, drop, refl, sym, ap, subst, ◌∙◌, arith, append_assoc, take-append-drop}
-use Rattle.std.specs.Prelude.{slice_index_or}
+use Rattle.strm_ldterm.proofs.Prelude.{cases_eq, inl, inr, ℕ, ◌≡◌, ◌≢◌, ◌≤◌, ◌<◌, ◌+◌, false, cond, eqb, List, [], ◌∷◌, ◌++◌, length, take, drop}
+use Rattle.strm_ldterm.proofs.Prelude.{refl, sym, ap, subst, ◌∙◌, arith, append_assoc, take-append-drop, slice_index_or, sum_by-cons, total-held}
+use Rattle.strm_ldterm.proofs.Prelude.{total-dropped, total-changed, used-is, references-is, free_m-is, free_d-more, in_hand-changed}
+use Rattle.strm_ldterm.proofs.Prelude.{in_hand-changed_other, data_in, data-shown, data-all, data-control, data_in-cells, held-changed, stays-chain}
+use Rattle.strm_ldterm.proofs.Prelude.{times-replaced, once-self, once-apart}
+use Rattle.strm_ldterm.specs.Prelude.{left_of, Message, cells_of, is_high_priority, Block, Held, StoreValue, IsStore, IsFreshName, IsInHand, in_hand}
+use Rattle.strm_ldterm.specs.Prelude.{block_at, held, dropped, changed, banded, with_block, times_in, names_of, bytes_of, message_of, IsChain}
+use Rattle.strm_ldterm.specs.Prelude.{AreData, once, CanPut, Shifts, message_in}
 use Rattle.std.proofs.Math.Seq.{drop-append_seam}
-use Rattle.std.proofs.lemmas.List.Sums.{sum_by-cons}
 use Rattle.strm_types.specs.declared.kinds.MsgKind.TheVariants as kinds
-use Rattle.strm_types.specs.Input.{left_of}
-use Rattle.strm_types.specs.Message.{Message, cells_of, is_high_priority}
-use Rattle.strm_blocks.specs.Blocks.{Block, Held, StoreValue, IsStore, IsFreshName, IsInHand, in_hand, block_at, held, dropped, changed, banded, trimmed_head, with_block, without, times_in, names_of}
+use Rattle.strm_blocks.specs.Blocks.{trimmed_head, without}
 use Rattle.strm_blocks.specs.Outcomes.{Unlinked}
-use Rattle.strm_blocks.proofs.Laws.{total-held, total-dropped, total-changed, used-is, references-is, free_m-is, free_d-more, IsInHand-held_other, IsInHand-changed, in_hand-changed, in_hand-changed_other}
-use Rattle.strm_msg.specs.Bytes.{bytes_of}
-use Rattle.strm_msg.specs.Messages.{message_of, IsChain, AreData}
-use Rattle.strm_msg.proofs.Chains.{data_in, data-shown, data-all, data-control, data_in-cells}
-use Rattle.strm_msg.proofs.Hands.{other-name, held-is, held-chain, held-changed, stays-chain, dropped-changed, times-replaced}
+use Rattle.strm_blocks.proofs.Laws.{IsInHand-held_other, IsInHand-changed}
+use Rattle.strm_msg.proofs.Hands.{other-name, held-is, held-chain, dropped-changed}
 use Rattle.strm_msg.proofs.InHand.{fresh-dropped}
-use Rattle.strm_frame.specs.Hands.{once, CanPut, Shifts}
-use Rattle.strm_frame.specs.Outboxes.{message_in}
-use Rattle.strm_frame.proofs.Handing.{freed-hands, once-self, once-apart}
+use Rattle.strm_frame.proofs.Handing.{freed-hands}
 use Rattle.strm_ldterm.specs.Becoming.{Becomes, IsFronted}
 use Rattle.strm_ldterm.specs.Stands.{IsData}
 

@@ -1,29 +1,14 @@
 -- What is free behind a call of ldterm's service procedure: enough for what it has sent, and for the rest of a byte where it is called again.
-use Rattle.std.proofs.Common.{ℕ, ◌≡◌, ◌≤◌, ◌+◌, ◌-◌, ◌*◌, Bool, true, false, cond, List, [], ◌∷◌, map, refl, sym, ap, subst, ◌∙◌, arith}
-use Rattle.std.proofs.lemmas.Bool.{false≢true}
-use Rattle.std.specs.Prelude.{◌&&◌, not, length, take, Option, None, Some, is_some, unwrap_or}
-use Rattle.strm_types.specs.declared.kinds.MsgKind.{MsgKind}
+use Rattle.strm_ldterm.proofs.Prelude.{ℕ, ◌≡◌, ◌≤◌, ◌+◌, ◌-◌, ◌*◌, Bool, true, false, cond, List, [], ◌∷◌, map, refl, sym, ap, subst, ◌∙◌, arith}
+use Rattle.strm_ldterm.proofs.Prelude.{false≢true, ◌&&◌, not, Option, None, Some, is_some, unwrap_or, most-few, none-few, one-few}
+use Rattle.strm_ldterm.specs.Prelude.{MsgKind, Way, Up, Down, Spot, plain, cost_of, most, Parcel, toward, onward, input_begins, is_data, passes}
+use Rattle.strm_ldterm.specs.Prelude.{stages_done, to_treat, treats, ldterm_serves, Answered, Begun, Between, Discipline, Stage, by_itself, Message}
+use Rattle.strm_ldterm.specs.Prelude.{cells_of, posts, output_dir, output_serves, posted, unchanged, with_given, is_none_left, left_with, Serving}
+use Rattle.strm_ldterm.specs.Prelude.{opost, shape_of, StoreValue, FreesBlocks, HasRoom}
+use Rattle.std.specs.Prelude.{length, take}
 use Rattle.strm_types.specs.declared.kinds.MsgKind.TheVariants as kinds
-use Rattle.strm_types.specs.declared.names.Way.{Way}
-use Rattle.strm_types.specs.declared.names.Way.TheVariants.{Up, Down}
-use Rattle.strm_types.specs.declared.spots.Spot.{Spot}
-use Rattle.strm_types.specs.Cells.{plain}
-use Rattle.strm_types.specs.Budgets.{cost_of, most, most_on}
-use Rattle.strm_types.specs.Deliver.{Parcel, toward, onward}
-use Rattle.strm_types.specs.Input.{input_begins, is_data, passes, stages_done, to_treat, treats}
-use Rattle.strm_types.specs.LdtermServes.{ldterm_serves}
-use Rattle.strm_types.specs.Ldterms.{Answered, Begun, Between, Discipline, Stage, by_itself}
-use Rattle.strm_types.specs.Message.{Message, cells_of}
-use Rattle.strm_types.specs.Output.{posts}
-use Rattle.strm_types.specs.OutputTurns.{output_dir, output_serves, posted, unchanged, with_given}
-use Rattle.strm_types.specs.Queue.{is_none_left, left_with}
-use Rattle.strm_types.specs.Service.{Serving}
-use Rattle.strm_types.specs.Termios.{opost}
-use Rattle.strm_types.specs.Shapes.{shape_by, shape_of}
-use Rattle.strm_types.proofs.CostsOf.{most-few, none-few, one-few}
-use Rattle.strm_blocks.specs.Blocks.{StoreValue}
-use Rattle.strm_queue.specs.Stored.{FreesBlocks}
-use Rattle.strm_frame.specs.Hands.{HasRoom}
+use Rattle.strm_types.specs.Budgets.{most_on}
+use Rattle.strm_types.specs.Shapes.{shape_by}
 use Rattle.strm_frame.specs.Serves.{later_cost}
 use Rattle.strm_ldterm.specs.Bounds.{goes_out, passes_whole, turn_cost}
 use Rattle.strm_ldterm.specs.Turns.{leaves, needs}

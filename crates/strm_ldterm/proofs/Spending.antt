@@ -1,23 +1,12 @@
 -- What a call of ldterm's service procedure sends takes no more blocks than are left beside the rest of the byte.
-use Rattle.std.proofs.Common.{ℕ, zero, suc, ◌≡◌, ◌≤◌, ◌+◌, ◌-◌, ◌*◌, Bool, true, false, cond, List, [], ◌∷◌, ◌++◌, refl, sym, ap, ◌∙◌, arith}
-use Rattle.std.proofs.lemmas.Bool.{false≢true}
-use Rattle.std.specs.Prelude.{◌&&◌, Option, None, Some, is_some, option_map}
+use Rattle.strm_ldterm.proofs.Prelude.{ℕ, zero, suc, ◌≡◌, ◌≤◌, ◌+◌, ◌-◌, ◌*◌, Bool, true, false, cond, List, [], ◌∷◌, ◌++◌, refl, sym, ap, ◌∙◌, arith}
+use Rattle.strm_ldterm.proofs.Prelude.{false≢true, ◌&&◌, Option, None, Some, is_some, option_map, most-few, none-few, one-few, strikes-stay}
+use Rattle.strm_ldterm.specs.Prelude.{Way, Up, Down, Spot, cells_made, plain, cost_of, most, shape_of, Acted, Parcel, toward, onward, begins_next}
+use Rattle.strm_ldterm.specs.Prelude.{cells_left, left_of, made_of, next_stage, stage_at, stages, with_left, restarts, Discipline, Stage, Between}
+use Rattle.strm_ldterm.specs.Prelude.{Begun, Answered, sends, Message, data_message, is_full, is_none_left, bare, echo_dir, echoed, echo_grows}
+use Rattle.strm_ldterm.specs.Prelude.{echo_lost, echo_stands, gathered_up, is_lnext, stroke_at, struck}
 use Rattle.strm_types.specs.declared.kinds.MsgKind.TheVariants as kinds
-use Rattle.strm_types.specs.declared.names.Way.{Way}
-use Rattle.strm_types.specs.declared.names.Way.TheVariants.{Up, Down}
-use Rattle.strm_types.specs.declared.spots.Spot.{Spot}
-use Rattle.strm_types.specs.Cells.{cells_made, plain}
-use Rattle.strm_types.specs.Budgets.{cost_of, most}
-use Rattle.strm_types.specs.Shapes.{shape_of}
-use Rattle.strm_types.specs.Deliver.{Acted, Parcel, toward, onward}
-use Rattle.strm_types.specs.Input.{begins_next, cells_left, left_of, made_of, next_stage, stage_at, stages, with_left}
-use Rattle.strm_types.specs.Keys.{restarts}
-use Rattle.strm_types.specs.Ldterms.{Discipline, Stage, Between, Begun, Answered, sends}
-use Rattle.strm_types.specs.Message.{Message, data_message}
-use Rattle.strm_types.specs.Queue.{is_full, is_none_left}
-use Rattle.strm_types.specs.Typing.{bare, echo_dir, echoed, echo_grows, echo_lost, echo_stands, gathered_up, is_lnext, stroke_at, struck}
-use Rattle.strm_types.proofs.CostsOf.{more-few, most-few, none-few, one-few}
-use Rattle.strm_types.proofs.StrikesStay.{strikes-stay}
+use Rattle.strm_types.proofs.CostsOf.{more-few}
 use Rattle.strm_ldterm.specs.Turns.{leaves, needs}
 use Rattle.strm_ldterm.proofs.Onward.{struck-sends}
 

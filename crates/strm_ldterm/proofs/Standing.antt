@@ -1,24 +1,11 @@
 -- The module where it stands, in the frame's words: with the queues that its stream gives it.
-use Rattle.std.proofs.Common.{ℕ, ◌≡◌, true, sym, ap, subst}
-use Rattle.std.specs.Prelude.{Bool, Option, None, Some}
-use Rattle.strm_types.specs.declared.rules.Fates.{Fates}
-use Rattle.strm_types.specs.declared.spots.Spot.{Spot}
-use Rattle.strm_types.specs.Budgets.{own_at}
-use Rattle.strm_types.specs.Cells.{plain}
-use Rattle.strm_types.specs.LdtermPuts.{ldterm_puts}
-use Rattle.strm_types.specs.LdtermCalls.{Ends}
-use Rattle.strm_types.specs.LdtermStands.{as_stands, discipline_at, puts_there, serves_there}
-use Rattle.strm_types.specs.Message.{is_held}
+use Rattle.strm_ldterm.proofs.Prelude.{ℕ, ◌≡◌, true, sym, ap, subst, Option, None, Some}
+use Rattle.strm_ldterm.specs.Prelude.{Fates, Spot, own_at, plain, ldterm_puts, Ends, as_stands, is_held, ldterm_does, StoreValue, FreesNone, Acts}
+use Rattle.strm_ldterm.specs.Prelude.{QueuePair, Served, message_in, stop_of}
+use Rattle.std.specs.Prelude.{Bool}
+use Rattle.strm_types.specs.LdtermStands.{discipline_at, puts_there, serves_there}
 use Rattle.strm_types.specs.Standings.{of_part}
-use Rattle.strm_types.specs.Tables.{ldterm_does}
-use Rattle.strm_blocks.specs.Blocks.{StoreValue}
-use Rattle.strm_queue.specs.Stored.{FreesNone}
-use Rattle.strm_frame.specs.declared.modules.Acts.{Acts}
-use Rattle.strm_frame.specs.declared.queue_pair.QueuePair.{QueuePair}
-use Rattle.strm_frame.specs.declared.service.Served.{Served}
 use Rattle.strm_frame.specs.Does as frame
-use Rattle.strm_frame.specs.Outboxes.{message_in}
-use Rattle.strm_frame.specs.Serves.{stop_of}
 use Rattle.strm_frame.specs.Standings.{Fits, keeps_of, owns, standing, standing_in}
 use Rattle.strm_ldterm.specs.declared.ldterm.Ldterm.{Ldterm}
 use Rattle.strm_ldterm.specs.Bounds.{turn_cost}

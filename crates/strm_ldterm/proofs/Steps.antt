@@ -1,28 +1,12 @@
 -- Puts at the module, step by step.
-use Rattle.std.proofs.Common.{ℕ, ◌≡◌, ◌<◌, Bool, true, false, cond, List, [], ◌∷◌, refl, sym, ap, subst, ◌∙◌, arith}
-use Rattle.std.specs.Prelude.{◌&&◌, nat_lt}
-use Rattle.std.proofs.lemmas.Bool.{and_parts}
-use Rattle.std.proofs.lemmas.Bool.Decides.{nat_tests}
-use Rattle.strm_types.specs.declared.names.Way.TheVariants.{Up, Down}
-use Rattle.strm_types.specs.declared.rules.Fates.{Fates}
-use Rattle.strm_types.specs.declared.spots.Note.{Note}
-use Rattle.strm_types.specs.declared.spots.Note.TheVariants.{Enable}
-use Rattle.strm_types.specs.Deliver.{Acted, toward, onward}
+use Rattle.strm_ldterm.proofs.Prelude.{ℕ, ◌≡◌, ◌<◌, Bool, true, false, cond, List, [], ◌∷◌, refl, sym, ap, subst, ◌∙◌, arith, ◌&&◌, nat_lt, and_parts}
+use Rattle.strm_ldterm.proofs.Prelude.{nat_tests, once-self, no-parts, none-chains, one-parts, one-chains, shifts-joined}
+use Rattle.strm_ldterm.specs.Prelude.{Up, Down, Fates, Note, Enable, Acted, toward, onward, queued_at, sends, Message, is_high_priority, rank_of}
+use Rattle.strm_ldterm.specs.Prelude.{StoreValue, IsStore, in_hand, dropped, token, Queue, queue_in, messages_on, Changes, FreesBlocks, Acts, once}
+use Rattle.strm_ldterm.specs.Prelude.{CanPut, Hands, message_in, sent_of, Sent, IsChain, Spot}
 use Rattle.strm_types.specs.Ldterms as ldterms
-use Rattle.strm_types.specs.Ldterms.{queued_at, sends}
-use Rattle.strm_types.specs.Message.{Message, is_high_priority, rank_of}
 use Rattle.strm_types.specs.Queue as plain
-use Rattle.strm_blocks.specs.Blocks.{StoreValue, IsStore, in_hand, dropped, token}
-use Rattle.strm_queue.specs.declared.queue.Queue.{Queue}
-use Rattle.strm_queue.specs.Stored.{queue_in, messages_on, Changes, FreesBlocks}
-use Rattle.strm_frame.specs.declared.modules.Acts.{Acts}
-use Rattle.strm_frame.specs.Hands.{once, CanPut, Hands}
-use Rattle.strm_frame.specs.Outboxes.{message_in, sent_of}
-use Rattle.strm_frame.proofs.Handing.{once-self, none-hands, no-parts, none-chains, one-parts, one-chains, one-hands}
-use Rattle.strm_frame.specs.declared.parcels.Sent.{Sent}
-use Rattle.strm_msg.specs.Messages.{IsChain}
-use Rattle.strm_types.specs.declared.spots.Spot.{Spot}
-use Rattle.strm_frame.proofs.Shifting.{shifts-joined}
+use Rattle.strm_frame.proofs.Handing.{none-hands, one-hands}
 use Rattle.strm_ldterm.specs.Stands.{ldterm_in, keeps, EndsPlain, IsHeld, Paired}
 use Rattle.strm_ldterm.specs.Does.{Alters, Does}
 use Rattle.strm_ldterm.specs.Frames.{ldterm-frame}

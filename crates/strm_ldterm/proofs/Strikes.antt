@@ -1,17 +1,9 @@
 -- Keys that send nothing, step by step.
-use Rattle.std.proofs.Common.{ℕ, ◌≡◌, true, false, List, [], ◌∷◌, ◌++◌, refl, ap, ◌∙◌, arith}
-use Rattle.strm_types.specs.declared.rules.Fates.{Fates}
-use Rattle.strm_types.specs.declared.spots.Spot.{Spot}
-use Rattle.strm_types.specs.Cells.{plain}
-use Rattle.strm_types.specs.Deliver.{Acted, Fate, counted_with, tallied}
+use Rattle.strm_ldterm.proofs.Prelude.{ℕ, ◌≡◌, true, false, List, [], ◌∷◌, ◌++◌, refl, ap, ◌∙◌, arith}
+use Rattle.strm_ldterm.specs.Prelude.{Fates, Spot, plain, Acted, Fate, counted_with, tallied, sends, edited, has_room, is_blank, Types, icanon}
+use Rattle.strm_ldterm.specs.Prelude.{imaxbel, LineFull, LineOver, added, lost, StoreValue, times_sent, parcels_in, AreChains}
 use Rattle.strm_types.specs.Ldterms as ldterms
-use Rattle.strm_types.specs.Ldterms.{sends}
-use Rattle.strm_types.specs.Lines.{edited, has_room, is_blank, Types}
-use Rattle.strm_types.specs.Termios.{icanon, imaxbel}
-use Rattle.strm_types.specs.declared.rules.Rule.TheVariants.{LineFull, LineOver}
-use Rattle.strm_types.specs.Typing.{added, dropped, lost}
-use Rattle.strm_blocks.specs.Blocks.{StoreValue}
-use Rattle.strm_frame.specs.Outboxes.{times_sent, parcels_in, AreChains}
+use Rattle.strm_types.specs.Typing.{dropped}
 use Rattle.strm_ldterm.specs.Stands.{ldterm_in, IsHeld, Paired}
 use Rattle.strm_ldterm.specs.Does.{Proceeds}
 

@@ -1,29 +1,15 @@
 -- A key that has begun, and its echo.
-use Rattle.std.proofs.Common.{ℕ, ◌≡◌, ◌≤◌, ◌+◌, Bool, true, false, cond, List, [], ◌∷◌, ◌++◌, length, refl, sym, ap, subst, ◌∙◌, arith}
-use Rattle.strm_types.specs.declared.keys.Key.{Key}
-use Rattle.strm_types.specs.declared.keys.Key.TheVariants.{Stop, Start, Intr, Quit, Susp, Ignored, Eof, Erase, Kill, Werase, Reprint, Lnext, Delimiter, Ordinary}
-use Rattle.strm_types.specs.declared.keys.Stroke.{Stroke}
-use Rattle.strm_types.specs.declared.rules.Fates.{Fates}
-use Rattle.std.proofs.lemmas.Bool.{false≢true}
-use Rattle.std.specs.Prelude.{not, ◌&&◌, IsTrue, ◌↔◌, is_some}
+use Rattle.strm_ldterm.proofs.Prelude.{ℕ, ◌≡◌, ◌≤◌, ◌+◌, Bool, true, false, cond, List, [], ◌∷◌, ◌++◌, length, refl, sym, ap, subst, ◌∙◌, arith}
+use Rattle.strm_ldterm.proofs.Prelude.{false≢true, not, ◌&&◌, is_some, strikes-stay}
+use Rattle.strm_ldterm.specs.Prelude.{Key, Stop, Start, Intr, Quit, Susp, Ignored, Eof, Erase, Kill, Werase, Reprint, Lnext, Delimiter, Ordinary}
+use Rattle.strm_ldterm.specs.Prelude.{Stroke, Fates, Down, Note, Enable, Spot, plain, cells_made, echo_of, next_stage, stage_at, Between, Begun}
+use Rattle.strm_ldterm.specs.Prelude.{Answered, data_message, is_none_left, is_full, put_enables, echo_dir, echo_grows, echo_lost, echo_stands}
+use Rattle.strm_ldterm.specs.Prelude.{echoed, is_lnext, strikes, struck, stroke_at, wakes, chunk_count, StoreValue, IsStore, Sent}
+use Rattle.std.specs.Prelude.{IsTrue, ◌↔◌}
 use Rattle.arrayvec.specs.ArrayVec.{ArrayVec}
-use Rattle.strm_types.specs.declared.names.Way.TheVariants.{Down}
-use Rattle.strm_types.specs.declared.spots.Note.{Note}
-use Rattle.strm_types.specs.declared.spots.Note.TheVariants.{Enable}
-use Rattle.strm_types.specs.declared.spots.Spot.{Spot}
-use Rattle.strm_types.specs.Cells.{plain, bytes_of, cells_made}
-use Rattle.strm_types.specs.Echo.{echo_of}
-use Rattle.strm_types.specs.Input.{next_stage, stage_at}
+use Rattle.strm_types.specs.Cells.{bytes_of}
 use Rattle.strm_types.specs.Ldterms as ldterms
-use Rattle.strm_types.specs.Ldterms.{Between, Begun, Answered}
-use Rattle.strm_types.specs.Message.{data_message}
-use Rattle.strm_types.specs.Queue.{is_none_left, is_full, put_enables}
-use Rattle.strm_types.specs.Typing.{echo_dir, echo_grows, echo_lost, echo_stands, echoed, is_lnext, strikes, struck, stroke_at, wakes}
-use Rattle.strm_types.specs.Write.{chunk_count}
 use Rattle.strm_types.proofs.PlainCells.{bytes-plain}
-use Rattle.strm_types.proofs.StrikesStay.{strikes-stay}
-use Rattle.strm_blocks.specs.Blocks.{StoreValue, IsStore}
-use Rattle.strm_frame.specs.declared.parcels.Sent.{Sent}
 use Rattle.strm_ldterm.specs.declared.echoes.TheConstants.{ECHO_MAX}
 use Rattle.strm_ldterm.specs.declared.ldterm.Stage.{Stage}
 use Rattle.strm_ldterm.specs.declared.ldterm.Stage.TheVariants as stages

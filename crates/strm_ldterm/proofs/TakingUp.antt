@@ -1,31 +1,17 @@
 -- An answer that is taken up, step by step, on a store.
-use Rattle.std.proofs.Common.{ℕ, ◌≡◌, ◌≤◌, ◌+◌, ◌==◌, Bool, true, false, cond, List, [], ◌∷◌, ◌++◌, length, refl, sym, ap, subst, ◌∙◌, arith, append-nil}
+use Rattle.strm_ldterm.proofs.Prelude.{ℕ, ◌≡◌, ◌≤◌, ◌+◌, Bool, true, false, cond, List, [], ◌∷◌, ◌++◌, length, refl, sym, ap, subst, ◌∙◌, arith}
+use Rattle.strm_ldterm.proofs.Prelude.{append-nil, None, once-self, one-chains, one-parts}
+use Rattle.strm_ldterm.specs.Prelude.{TCSETSF, Setopts, Up, Fates, Note, Spot, Termios, Acted, Parcel, toward, onward, is_data_kind, flush_message}
+use Rattle.strm_ldterm.specs.Prelude.{both, read_flushed, sends, data_message, ends_lines, line_up, read_mode_of, up_alone, StoreValue, IsStore}
+use Rattle.strm_ldterm.specs.Prelude.{in_hand, token, message_of, IsChain, Acts, Sent, AreIn, CanPut, HasRoom, message_in, sent_of, times_sent}
+use Rattle.strm_ldterm.specs.Prelude.{parcels_in, AreChains}
+use Rattle.std.proofs.Common.{◌==◌}
 use Rattle.std.proofs.lemmas.List.{append_assoc}
-use Rattle.std.specs.Prelude.{None}
-use Rattle.strm_types.specs.declared.ioctls.TheConstants.{TCSETSF}
-use Rattle.strm_types.specs.declared.kinds.MsgKind.TheVariants.{Setopts}
-use Rattle.strm_types.specs.declared.names.Way.TheVariants.{Up}
-use Rattle.strm_types.specs.declared.rules.Fates.{Fates}
-use Rattle.strm_types.specs.declared.spots.Note.{Note}
-use Rattle.strm_types.specs.declared.spots.Spot.{Spot}
-use Rattle.strm_types.specs.declared.termios.Termios.{Termios}
-use Rattle.strm_types.specs.Deliver.{Acted, Parcel, toward, onward}
-use Rattle.strm_types.specs.Flush.{is_data_kind}
-use Rattle.strm_types.specs.Flushing.{flush_message, read_flush}
+use Rattle.strm_types.specs.Flushing.{read_flush}
 use Rattle.strm_types.specs.Ldterms as ldterms
-use Rattle.strm_types.specs.Ldterms.{both, read_flushed, sends}
-use Rattle.strm_types.specs.Message.{data_message}
 use Rattle.strm_types.specs.Options.{mode_message}
-use Rattle.strm_types.specs.TakenUp.{ends_lines, input_flushed, line_up, read_mode_of, taken_up}
-use Rattle.strm_types.specs.Typing.{up_alone}
+use Rattle.strm_types.specs.TakenUp.{input_flushed, taken_up}
 use Rattle.strm_types.specs.Termios.{tostop}
-use Rattle.strm_blocks.specs.Blocks.{StoreValue, IsStore, in_hand, token}
-use Rattle.strm_msg.specs.Messages.{message_of, IsChain}
-use Rattle.strm_frame.specs.declared.modules.Acts.{Acts}
-use Rattle.strm_frame.specs.declared.parcels.Sent.{Sent}
-use Rattle.strm_frame.specs.Hands.{AreIn, CanPut, HasRoom}
-use Rattle.strm_frame.specs.Outboxes.{message_in, sent_of, times_sent, parcels_in, AreChains}
-use Rattle.strm_frame.proofs.Handing.{once-self, one-chains, one-parts}
 use Rattle.strm_ldterm.specs.Stands.{ldterm_in, keeps, IsHeld, Paired}
 use Rattle.strm_ldterm.specs.Does.{Does, Flushes, Proceeds, Puts}
 use Rattle.strm_ldterm.specs.TakingUp.{flush_takes, line_takes, termios_set}

@@ -1,29 +1,10 @@
 -- Calls of the service procedure, by the way of their queue.
-use Rattle.std.proofs.Common.{ℕ, ◌≡◌, ◌≤◌, ◌+◌, Bool, true, false, [], length, refl, sym, ap, subst, ◌∙◌, arith}
-use Rattle.std.proofs.lemmas.Bool.{false≢true}
-use Rattle.std.specs.Prelude.{Option, None, Some, is_some, not, unwrap_or}
-use Rattle.strm_types.specs.declared.names.Way.{Way}
-use Rattle.strm_types.specs.declared.names.Way.TheVariants.{Up, Down}
-use Rattle.strm_types.specs.declared.rules.Fates.{Fates}
-use Rattle.strm_types.specs.declared.spots.Spot.{Spot}
-use Rattle.strm_types.specs.Cells.{plain}
-use Rattle.strm_types.specs.Deliver.{Acted}
-use Rattle.strm_types.specs.Input.{cells_left, input_begins, is_data, to_treat, treats}
-use Rattle.strm_types.specs.LdtermServes.{ldterm_serves}
+use Rattle.strm_ldterm.proofs.Prelude.{ℕ, ◌≡◌, ◌≤◌, ◌+◌, Bool, true, false, [], length, refl, sym, ap, subst, ◌∙◌, arith, false≢true, Option, None}
+use Rattle.strm_ldterm.proofs.Prelude.{Some, is_some, not, unwrap_or}
+use Rattle.strm_ldterm.specs.Prelude.{Way, Up, Down, Fates, Spot, plain, Acted, cells_left, input_begins, is_data, to_treat, treats, ldterm_serves}
+use Rattle.strm_ldterm.specs.Prelude.{Between, Begun, Answered, Message, cells_of, size_of, left_with, output_serves, Serving, bytes_left, first_size}
+use Rattle.strm_ldterm.specs.Prelude.{StoreValue, IsStore, Outbox, Served, sent_of, HasRoom, stop_at, stop_of}
 use Rattle.strm_types.specs.Ldterms as ldterms
-use Rattle.strm_types.specs.Ldterms.{Between, Begun, Answered}
-use Rattle.strm_types.specs.Message.{Message, cells_of, size_of}
-use Rattle.strm_types.specs.Queue.{left_with}
-use Rattle.strm_types.specs.OutputTurns.{output_serves}
-use Rattle.strm_types.specs.Service.{Serving}
-use Rattle.strm_types.specs.LdtermCalls.{bytes_left}
-use Rattle.strm_types.specs.Queue.{first_size}
-use Rattle.strm_blocks.specs.Blocks.{StoreValue, IsStore}
-use Rattle.strm_frame.specs.declared.parcels.Outbox.{Outbox}
-use Rattle.strm_frame.specs.declared.service.Served.{Served}
-use Rattle.strm_frame.specs.Outboxes.{sent_of}
-use Rattle.strm_frame.specs.Hands.{HasRoom}
-use Rattle.strm_frame.specs.Serves.{stop_at, stop_of}
 use Rattle.strm_ldterm.specs.Began.{BeganWork}
 use Rattle.strm_ldterm.specs.Bounds.{passes_whole}
 use Rattle.strm_ldterm.specs.Called.{ServesAs, TreatsAs, at_work, bytes_of_way}

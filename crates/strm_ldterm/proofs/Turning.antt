@@ -1,14 +1,8 @@
 -- Stages of a turn on plain bytes, one after the other.
-use Rattle.std.proofs.Common.{ℕ, zero, suc, ◌≡◌, ◌+◌, Bool, true, false, cond, List, [], ◌∷◌, ◌++◌, refl, sym, ap, ◌∙◌, arith, append-nil, append_assoc}
-use Rattle.std.proofs.lemmas.Bool.{false≢true}
-use Rattle.strm_types.specs.declared.names.Dir.{Dir}
-use Rattle.strm_types.specs.declared.spots.Spot.{Spot}
-use Rattle.strm_types.specs.Cells.{plain, cells_made}
-use Rattle.strm_types.specs.Deliver.{Acted}
-use Rattle.strm_types.specs.Input.{next_stage, stage_at, stages, then_on, made_of}
-use Rattle.strm_types.specs.Ldterms.{Discipline, Stage, Between, Begun, Answered, sends}
-use Rattle.strm_types.specs.Queue.{is_none_left, is_full}
-use Rattle.strm_types.specs.Typing.{echoed, echo_dir, echo_grows, echo_lost, echo_stands}
+use Rattle.strm_ldterm.proofs.Prelude.{ℕ, zero, suc, ◌≡◌, ◌+◌, Bool, true, false, cond, List, [], ◌∷◌, ◌++◌, refl, sym, ap, ◌∙◌, arith, append-nil}
+use Rattle.strm_ldterm.proofs.Prelude.{append_assoc, false≢true}
+use Rattle.strm_ldterm.specs.Prelude.{Dir, Spot, plain, cells_made, Acted, next_stage, stage_at, stages, then_on, made_of, Discipline, Stage, Between}
+use Rattle.strm_ldterm.specs.Prelude.{Begun, Answered, sends, is_none_left, is_full, echoed, echo_dir, echo_grows, echo_lost, echo_stands}
 use Rattle.strm_ldterm.specs.Turns.{ahead, one_after}
 
 abbrev pub Acts : Type 0

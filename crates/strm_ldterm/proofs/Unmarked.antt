@@ -1,14 +1,9 @@
 -- A byte that isn't marked is plain, and each byte in raw mode.
-use Rattle.std.proofs.Common.{ℕ, ◌≡◌, ◌≤◌, ◌<◌, ◌+◌, ◌%◌, Bool, true, false, cond, List, get_or, length, refl, sym, ap, ◌∙◌, arith}
-use Rattle.std.proofs.lemmas.Bool.{and_parts, false≢true}
-use Rattle.std.proofs.lemmas.Bool.Decides.{nat_tests}
+use Rattle.strm_ldterm.proofs.Prelude.{ℕ, ◌≡◌, ◌≤◌, ◌<◌, ◌+◌, ◌%◌, Bool, true, false, cond, List, get_or, length, refl, sym, ap, ◌∙◌, arith}
+use Rattle.strm_ldterm.proofs.Prelude.{and_parts, false≢true, nat_tests, ◌&&◌, ◌||◌, ◌==◌, nat_le, nat_lt, not}
+use Rattle.strm_ldterm.specs.Prelude.{Termios, is_control, carriage_return, lowered, newline, stripped, echo, icanon, isig, istrip, iuclc, ixon}
 use Rattle.std.proofs.lemmas.List.{get_or_past}
 use Rattle.std.specs.List.{list_any}
-use Rattle.std.specs.Prelude.{◌&&◌, ◌||◌, ◌==◌, nat_le, nat_lt, not}
-use Rattle.strm_types.specs.declared.termios.Termios.{Termios}
-use Rattle.strm_types.specs.Echo.{is_control}
-use Rattle.strm_types.specs.Keys.{carriage_return, lowered, newline, stripped}
-use Rattle.strm_types.specs.Termios.{echo, icanon, isig, istrip, iuclc, ixon}
 use Rattle.strm_ldterm.specs.PlainRuns.{has_keys, is_plain, is_raw, turns_ends}
 
 -- it stands outside of what a mode marks

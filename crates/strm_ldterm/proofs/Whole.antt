@@ -1,30 +1,14 @@
 -- What is left of the message in work goes up as it is: as if its bytes were treated one after the other.
-use Rattle.std.proofs.Common.{ℕ, zero, suc, ◌≡◌, ◌≤◌, ◌<◌, ◌+◌, ◌*◌, Bool, true, false, cond, List, [], ◌∷◌, ◌++◌, length, drop, take, refl, sym, ap, subst, ◌∙◌, arith, append-nil, length-append, length-drop, length-take}
-use Rattle.std.proofs.lemmas.Bool.{false≢true}
+use Rattle.strm_ldterm.proofs.Prelude.{ℕ, zero, suc, ◌≡◌, ◌≤◌, ◌<◌, ◌+◌, ◌*◌, Bool, true, false, cond, List, [], ◌∷◌, ◌++◌, length, drop, take, refl}
+use Rattle.strm_ldterm.proofs.Prelude.{sym, ap, subst, ◌∙◌, arith, append-nil, length-append, length-drop, length-take, false≢true, None, Option}
+use Rattle.strm_ldterm.proofs.Prelude.{Some, option_map}
+use Rattle.strm_ldterm.specs.Prelude.{STOP_BLOCKS, Up, Fates, Note, Spot, plain, Parcel, tallied, onward, back_on, cells_left, finished, left_of}
+use Rattle.strm_ldterm.specs.Prelude.{to_treat, treats, Between, sends, Message, data_message, is_none_left, echo, gathered_up, StoreValue, Outbox}
+use Rattle.strm_ldterm.specs.Prelude.{Sent, Served, HasRoom, sent_of}
 use Rattle.std.specs.List.{AllByRecursion}
-use Rattle.std.specs.Prelude.{None, Option, Some, option_map}
 use Rattle.arrayvec.specs.ArrayVec.{ArrayVec}
-use Rattle.strm_types.specs.declared.limits.TheConstants.{STOP_BLOCKS}
-use Rattle.strm_types.specs.declared.names.Way.TheVariants.{Up}
-use Rattle.strm_types.specs.declared.rules.Fates.{Fates}
-use Rattle.strm_types.specs.declared.spots.Note.{Note}
-use Rattle.strm_types.specs.declared.spots.Spot.{Spot}
-use Rattle.strm_types.specs.Cells.{plain}
-use Rattle.strm_types.specs.Deliver.{Parcel, tallied, onward}
-use Rattle.strm_types.specs.Input.{back_on, cells_left, finished, left_of, to_treat, treats}
 use Rattle.strm_types.specs.Ldterms as ldterms
-use Rattle.strm_types.specs.Ldterms.{Between, sends}
-use Rattle.strm_types.specs.Message.{Message, data_message}
 use Rattle.strm_types.specs.Queue as queues
-use Rattle.strm_types.specs.Queue.{is_none_left}
-use Rattle.strm_types.specs.Termios.{echo}
-use Rattle.strm_types.specs.Typing.{gathered_up}
-use Rattle.strm_blocks.specs.Blocks.{StoreValue}
-use Rattle.strm_frame.specs.declared.parcels.Outbox.{Outbox}
-use Rattle.strm_frame.specs.declared.parcels.Sent.{Sent}
-use Rattle.strm_frame.specs.declared.service.Served.{Served}
-use Rattle.strm_frame.specs.Hands.{HasRoom}
-use Rattle.strm_frame.specs.Outboxes.{sent_of}
 use Rattle.strm_ldterm.specs.Called.{TreatsAs}
 use Rattle.strm_ldterm.specs.Does.{Proceeds}
 use Rattle.strm_ldterm.specs.FreeBefore.{all_free, blocks_for, blocks_grown, echo_size}

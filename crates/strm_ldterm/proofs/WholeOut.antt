@@ -1,33 +1,15 @@
 -- The message in work goes down as it is: as if its bytes went out one after the other.
-use Rattle.std.proofs.Common.{ℕ, ◌≡◌, ◌≤◌, ◌<◌, ◌+◌, ◌-◌, Bool, true, false, List, [], ◌∷◌, ◌++◌, length, map, drop, take, refl, sym, ap, subst, ◌∙◌, arith, append-nil, length-append, length-drop, length-take}
+use Rattle.strm_ldterm.proofs.Prelude.{ℕ, ◌≡◌, ◌≤◌, ◌<◌, ◌+◌, ◌-◌, Bool, true, false, List, [], ◌∷◌, ◌++◌, length, map, drop, take, refl, sym, ap}
+use Rattle.strm_ldterm.proofs.Prelude.{subst, ◌∙◌, arith, append-nil, length-append, length-drop, length-take, None, option_map, data_in-cells}
+use Rattle.strm_ldterm.specs.Prelude.{STOP_BLOCKS, Down, COLUMN_MAX, Fates, Note, Spot, plain, Acted, onward, back_on, cells_left, left_of, sends}
+use Rattle.strm_ldterm.specs.Prelude.{Message, cells_of, Output, posts, wrapped, output_dir, with_given, Block, StoreValue, IsStore, block_at}
+use Rattle.strm_ldterm.specs.Prelude.{bytes_of, IsChain, message_of, Outbox, Sent, HasRoom, sent_of}
 use Rattle.std.proofs.Math.Seq.{take-length}
 use Rattle.std.specs.List.{AllByRecursion}
-use Rattle.std.specs.Prelude.{None, option_map}
 use Rattle.arrayvec.specs.ArrayVec.{ArrayVec}
 use Rattle.strm_types.specs.declared.kinds.MsgKind.TheVariants as kinds
-use Rattle.strm_types.specs.declared.limits.TheConstants.{STOP_BLOCKS}
-use Rattle.strm_types.specs.declared.names.Way.TheVariants.{Down}
-use Rattle.strm_types.specs.declared.output.TheConstants.{COLUMN_MAX}
-use Rattle.strm_types.specs.declared.rules.Fates.{Fates}
-use Rattle.strm_types.specs.declared.spots.Note.{Note}
-use Rattle.strm_types.specs.declared.spots.Spot.{Spot}
-use Rattle.strm_types.specs.Cells.{plain}
-use Rattle.strm_types.specs.Deliver.{Acted, onward}
-use Rattle.strm_types.specs.Input.{back_on, cells_left, left_of}
 use Rattle.strm_types.specs.Ldterms as ldterms
-use Rattle.strm_types.specs.Ldterms.{sends}
-use Rattle.strm_types.specs.Message.{Message, cells_of}
-use Rattle.strm_types.specs.Output.{Output, posts, wrapped}
-use Rattle.strm_types.specs.OutputTurns.{output_dir, with_given}
 use Rattle.strm_types.specs.Queue as queues
-use Rattle.strm_blocks.specs.Blocks.{Block, StoreValue, IsStore, block_at}
-use Rattle.strm_msg.specs.Bytes.{bytes_of}
-use Rattle.strm_msg.specs.Messages.{IsChain, message_of}
-use Rattle.strm_msg.proofs.Chains.{data_in-cells}
-use Rattle.strm_frame.specs.declared.parcels.Outbox.{Outbox}
-use Rattle.strm_frame.specs.declared.parcels.Sent.{Sent}
-use Rattle.strm_frame.specs.Hands.{HasRoom}
-use Rattle.strm_frame.specs.Outboxes.{sent_of}
 use Rattle.strm_ldterm.specs.Called.{ServesAs}
 use Rattle.strm_ldterm.specs.Does.{Proceeds}
 use Rattle.strm_ldterm.specs.FreeBefore.{all_free, blocks_for, blocks_grown}

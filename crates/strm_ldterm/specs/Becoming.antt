@@ -1,9 +1,6 @@
 -- A message in hand that another one, or the same one with less of it, has come for.
 use Rattle.std.specs.Prelude.{ℕ, ◌≡◌, ◌<◌, length}
-use Rattle.strm_types.specs.Message.{Message}
-use Rattle.strm_blocks.specs.Blocks.{StoreValue, block_at, in_hand}
-use Rattle.strm_frame.specs.Hands.{once, Shifts}
-use Rattle.strm_frame.specs.Outboxes.{message_in}
+use Rattle.strm_ldterm.specs.Prelude.{Message, StoreValue, block_at, in_hand, once, Shifts, message_in}
 use Rattle.strm_ldterm.specs.Stands.{IsData}
 
 -- The first block of a message in hand has bytes, or it is the only one.

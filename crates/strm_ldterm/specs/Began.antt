@@ -1,19 +1,9 @@
 -- What the beginning of a turn of the read queue did.
 use Rattle.std.specs.Prelude.{ℕ, ◌≡◌, true, false, List, [], ◌∷◌, length, Option, Some, unwrap_or}
 use Rattle.strm_types.specs.declared.kinds.MsgKind.TheVariants as kinds
-use Rattle.strm_types.specs.declared.names.Way.TheVariants.{Up}
-use Rattle.strm_types.specs.declared.rules.Fates.{Fates}
-use Rattle.strm_types.specs.declared.spots.Spot.{Spot}
-use Rattle.strm_types.specs.Cells.{plain}
-use Rattle.strm_types.specs.Input.{input_begins, treats}
-use Rattle.strm_types.specs.Ldterms.{sends}
-use Rattle.strm_types.specs.Message.{Message, cells_of}
-use Rattle.strm_types.specs.Queue.{left_with}
-use Rattle.strm_types.specs.Service.{Serving}
+use Rattle.strm_ldterm.specs.Prelude.{Up, Fates, Spot, plain, input_begins, treats, sends, Message, cells_of, left_with, Serving, StoreValue, Sent}
+use Rattle.strm_ldterm.specs.Prelude.{sent_of}
 use Rattle.strm_types.specs.Ldterms as ldterms
-use Rattle.strm_blocks.specs.Blocks.{StoreValue}
-use Rattle.strm_frame.specs.declared.parcels.Sent.{Sent}
-use Rattle.strm_frame.specs.Outboxes.{sent_of}
 use Rattle.strm_ldterm.specs.declared.turn_starts.InputBegun.{InputBegun}
 use Rattle.strm_ldterm.specs.declared.turn_starts.InputBegun.TheVariants as begun
 use Rattle.strm_ldterm.specs.Bounds.{passes_whole}

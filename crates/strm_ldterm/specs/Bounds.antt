@@ -1,14 +1,6 @@
 -- How many blocks a call of ldterm's service procedure may count on (srv(9E)).
 use Rattle.std.specs.Prelude.{ℕ, Bool, true, false, not, ◌&&◌, List, [], ◌∷◌}
-use Rattle.strm_types.specs.declared.names.Way.{Way}
-use Rattle.strm_types.specs.declared.names.Way.TheVariants.{Up, Down}
-use Rattle.strm_types.specs.declared.spots.Spot.{Spot}
-use Rattle.strm_types.specs.declared.termios.Termios.{Termios}
-use Rattle.strm_types.specs.Input.{is_data}
-use Rattle.strm_types.specs.Ldterms.{Discipline, Ldterm}
-use Rattle.strm_types.specs.Message.{Message, cells_of}
-use Rattle.strm_types.specs.Queue.{is_none_left}
-use Rattle.strm_types.specs.Termios.{opost}
+use Rattle.strm_ldterm.specs.Prelude.{Way, Up, Down, Spot, Termios, is_data, Discipline, Ldterm, Message, cells_of, is_none_left, opost}
 use Rattle.strm_ldterm.specs.Turns.{needs}
 
 -- whether a message goes out byte by byte on the write queue: M_DATA with bytes, under OPOST

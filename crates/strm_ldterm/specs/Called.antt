@@ -1,27 +1,9 @@
 -- What a call of the service procedure of the read queue did.
 use Rattle.std.specs.Prelude.{ℕ, ◌≡◌, ◌<◌, ◌≤◌, ◌+◌, ◌-◌, ◌*◌, Bool, true, false, if◌then◌else◌, [], ◌∷◌, List, Option, Some, unwrap_or}
-use Rattle.strm_types.specs.declared.limits.TheConstants.{STOP_BLOCKS}
-use Rattle.strm_types.specs.declared.names.Way.{Way}
-use Rattle.strm_types.specs.declared.names.Way.TheVariants.{Up, Down}
-use Rattle.strm_types.specs.declared.rules.Fates.{Fates}
-use Rattle.strm_types.specs.declared.spots.Note.{Note}
-use Rattle.strm_types.specs.declared.spots.Spot.{Spot}
-use Rattle.strm_types.specs.Cells.{plain}
-use Rattle.strm_types.specs.Deliver.{Acted}
-use Rattle.strm_types.specs.Input.{stages_done, to_treat, treats}
-use Rattle.strm_types.specs.LdtermServes.{ldterm_serves}
+use Rattle.strm_ldterm.specs.Prelude.{STOP_BLOCKS, Way, Up, Down, Fates, Note, Spot, plain, Acted, stages_done, to_treat, treats, ldterm_serves}
+use Rattle.strm_ldterm.specs.Prelude.{Message, is_none_left, left_with, Serving, Ends, StoreValue, FreesBlocks, Sent, Served, HasRoom, sent_of}
+use Rattle.strm_ldterm.specs.Prelude.{least_free, stop_of}
 use Rattle.strm_types.specs.Ldterms as ldterms
-use Rattle.strm_types.specs.Message.{Message}
-use Rattle.strm_types.specs.Queue.{is_none_left, left_with}
-use Rattle.strm_types.specs.Service.{Serving}
-use Rattle.strm_types.specs.LdtermCalls.{Ends}
-use Rattle.strm_blocks.specs.Blocks.{StoreValue}
-use Rattle.strm_queue.specs.Stored.{FreesBlocks}
-use Rattle.strm_frame.specs.declared.parcels.Sent.{Sent}
-use Rattle.strm_frame.specs.declared.service.Served.{Served}
-use Rattle.strm_frame.specs.Hands.{HasRoom}
-use Rattle.strm_frame.specs.Outboxes.{sent_of}
-use Rattle.strm_frame.specs.Serves.{least_free, stop_of}
 use Rattle.strm_ldterm.specs.declared.service_calls.Run.{Run}
 use Rattle.strm_ldterm.specs.declared.service_calls.Run.TheVariants as run
 use Rattle.strm_ldterm.specs.Bounds.{passes_whole}

@@ -1,15 +1,9 @@
 -- What a put at the module ldterm, or a stage of its turn, did to a store, the module beside it and what has gone.
 use Rattle.std.specs.Prelude.{ℕ, ◌≡◌, ◌≤◌, ◌+◌, List}
-use Rattle.strm_types.specs.declared.rules.Fates.{Fates}
-use Rattle.strm_types.specs.declared.spots.Note.{Note}
-use Rattle.strm_types.specs.Deliver.{Acted, tallied}
+use Rattle.strm_ldterm.specs.Prelude.{Fates, Note, Acted, tallied, StoreValue, free_m, free_d, FreesBlocks, Acts, Sent, Hands, OnlyOwn, SamePool}
+use Rattle.strm_ldterm.specs.Prelude.{sent_of, times_sent, parcels_in, AreChains}
 use Rattle.strm_types.specs.Ldterms as plain
-use Rattle.strm_blocks.specs.Blocks.{StoreValue, free_m, free_d}
-use Rattle.strm_queue.specs.Stored.{FreesBlocks}
-use Rattle.strm_frame.specs.declared.modules.Acts.{Acts}
-use Rattle.strm_frame.specs.declared.parcels.Sent.{Sent}
-use Rattle.strm_frame.specs.Hands.{Handles, Hands, OnlyOwn, SamePool, Spends}
-use Rattle.strm_frame.specs.Outboxes.{sent_of, times_sent, parcels_in, AreChains}
+use Rattle.strm_frame.specs.Hands.{Handles, Spends}
 use Rattle.strm_ldterm.specs.Stands.{ldterm_in, owns, keeps, IsHeld, Paired}
 
 -- The module and its own lists changed, and nothing else. No message came in hand, and no block was taken.

@@ -1,9 +1,6 @@
 -- What an echo still has to give: bytes of its own, columns to rub out, and bytes at the end of the line that are shown once more.
 use Rattle.std.specs.Prelude.{◌≡◌, ℕ, ◌-◌, Bool, not, ◌&&◌, ◌==◌, if◌then◌else◌, List, [], ◌∷◌, ◌++◌, length, drop, flat_map}
-use Rattle.strm_types.specs.declared.keys.Key.{Key}
-use Rattle.strm_types.specs.declared.keys.Key.TheVariants.{Erase, Werase, Reprint}
-use Rattle.strm_types.specs.Echo.{is_control, rub_out, shown_control, tab}
-use Rattle.strm_types.specs.Lines.{edited, is_blank, ErasesByte, ErasesWord}
+use Rattle.strm_ldterm.specs.Prelude.{Key, Erase, Werase, Reprint, is_control, rub_out, shown_control, tab, edited, is_blank, ErasesByte, ErasesWord}
 use Rattle.strm_ldterm.specs.declared.echoes.Echo.{Echo}
 
 -- a byte as an ordinary one is echoed, under ECHOCTL or without it

@@ -3,14 +3,9 @@ use Rattle.std.specs.Prelude.{ℕ, ◌≡◌, ◌<◌, List, length, map, slice_
 use Rattle.std.proofs.Common.{refl, sym, ap, subst, ◌∙◌, arith}
 use Rattle.std.proofs.lemmas.Bool.{false≢true}
 use Rattle.strm_types.specs.Ldterms as plain
-use Rattle.strm_types.specs.Message.{Message, cells_of}
-use Rattle.strm_blocks.specs.Blocks.{Block, StoreValue, in_hand, list_at, block_at, token}
-use Rattle.strm_blocks.specs.declared.in_hand.InHand.{InHand}
-use Rattle.strm_msg.specs.Messages.{message_of, IsChain}
-use Rattle.strm_queue.specs.Flows.{plain_flows}
-use Rattle.strm_frame.specs.declared.queue_pair.QueuePair.{QueuePair}
-use Rattle.strm_frame.specs.Hands.{SameOwn}
-use Rattle.strm_frame.specs.StandingLaws.{name-once, queue-ready}
+use Rattle.strm_ldterm.specs.Prelude.{Message, cells_of, Block, StoreValue, in_hand, list_at, block_at, token, InHand, message_of, IsChain}
+use Rattle.strm_ldterm.specs.Prelude.{plain_flows, QueuePair, SameOwn, queue-ready}
+use Rattle.strm_frame.specs.StandingLaws.{name-once}
 use Rattle.strm_frame.specs.Standings.{lists_of, queues_own}
 use Rattle.strm_ldterm.specs.declared.ldterm.Ldterm.{Ldterm}
 use Rattle.strm_ldterm.specs.Stands.{stage_in, cells_kept, EndsPlain, FitsQueues, HasInHand, IsData, IsOrdinary, IsGathered, Paired, owns, own_in, times_kept, kept_in, keeps, keeps_itself, ldterm_in, IsHeld}

@@ -1,13 +1,8 @@
 -- How many blocks are free before a byte of a call begins (srv(9E); STREAMS Programming Guide, "Message Structure").
 use Rattle.std.specs.Prelude.{ℕ, ◌≡◌, ◌+◌, ◌-◌, ◌/◌, if◌then◌else◌, List, [], ◌∷◌, length}
-use Rattle.strm_types.specs.declared.limits.TheConstants.{BLOCK_SIZE, STOP_BLOCKS}
-use Rattle.strm_types.specs.declared.rules.Fates.{Fates}
-use Rattle.strm_types.specs.declared.spots.Note.{Note}
-use Rattle.strm_types.specs.Deliver.{Acted}
+use Rattle.strm_ldterm.specs.Prelude.{STOP_BLOCKS, Fates, Note, Acted, Message, cells_of, StoreValue, free_m, free_d, HasRoom}
+use Rattle.strm_types.specs.declared.limits.TheConstants.{BLOCK_SIZE}
 use Rattle.strm_types.specs.Ldterms as ldterms
-use Rattle.strm_types.specs.Message.{Message, cells_of}
-use Rattle.strm_blocks.specs.Blocks.{StoreValue, free_m, free_d}
-use Rattle.strm_frame.specs.Hands.{HasRoom}
 use Rattle.strm_ldterm.specs.Does.{Proceeds}
 use Rattle.strm_ldterm.specs.Stands.{ldterm_in, Paired}
 

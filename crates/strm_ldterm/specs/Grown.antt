@@ -1,15 +1,8 @@
 -- What becomes of a message of data in hand to which bytes are added, and what is made of bytes.
 use Rattle.std.specs.Prelude.{ℕ, ◌≡◌, ◌≢◌, ◌≤◌, ◌+◌, List, ◌++◌}
-use Rattle.strm_types.specs.declared.spots.Spot.{Spot}
-use Rattle.strm_types.specs.Cells.{plain}
-use Rattle.strm_types.specs.Message.{cells_of, data_message}
+use Rattle.strm_ldterm.specs.Prelude.{Spot, plain, cells_of, data_message, grown, StoreValue, IsFreshName, in_hand, block_at, changed, held, free_m}
+use Rattle.strm_ldterm.specs.Prelude.{free_d, list_at, Queue, queue_in, messages_on, IsReady, Shifts, message_in}
 use Rattle.strm_types.specs.Queue.{put_on}
-use Rattle.strm_types.specs.Typing.{grown}
-use Rattle.strm_blocks.specs.Blocks.{StoreValue, IsFreshName, in_hand, block_at, changed, held, free_m, free_d, list_at}
-use Rattle.strm_queue.specs.declared.queue.Queue.{Queue}
-use Rattle.strm_queue.specs.Stored.{queue_in, messages_on, IsReady}
-use Rattle.strm_frame.specs.Hands.{Shifts}
-use Rattle.strm_frame.specs.Outboxes.{message_in}
 use Rattle.strm_ldterm.specs.Stands.{EndsPlain, IsData, IsOrdinary}
 
 -- A message of data in hand has these bytes more at its end, in its band, and nothing else changed. At most so many blocks of each kind

@@ -1,3 +1,4 @@
+pub mod Prelude
 pub mod Echoes
 pub mod Stands
 pub mod Does

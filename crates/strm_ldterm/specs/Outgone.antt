@@ -1,22 +1,9 @@
 -- What a turn of the write queue did (ldterm(7M), "Write-side Behavior"; srv(9E); putbq(9F)).
 use Rattle.std.specs.Prelude.{ℕ, ◌≡◌, ◌<◌, Bool, true, false, List, [], ◌∷◌, length, map, Option, None, Some}
 use Rattle.strm_types.specs.declared.kinds.MsgKind.TheVariants as kinds
-use Rattle.strm_types.specs.declared.names.Way.TheVariants.{Down}
-use Rattle.strm_types.specs.declared.rules.Fates.{Fates}
-use Rattle.strm_types.specs.declared.spots.Spot.{Spot}
-use Rattle.strm_types.specs.Cells.{plain}
-use Rattle.strm_types.specs.Deliver.{Acted, onward}
-use Rattle.strm_types.specs.Input.{back_on}
+use Rattle.strm_ldterm.specs.Prelude.{Down, Fates, Spot, plain, Acted, onward, back_on, sends, Message, cells_of, output_serves, with_given}
+use Rattle.strm_ldterm.specs.Prelude.{left_with, Serving, opost, StoreValue, Sent, sent_of}
 use Rattle.strm_types.specs.Ldterms as ldterms
-use Rattle.strm_types.specs.Ldterms.{sends}
-use Rattle.strm_types.specs.Message.{Message, cells_of}
-use Rattle.strm_types.specs.OutputTurns.{output_serves, with_given}
-use Rattle.strm_types.specs.Queue.{left_with}
-use Rattle.strm_types.specs.Service.{Serving}
-use Rattle.strm_types.specs.Termios.{opost}
-use Rattle.strm_blocks.specs.Blocks.{StoreValue}
-use Rattle.strm_frame.specs.declared.parcels.Sent.{Sent}
-use Rattle.strm_frame.specs.Outboxes.{sent_of}
 use Rattle.strm_ldterm.specs.declared.turn_starts.OutputBegun.{OutputBegun}
 use Rattle.strm_ldterm.specs.declared.turn_starts.OutputBegun.TheVariants as begun
 use Rattle.strm_ldterm.specs.Bounds.{passes_whole}

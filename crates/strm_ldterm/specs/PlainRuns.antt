@@ -2,18 +2,9 @@
 -- Mode Input Processing", "Non-Canonical Mode Input Processing", ECHO).
 use Rattle.std.specs.Prelude.{ℕ, ◌≡◌, ◌≤◌, ◌+◌, Bool, true, false, not, ◌&&◌, ◌||◌, ◌==◌, if◌then◌else◌, List, [], ◌++◌, length, drop}
 use Rattle.std.specs.List.{list_any}
-use Rattle.strm_types.specs.declared.keys.TheConstants.{LINE_MAX}
-use Rattle.strm_types.specs.declared.spots.Spot.{Spot}
-use Rattle.strm_types.specs.declared.termios.Termios.{Termios}
-use Rattle.strm_types.specs.Cells.{plain}
-use Rattle.strm_types.specs.Deliver.{Acted}
-use Rattle.strm_types.specs.Echo.{is_control}
-use Rattle.strm_types.specs.Input.{cells_left, with_left}
-use Rattle.strm_types.specs.Keys.{carriage_return, lowered, newline, stripped}
-use Rattle.strm_types.specs.Ldterms.{Discipline, sends}
-use Rattle.strm_types.specs.Queue.{count_of, flow_of}
-use Rattle.strm_types.specs.Termios.{echo, icanon, icrnl, igncr, inlcr, isig, istrip, iuclc, ixon}
-use Rattle.strm_types.specs.Typing.{echo_grows, echo_stands}
+use Rattle.strm_ldterm.specs.Prelude.{LINE_MAX, Spot, Termios, plain, Acted, is_control, cells_left, with_left, carriage_return, lowered, newline}
+use Rattle.strm_ldterm.specs.Prelude.{stripped, Discipline, sends, count_of, flow_of, echo, icanon, icrnl, igncr, inlcr, isig, istrip, iuclc, ixon}
+use Rattle.strm_ldterm.specs.Prelude.{echo_grows, echo_stands}
 
 -- the modes in which a control byte of the termios may be a key: ICANON, ISIG and IXON
 abbrev pub has_keys : Termios → Bool

@@ -1,22 +1,9 @@
 -- Output on plain bytes: what bytes of the message in work give is gathered, to go down together (termio(7I): "Output Modes"; ldterm(7M)).
 use Rattle.std.specs.Prelude.{ℕ, ◌≡◌, ◌≤◌, ◌<◌, ◌-◌, ◌==◌, Bool, not, ◌&&◌, List, [], ◌∷◌, ◌++◌, length, take, drop, replicate}
-use Rattle.strm_types.specs.declared.limits.TheConstants.{STOP_BLOCKS}
-use Rattle.strm_types.specs.declared.output.Given.{Given}
-use Rattle.strm_types.specs.declared.output.Given.TheVariants.{Byte, Ended, Spaces, Nothing}
-use Rattle.strm_types.specs.declared.rules.Fates.{Fates}
-use Rattle.strm_types.specs.declared.spots.Spot.{Spot}
-use Rattle.strm_types.specs.declared.termios.Termios.{Termios}
-use Rattle.strm_types.specs.Cells.{plain}
-use Rattle.strm_types.specs.Deliver.{Acted, tallied}
-use Rattle.strm_types.specs.Echo.{is_control}
-use Rattle.strm_types.specs.Input.{cells_left, with_left}
-use Rattle.strm_types.specs.Keys.{carriage_return, newline}
+use Rattle.strm_ldterm.specs.Prelude.{STOP_BLOCKS, Given, Byte, Ended, Spaces, Nothing, Fates, Spot, Termios, plain, Acted, tallied, is_control}
+use Rattle.strm_ldterm.specs.Prelude.{cells_left, with_left, carriage_return, newline, Output, posts, raised, space, output_dir, StoreValue, HasRoom}
+use Rattle.strm_ldterm.specs.Prelude.{least_free}
 use Rattle.strm_types.specs.Ldterms as ldterms
-use Rattle.strm_types.specs.Output.{Output, posts, raised, space}
-use Rattle.strm_types.specs.OutputTurns.{output_dir}
-use Rattle.strm_blocks.specs.Blocks.{StoreValue}
-use Rattle.strm_frame.specs.Hands.{HasRoom}
-use Rattle.strm_frame.specs.Serves.{least_free}
 use Rattle.strm_ldterm.specs.declared.output_runs.Flow.{Flow}
 use Rattle.strm_ldterm.specs.FreeBefore.{IsFreeBefore, all_free}
 use Rattle.strm_ldterm.specs.Does.{Proceeds}

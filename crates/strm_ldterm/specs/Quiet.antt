@@ -1,7 +1,6 @@
 -- The keys that send nothing.
 use Rattle.std.specs.Prelude.{Bool, true, false}
-use Rattle.strm_types.specs.declared.keys.Key.{Key}
-use Rattle.strm_types.specs.declared.keys.Key.TheVariants.{Start, Ignored, Erase, Kill, Werase, Reprint, Lnext, Ordinary}
+use Rattle.strm_ldterm.specs.Prelude.{Key, Start, Ignored, Erase, Kill, Werase, Reprint, Lnext, Ordinary}
 
 -- Whether a key sends nothing: START (what it starts has begun before), a carriage return that is ignored, keys that edit the line,
 -- LNEXT, and an ordinary byte.

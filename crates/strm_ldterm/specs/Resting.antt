@@ -1,14 +1,10 @@
 -- The module keeps nothing in hand where what it stands for has nothing under way.
 use Rattle.std.specs.Prelude.{ℕ, ◌≡◌, false, [], length, Option, None, Some, IfSome}
 use Rattle.std.proofs.Common.{refl, ap, arith}
-use Rattle.strm_types.specs.declared.names.Way.{Way}
-use Rattle.strm_types.specs.declared.names.Way.TheVariants.{Up, Down}
-use Rattle.strm_blocks.specs.Blocks.{StoreValue, token}
-use Rattle.strm_frame.specs.declared.queue_pair.QueuePair.{QueuePair}
+use Rattle.strm_ldterm.specs.Prelude.{Way, Up, Down, StoreValue, token, QueuePair, InHand}
 use Rattle.strm_ldterm.specs.declared.ldterm.Ldterm.{Ldterm}
 use Rattle.strm_ldterm.specs.Served.{IsServed, MayBeServed}
 use Rattle.strm_ldterm.specs.Stands.{cells_kept, times_kept, kept_in, keeps, ldterm_in, IsGathered, IsHeld, Paired, FitsQueues, HasInHand, keeps_itself, own_in}
-use Rattle.strm_blocks.specs.declared.in_hand.InHand.{InHand}
 
 -- a message that isn't there
 none-shown : (s : StoreValue) (o : Option InHand) → kept_in s o ≡ None → o ≡ None

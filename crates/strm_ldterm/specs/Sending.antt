@@ -1,8 +1,6 @@
 -- A message that the module ldterm makes.
 use Rattle.std.specs.Prelude.{ℕ, ◌≡◌, ◌+◌}
-use Rattle.strm_types.specs.Message.{Message}
-use Rattle.strm_blocks.specs.Blocks.{StoreValue, IsFreshName, in_hand, held, free_m, free_d}
-use Rattle.strm_msg.specs.Messages.{message_of, IsChain}
+use Rattle.strm_ldterm.specs.Prelude.{Message, StoreValue, IsFreshName, in_hand, held, free_m, free_d, message_of, IsChain}
 
 -- One message was made in one block of each kind, and it stands for `m`.
 pub record MadeOne (old new : StoreValue) (name : ℕ) (m : Message ℕ) : Type 0 where

@@ -1,8 +1,7 @@
 -- Where a turn of a queue stands behind a call of its service procedure.
 use Rattle.std.specs.Prelude.{◌≡◌, Bool, true, is_some}
-use Rattle.strm_types.specs.declared.names.Way.{Way}
-use Rattle.strm_types.specs.declared.names.Way.TheVariants.{Up}
-use Rattle.strm_types.specs.Ldterms.{Discipline, Ldterm, Rests, by_itself}
+use Rattle.strm_ldterm.specs.Prelude.{Way, Up, Discipline, Ldterm, by_itself}
+use Rattle.strm_types.specs.Ldterms.{Rests}
 
 -- While a turn of the read queue is to be called again, a message is in work. Else nothing of a turn is under way.
 abbrev pub MayBeServed : {C : Type 0} → Way → Bool → Ldterm C → Type 0

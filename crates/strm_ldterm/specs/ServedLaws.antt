@@ -4,20 +4,12 @@ use Rattle.std.proofs.Common.{ℕ, zero, suc, ◌≡◌, ◌+◌, ◌-◌, ◌*�
 use Rattle.std.proofs.lemmas.Bool.{false≢true}
 use Rattle.std.specs.Prelude.{Option, None, Some, is_some, ◌&&◌, option_map, unwrap_or}
 use Rattle.strm_types.specs.declared.kinds.MsgKind.TheVariants as kinds
-use Rattle.strm_types.specs.declared.names.Way.{Way}
-use Rattle.strm_types.specs.declared.names.Way.TheVariants.{Up, Down}
-use Rattle.strm_types.specs.declared.spots.Spot.{Spot}
-use Rattle.strm_types.specs.Cells.{Cells, cells_made}
-use Rattle.strm_types.specs.Deliver.{Acted, onward}
-use Rattle.strm_types.specs.Input.{begins_next, cells_left, input_begins, is_data, left_of, made_of, next_stage, passes, stage_at, stages, stages_done, then_on, to_treat, treats, with_left}
-use Rattle.strm_types.specs.Keys.{restarts}
-use Rattle.strm_types.specs.LdtermPuts.{ldterm_puts}
-use Rattle.strm_types.specs.LdtermServes.{ldterm_serves}
-use Rattle.strm_types.specs.Ldterms.{Discipline, IsIdle, Ldterm, Stage, Between, Begun, Answered, lineless, sends}
-use Rattle.strm_types.specs.Message.{Message, cells_of}
-use Rattle.strm_types.specs.OutputTurns.{output_serves}
-use Rattle.strm_types.specs.Queue.{is_full, is_none_left, left_with}
-use Rattle.strm_types.specs.Typing.{bare, begins, echo_dir, echo_grows, echo_lost, echo_stands, echoed, is_lnext, stroke_at, struck}
+use Rattle.strm_ldterm.specs.Prelude.{Way, Up, Down, Spot, Cells, cells_made, Acted, onward, begins_next, cells_left, input_begins, is_data, left_of}
+use Rattle.strm_ldterm.specs.Prelude.{made_of, next_stage, passes, stage_at, stages, stages_done, then_on, to_treat, treats, with_left, restarts}
+use Rattle.strm_ldterm.specs.Prelude.{ldterm_puts, ldterm_serves, Discipline, Ldterm, Stage, Between, Begun, Answered, sends, Message, cells_of}
+use Rattle.strm_ldterm.specs.Prelude.{output_serves, is_full, is_none_left, left_with, bare, begins, echo_dir, echo_grows, echo_lost, echo_stands}
+use Rattle.strm_ldterm.specs.Prelude.{echoed, is_lnext, stroke_at, struck}
+use Rattle.strm_types.specs.Ldterms.{IsIdle, lineless}
 use Rattle.strm_types.proofs.LdtermPutStays.{Stays, idle-stays, puts-stay}
 use Rattle.strm_types.proofs.StrikesStay.{strikes-stay}
 use Rattle.strm_ldterm.specs.Served.{IsServed, MayBeServed}

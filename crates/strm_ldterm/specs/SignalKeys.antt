@@ -1,7 +1,6 @@
 -- The keys that send a signal.
 use Rattle.std.specs.Prelude.{Bool, true, false}
-use Rattle.strm_types.specs.declared.keys.Key.{Key}
-use Rattle.strm_types.specs.declared.keys.Key.TheVariants.{Intr, Quit, Susp}
+use Rattle.strm_ldterm.specs.Prelude.{Key, Intr, Quit, Susp}
 
 -- whether a key sends a signal: INTR, QUIT and SUSP do
 abbrev pub sends_signal : Key → Bool

@@ -1,17 +1,9 @@
 -- What the module ldterm and its queues stand for beside a store, and what holds of them.
 use Rattle.std.specs.Prelude.{ℕ, ◌≡◌, ◌≤◌, ◌<◌, ◌+◌, Bool, true, List, [], ◌∷◌, ◌++◌, length, Option, None, Some, is_some, IfSome}
 use Rattle.strm_types.specs.declared.kinds.MsgKind.TheVariants as kinds
-use Rattle.strm_types.specs.declared.termios.Termios.{Termios}
+use Rattle.strm_ldterm.specs.Prelude.{Termios, Message, cells_of, data_message, StoreValue, in_hand, block_at, token, InHand, IsChain, Queue}
+use Rattle.strm_ldterm.specs.Prelude.{queue_in, messages_on, IsReady, QueuePair, once, message_in}
 use Rattle.strm_types.specs.Ldterms as plain
-use Rattle.strm_types.specs.Message.{Message, cells_of, data_message}
-use Rattle.strm_blocks.specs.Blocks.{StoreValue, in_hand, block_at, token}
-use Rattle.strm_blocks.specs.declared.in_hand.InHand.{InHand}
-use Rattle.strm_msg.specs.Messages.{IsChain}
-use Rattle.strm_queue.specs.declared.queue.Queue.{Queue}
-use Rattle.strm_queue.specs.Stored.{queue_in, messages_on, IsReady}
-use Rattle.strm_frame.specs.declared.queue_pair.QueuePair.{QueuePair}
-use Rattle.strm_frame.specs.Hands.{once}
-use Rattle.strm_frame.specs.Outboxes.{message_in}
 use Rattle.strm_ldterm.specs.declared.ldterm.Ldterm.{Ldterm}
 use Rattle.strm_ldterm.specs.declared.ldterm.Stage.{Stage}
 use Rattle.strm_ldterm.specs.declared.ldterm.Stage.TheVariants.{Between, Begun, Answered}

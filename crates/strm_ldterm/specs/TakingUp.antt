@@ -1,11 +1,6 @@
 -- How a termios is taken up, step by step, and how many blocks each step takes.
 use Rattle.std.specs.Prelude.{ℕ, min, ◌==◌, if◌then◌else◌, List, [], length}
-use Rattle.strm_types.specs.declared.ioctls.TheConstants.{TCSETSF}
-use Rattle.strm_types.specs.declared.spots.Spot.{Spot}
-use Rattle.strm_types.specs.declared.termios.Termios.{Termios}
-use Rattle.strm_types.specs.Deliver.{Acted}
-use Rattle.strm_types.specs.Ldterms.{Discipline, sends}
-use Rattle.strm_types.specs.TakenUp.{ends_lines, line_up}
+use Rattle.strm_ldterm.specs.Prelude.{TCSETSF, Spot, Termios, Acted, Discipline, sends, ends_lines, line_up}
 
 -- an M_FLUSH where a command flushes input, and a line where there is one
 abbrev pub flush_takes : ℕ → ℕ

@@ -1,11 +1,6 @@
 -- Several stages of a turn on plain bytes, one after the other, before its end.
 use Rattle.std.specs.Prelude.{ℕ, zero, suc, ◌+◌, ◌*◌, true, if◌then◌else◌, [], ◌++◌}
-use Rattle.strm_types.specs.declared.spots.Spot.{Spot}
-use Rattle.strm_types.specs.Cells.{plain}
-use Rattle.strm_types.specs.Deliver.{Acted}
-use Rattle.strm_types.specs.Input.{next_stage}
-use Rattle.strm_types.specs.Ldterms.{Discipline, Stage, Between, Begun, Answered, sends}
-use Rattle.strm_types.specs.Queue.{is_none_left}
+use Rattle.strm_ldterm.specs.Prelude.{Spot, plain, Acted, next_stage, Discipline, Stage, Between, Begun, Answered, sends, is_none_left}
 
 -- how many stages of a byte that has begun are left, and whether one has begun
 abbrev pub stages_left : Stage ℕ → ℕ

@@ -1,13 +1,8 @@
 -- The numbers of a pair's ledger agree.
-use Rattle.std.proofs.Common.{◌≡◌, ◌<◌, ◌+◌, ◌^◌, arith}
-use Rattle.strm_types.specs.declared.names.Dir.{Dir}
-use Rattle.strm_types.specs.declared.rules.Fates.{Fates}
-use Rattle.strm_types.specs.declared.limits.Config.{Config}
-use Rattle.strm_laws.specs.Ledgers.{inline, queued}
+use Rattle.strm_pair.proofs.Prelude.{◌≡◌, ◌<◌, ◌+◌, arith, sum_of}
+use Rattle.strm_pair.specs.Prelude.{Dir, Fates, Config, inline, queued, book, StoreValue}
+use Rattle.std.proofs.Common.{◌^◌}
 use Rattle.strm_types.specs.Rules.{fates_of}
-use Rattle.strm_laws.specs.State.{book}
-use Rattle.strm_laws.proofs.LedgerSums.{sum_of}
-use Rattle.strm_blocks.specs.Blocks.{StoreValue}
 use Rattle.strm_pair.specs.declared.journal.Journal.{Journal}
 use Rattle.strm_pair.specs.declared.streams.Streams.{Streams}
 use Rattle.strm_pair.specs.Pairs.{state_in}

@@ -1,20 +1,11 @@
 -- What the text of a base tells, and the room that it takes.
-use Rattle.std.proofs.Common.{ℕ, ◌≡◌, ◌≤◌, List, refl, ap, sym, ◌∙◌, arith}
-use Rattle.std.specs.Prelude.{length, vec_capacity, Some}
-use Rattle.strm_types.specs.declared.limits.Config.{Config}
-use Rattle.strm_types.specs.declared.rules.Fates.{Fates}
-use Rattle.strm_types.specs.Journal.{PlainEntry}
-use Rattle.strm_types.specs.Rules.{no_fates}
-use Rattle.strm_laws.specs.State.{State, opening}
-use Rattle.strm_blocks.specs.Blocks.{StoreValue, IsStore}
-use Rattle.strm_image.specs.declared.versions.Version.TheVariants.{Second}
-use Rattle.strm_image.specs.Format.{whole}
-use Rattle.strm_image.specs.HasImage.{AreCounts, AreNumbers, HasImage, imaged}
-use Rattle.strm_image.specs.Image.{image}
-use Rattle.strm_image.proofs.FitImages.{image_fits, new_has_image}
+use Rattle.strm_pair.proofs.Prelude.{ℕ, ◌≡◌, ◌≤◌, List, refl, ap, sym, ◌∙◌, arith, Some, image_fits, image_length_in}
+use Rattle.strm_pair.specs.Prelude.{Config, Fates, PlainEntry, no_fates, State, opening, StoreValue, IsStore, Second, whole, AreCounts, AreNumbers}
+use Rattle.strm_pair.specs.Prelude.{HasImage, imaged, image}
+use Rattle.std.specs.Prelude.{length, vec_capacity}
+use Rattle.strm_image.proofs.FitImages.{new_has_image}
 use Rattle.strm_image.proofs.Formats.{whole_again}
 use Rattle.strm_image.proofs.ImageRows.{image_exact}
-use Rattle.strm_image.proofs.TextLengths.{image_length_in}
 use Rattle.strm_pair.specs.declared.base.Base.{Base}
 use Rattle.strm_pair.specs.declared.journal.Journal.{Journal}
 use Rattle.strm_pair.specs.declared.streams.Streams.{Streams}

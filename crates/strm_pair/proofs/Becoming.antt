@@ -1,12 +1,7 @@
 -- Streams that change alone, whatever stands in the store.
-use Rattle.std.proofs.Common.{ℕ, ◌≡◌, suc, sym, ap, subst, ◌∙◌}
-use Rattle.strm_types.specs.declared.names.Side.{Side}
+use Rattle.strm_pair.proofs.Prelude.{ℕ, ◌≡◌, suc, sym, ap, subst, ◌∙◌, map-set}
+use Rattle.strm_pair.specs.Prelude.{Side, State, Stream, stream, with_stream, StoreValue, Head, head_in}
 use Rattle.strm_types.specs.Heads as heads
-use Rattle.strm_types.proofs.BySide.{map-set}
-use Rattle.strm_laws.specs.State.{State, Stream, stream, with_stream}
-use Rattle.strm_blocks.specs.Blocks.{StoreValue}
-use Rattle.strm_head.specs.declared.head.Head.{Head}
-use Rattle.strm_head.specs.Heads.{head_in}
 use Rattle.strm_pair.specs.declared.ends.StreamEnd.{StreamEnd}
 use Rattle.strm_pair.specs.declared.streams.Streams.{Streams}
 use Rattle.strm_pair.specs.Effects.{Becomes}

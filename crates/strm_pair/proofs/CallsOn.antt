@@ -1,53 +1,27 @@
 -- The calls of a turn of a module's queue, one after the other, up to the one that asks for no other.
-use Rattle.std.proofs.Common.{ℕ, zero, suc, ◌≡◌, ◌≤◌, ◌<◌, ◌+◌, ◌-◌, ◌*◌, Bool, true, false, cond, List, [], ◌∷◌, ◌++◌, length, map, refl, sym, ap, subst, ◌∙◌, arith}
-use Rattle.std.specs.Prelude.{◌&&◌, ◌==◌, not, nat_lt, slice_index_or, None, Some, Option, is_some}
+use Rattle.strm_pair.proofs.Prelude.{ℕ, zero, suc, ◌≡◌, ◌≤◌, ◌<◌, ◌+◌, ◌-◌, Bool, true, false, cond, List, [], ◌∷◌, ◌++◌, length, map, refl, sym, ap}
+use Rattle.strm_pair.proofs.Prelude.{subst, ◌∙◌, arith, ◌&&◌, ◌==◌, not, nat_lt, slice_index_or, None, Some, Option, is_some, false≢true, nat_tests}
+use Rattle.strm_pair.proofs.Prelude.{length-take, FullFirst, UnderWay, index-map, module-ends, module-goes, under_way, range-spare, kept-ahead}
+use Rattle.strm_pair.proofs.Prelude.{tallied-append}
+use Rattle.strm_pair.specs.Prelude.{Moved, STOP_BLOCKS, Driver, QueueName, Side, Way, Up, Down, Fates, Spot, plain, Fate, tallied, input_begins}
+use Rattle.strm_pair.specs.Prelude.{is_data, passes, stages, stages_done, treats, Message, cells_of, size_of, Outgoing, output_serves, posted}
+use Rattle.strm_pair.specs.Prelude.{unchanged, first_size, left_with, Serving, opost, AreIdle, disciplined, Discipline, module_turn_ended}
+use Rattle.strm_pair.specs.Prelude.{module_turned, moved_on, IsKeptAhead, in_range, spare, IsAtRest, KindRests, Module, OfLdterm, Standing}
+use Rattle.strm_pair.specs.Prelude.{module_serves, State, stream, Begins, Ends, bytes_left, stood, asks_on, discipline_of, led, module_at, treated}
+use Rattle.strm_pair.specs.Prelude.{none_there, TurnOutcome, StoreValue, least_free, stop_at}
+use Rattle.std.proofs.Common.{◌*◌}
 use Rattle.std.specs.Bool.{OnTrue}
 use Rattle.std.specs.List.{AllByRecursion}
-use Rattle.std.proofs.lemmas.Bool.{false≢true}
-use Rattle.std.proofs.lemmas.Bool.Decides.{nat_tests}
-use Rattle.std.proofs.lemmas.List.{length-take}
-use Rattle.strm_types.specs.declared.answers.Turn.TheVariants.{Moved}
-use Rattle.strm_types.specs.declared.limits.TheConstants.{STOP_BLOCKS}
-use Rattle.strm_types.specs.declared.names.Place.TheVariants.{Driver}
-use Rattle.strm_types.specs.declared.names.QueueName.{QueueName}
-use Rattle.strm_types.specs.declared.names.Side.{Side}
-use Rattle.strm_types.specs.declared.names.Way.{Way}
-use Rattle.strm_types.specs.declared.names.Way.TheVariants.{Up, Down}
-use Rattle.strm_types.specs.declared.rules.Fates.{Fates}
-use Rattle.strm_types.specs.declared.spots.Spot.{Spot}
-use Rattle.strm_types.specs.Cells.{plain}
-use Rattle.strm_types.specs.Deliver.{Fate, tallied}
-use Rattle.strm_types.specs.Input.{input_begins, is_data, passes, stages, stages_done, to_treat, treats}
-use Rattle.strm_types.specs.Message.{Message, cells_of, size_of}
-use Rattle.strm_types.specs.OutputTurns.{Outgoing, output_serves, posted, unchanged}
-use Rattle.strm_types.specs.Queue.{first_size, left_with}
-use Rattle.strm_types.specs.Service.{Serving}
-use Rattle.strm_types.specs.Termios.{opost}
-use Rattle.strm_laws.specs.Kept.{AreIdle}
-use Rattle.strm_types.specs.LdtermStands.{disciplined}
-use Rattle.strm_types.specs.Ldterms.{Discipline, Stage, Between, Begun, Answered, new_ldterm}
-use Rattle.strm_laws.specs.ModuleTurns.{module_turn_ended, module_turned, moved_on}
-use Rattle.strm_laws.specs.Pair.{IsKeptAhead}
-use Rattle.strm_laws.specs.Refusals.{in_range}
-use Rattle.strm_laws.specs.Spares.{spare}
-use Rattle.strm_laws.specs.Stacked.{IsAtRest, KindRests, Module, OfLdterm, Standing, module_serves}
-use Rattle.strm_laws.specs.State.{State, stream}
-use Rattle.strm_types.specs.LdtermCalls.{Begins, Ends, bytes_left}
-use Rattle.strm_types.specs.Standings.{QueuePair, stood}
-use Rattle.strm_laws.specs.TurnCalls.{Stopped, asks_on, discipline_of, led, module_at, treated, none_there}
-use Rattle.strm_laws.specs.TurnOutcomes.{TurnOutcome}
-use Rattle.strm_laws.proofs.LdtermStops.{FullFirst}
-use Rattle.strm_laws.proofs.ModuleTurnCalls.{Reached, UnderWay, index-map, led-at, led-length, module-ends, module-goes, moves-within, reached-last, reached-next, under_way}
-use Rattle.strm_laws.proofs.StackSpares.{range-spare}
-use Rattle.strm_laws.proofs.Staying.{kept-ahead}
-use Rattle.strm_blocks.specs.Blocks.{StoreValue}
-use Rattle.strm_frame.specs.Serves.{least_free, stop_at}
+use Rattle.strm_types.specs.Input.{to_treat}
+use Rattle.strm_types.specs.Ldterms.{Stage, Between, Begun, Answered, new_ldterm}
+use Rattle.strm_types.specs.Standings.{QueuePair}
+use Rattle.strm_laws.specs.TurnCalls.{Stopped}
+use Rattle.strm_laws.proofs.ModuleTurnCalls.{Reached, led-at, led-length, moves-within, reached-last, reached-next}
 use Rattle.strm_pair.specs.AnyModules.{HasAsNamed, turn_cost}
 use Rattle.strm_pair.specs.declared.service_calls.Call.{Call}
 use Rattle.strm_pair.specs.ModuleServed.{LeavesFew, MayBook, StopsFew, TellsAs, TreatsAs, call_cost, call_units, stop_in}
 use Rattle.strm_pair.specs.ModuleTurned.{MayMove}
 use Rattle.strm_pair.proofs.StopsFew.{led-same}
-use Rattle.strm_ldterm.proofs.Flushed.{tallied-append}
 
 -- What calls that go on have led to so far: so many bytes were treated, by so many calls, each of which came a stage further.
 pub record GoOn (here : Spot) (bytes : ℕ) (s0 st : State ℕ) (f f' : Fates) : Type 0 where

@@ -1,24 +1,19 @@
 -- The text of a message is written block by block.
-use Rattle.std.proofs.Common.{ℕ, ◌≡◌, ◌<◌, ◌+◌, inl, inr, Bool, true, false, cond, List, [], ◌∷◌, ◌++◌, length, drop, refl, sym, ap, ◌∙◌, arith, append-nil, append_assoc, length-append}
-use Rattle.std.specs.Prelude.{sum_by, Option, None, Some}
+use Rattle.strm_pair.proofs.Prelude.{ℕ, ◌≡◌, ◌<◌, ◌+◌, inl, inr, Bool, true, false, cond, List, [], ◌∷◌, ◌++◌, length, drop, refl, sym, ap, ◌∙◌}
+use Rattle.strm_pair.proofs.Prelude.{arith, append-nil, append_assoc, length-append, sum_by, Option, None, Some, sum_by-cons, sum_by-append}
+use Rattle.strm_pair.proofs.Prelude.{control-body, control-front, data-all, data-behind, data-or-control, put_both}
+use Rattle.strm_pair.specs.Prelude.{MsgKind, Data, is_data_kind, is_body_kind, is_control_kind, kind_number, Block, block_at, SeenBlock, seen_in}
+use Rattle.strm_pair.specs.Prelude.{Second, flag, message, control_blocks, data_blocks, message_of, part_of, AreData, IsChain, Given, patch, place_in}
+use Rattle.strm_pair.specs.Prelude.{put}
 use Rattle.std.specs.Int.{to_be_bytes, w32}
 use Rattle.std.specs.List.{AllByRecursion}
-use Rattle.std.proofs.lemmas.List.Sums.{sum_by-cons, sum_by-append}
-use Rattle.strm_types.specs.declared.kinds.MsgKind.{MsgKind}
-use Rattle.strm_types.specs.declared.kinds.MsgKind.TheVariants.{Data}
-use Rattle.strm_types.specs.Flush.{is_data_kind}
-use Rattle.strm_types.specs.Kinds.{is_body_kind, is_control_kind, kind_number}
-use Rattle.strm_blocks.specs.Blocks.{Block, block_at}
-use Rattle.strm_blocks.specs.Outcomes.{SeenBlock, seen_in, told}
-use Rattle.strm_image.specs.declared.versions.Version.TheVariants.{Second}
-use Rattle.strm_image.specs.Codes.{flag, kind}
-use Rattle.strm_image.specs.Messages.{message, part}
+use Rattle.strm_blocks.specs.Outcomes.{told}
+use Rattle.strm_image.specs.Codes.{kind}
+use Rattle.strm_image.specs.Messages.{part}
 use Rattle.strm_image.proofs.MessageRows.{no_control}
-use Rattle.strm_msg.specs.Bytes.{bytes_of, control_blocks, data_blocks}
-use Rattle.strm_msg.specs.Messages.{message_of, part_of, AreData, IsChain}
-use Rattle.strm_msg.proofs.Chains.{control-body, control-front, control-none, data-all, data-behind, data-control, data-or-control}
-use Rattle.strm_image.specs.Sinks.{Given, patch, place_in, put}
-use Rattle.strm_image.proofs.SinkRows.{patch_put, put_both}
+use Rattle.strm_msg.specs.Bytes.{bytes_of}
+use Rattle.strm_msg.proofs.Chains.{control-none, data-control}
+use Rattle.strm_image.proofs.SinkRows.{patch_put}
 use Rattle.strm_pair.specs.Writings.{absent, begun, continued, ended, extended, longer, part_begun, written}
 use Rattle.strm_pair.specs.declared.images.texts.Writing.{Writing}
 

@@ -1,21 +1,11 @@
 -- A write chunk by chunk: a chunk is delivered, and the rest is a write of the other chunks.
-use Rattle.std.proofs.Common.{ℕ, zero, suc, ◌≡◌, Bool, true, false, List, [], length, take, drop, refl, sym, ap, ◌∙◌}
-use Rattle.strm_types.specs.declared.answers.Answer.TheVariants.{Count}
-use Rattle.strm_types.specs.declared.names.Side.{Side}
-use Rattle.strm_types.specs.declared.rules.Fates.{Fates}
-use Rattle.strm_types.specs.Books.{with_written}
-use Rattle.strm_types.specs.Cells.{cells_written, plain}
-use Rattle.strm_types.specs.Names.{direction_from}
-use Rattle.strm_laws.specs.Calls.{Outcome, wrote, write_sent}
-use Rattle.strm_types.specs.Deliver.{tallied}
-use Rattle.strm_types.specs.Message.{data_message}
-use Rattle.strm_types.specs.Budgets.{most_of}
-use Rattle.strm_laws.specs.State.{State, book, with_book}
-use Rattle.strm_types.specs.Write.{chunk_count, chunks_of}
-use Rattle.strm_laws.specs.Writes.{Wrote, below_head, cells_sent, chunks_sent, is_full_below}
-use Rattle.strm_types.proofs.PlainCells.{written-plain}
+use Rattle.strm_pair.proofs.Prelude.{ℕ, zero, suc, ◌≡◌, Bool, true, false, List, [], length, take, drop, refl, sym, ap, ◌∙◌, written-plain}
+use Rattle.strm_pair.proofs.Prelude.{tallied-append}
+use Rattle.strm_pair.specs.Prelude.{Count, Side, Fates, with_written, cells_written, plain, direction_from, Outcome, tallied, data_message, most_of}
+use Rattle.strm_pair.specs.Prelude.{State, book, with_book, chunk_count, chunks_of, Wrote, below_head, chunks_sent}
+use Rattle.strm_laws.specs.Calls.{wrote, write_sent}
+use Rattle.strm_laws.specs.Writes.{cells_sent, is_full_below}
 use Rattle.strm_laws.proofs.WriteSteps.{chunk_goes, went}
-use Rattle.strm_ldterm.proofs.Flushed.{tallied-append}
 
 -- a chunk on its way down takes no block but its own, and no packet comes of it
 pub chunk-free : (side : Side) (chunk : List ℕ) → most_of (below_head side) (data_message chunk) ≡ 0

@@ -1,17 +1,10 @@
 -- The ioctl that waits at a head, while the module on top is taken off its stream.
-use Rattle.std.proofs.Common.{ℕ, ◌≡◌, List, [], ◌∷◌, refl, ap, ◌∙◌}
+use Rattle.strm_pair.proofs.Prelude.{ℕ, ◌≡◌, List, [], ◌∷◌, refl, ap, ◌∙◌, get-set-same}
+use Rattle.strm_pair.specs.Prelude.{Side, Rule, ModulePopped, Slot, Waiting, Answered, number_sought, mode_behind, top_on, top_taken, Standing, State}
+use Rattle.strm_pair.specs.Prelude.{Stream, stream, plain_slot}
 use Rattle.arrayvec.specs.ArrayVec.{ArrayVec}
-use Rattle.strm_types.specs.declared.names.Side.{Side}
-use Rattle.strm_types.specs.declared.rules.Rule.{Rule}
-use Rattle.strm_types.specs.declared.rules.Rule.TheVariants.{ModulePopped}
-use Rattle.strm_types.specs.declared.slots.Slot.{Slot}
-use Rattle.strm_types.specs.declared.slots.Slot.TheVariants.{Free, Waiting, Answered}
-use Rattle.strm_types.specs.Dropped.{number_sought}
-use Rattle.strm_types.proofs.BySide.{get-set-same}
-use Rattle.strm_laws.specs.Pushes.{mode_behind, taken_off, top_on, top_taken}
-use Rattle.strm_laws.specs.Stacked.{Standing}
-use Rattle.strm_laws.specs.State.{State, Stream, stream}
-use Rattle.strm_head.specs.Heads.{plain_slot}
+use Rattle.strm_types.specs.declared.slots.Slot.TheVariants.{Free}
+use Rattle.strm_laws.specs.Pushes.{taken_off}
 use Rattle.strm_pair.proofs.Modes.{ioctl-stays}
 
 top-stays : (rule : Rule) (side : Side) (ps : List (Standing ℕ)) (s : State ℕ) → (stream side (top_taken rule side ps s).state).head.ioctl ≡ (stream side s).head.ioctl

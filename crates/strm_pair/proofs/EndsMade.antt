@@ -1,42 +1,21 @@
 -- A stream of a text, on four lists of a store: its queues one after the other, and then its modules.
-use Rattle.std.proofs.Common.{ℕ, ◌≡◌, ◌≢◌, ◌≤◌, ◌<◌, ◌+◌, Bool, true, false, List, [], ◌∷◌, map, refl, sym, ap, subst, ◌∙◌, arith}
-use Rattle.std.specs.Prelude.{◌==◌, is_some, sum_by, Option}
+use Rattle.strm_pair.proofs.Prelude.{ℕ, ◌≡◌, ◌≢◌, ◌≤◌, ◌<◌, ◌+◌, Bool, true, false, List, [], ◌∷◌, map, refl, sym, ap, subst, ◌∙◌, arith, ◌==◌}
+use Rattle.strm_pair.proofs.Prelude.{is_some, sum_by, Option, nat_tests, sum_by-cons, kind-is, ready-same}
+use Rattle.strm_pair.specs.Prelude.{MsgKind, Openness, is_data_kind, is_body_kind, is_control_kind, EachOnce, module_name, is_part_kind, Block}
+use Rattle.strm_pair.specs.Prelude.{StoreValue, block_at, list_at, message_of, queue_in, HoldsReadable, IsHeadQueue, Head, head_in, all_of, Stack}
+use Rattle.strm_pair.specs.Prelude.{ModuleText, StreamText, laid_blocks, module_now, modules_now, names_now, queue_now, laid_now, Tables, owns}
 use Rattle.std.specs.List.{AllByRecursion}
-use Rattle.std.proofs.lemmas.Bool.Decides.{nat_tests}
-use Rattle.std.proofs.lemmas.List.Sums.{sum_by-cons}
-use Rattle.strm_types.specs.declared.kinds.MsgKind.{MsgKind}
 use Rattle.strm_types.specs.declared.kinds.MsgKind.TheVariants as kinds
-use Rattle.strm_types.specs.declared.names.Openness.{Openness}
-use Rattle.strm_types.specs.Flush.{is_data_kind}
-use Rattle.strm_types.specs.Kinds.{is_body_kind, is_control_kind}
 use Rattle.strm_types.specs.Queue as state
 use Rattle.strm_types.specs.Heads as heads
-use Rattle.strm_laws.specs.StackCosts.{EachOnce}
-use Rattle.strm_laws.specs.Stacked.{module_name}
-use Rattle.strm_laws.specs.Restorable.{StandsOn, is_part_kind}
-use Rattle.strm_blocks.specs.Blocks.{Block, StoreValue, block_at, list_at}
-use Rattle.strm_msg.specs.Messages.{message_of}
-use Rattle.strm_msg.proofs.Chains.{kind-is}
+use Rattle.strm_laws.specs.Restorable.{StandsOn}
 use Rattle.strm_queue.specs.declared.queue.Queue.{Queue}
-use Rattle.strm_queue.specs.Stored.{queue_in, HoldsReadable, IsHeadQueue}
-use Rattle.strm_queue.proofs.Placed.{ready-same}
-use Rattle.strm_head.specs.declared.head.Head.{Head}
-use Rattle.strm_head.specs.Heads.{head_in}
-use Rattle.strm_frame.specs.Stacks.{all_of}
-use Rattle.strm_frame.specs.declared.stack.Stack.{Stack}
-use Rattle.strm_image.specs.declared.modules.ModuleText.{ModuleText}
 use Rattle.strm_image.specs.declared.modules.ModuleText.TheVariants as texts
-use Rattle.strm_image.specs.declared.streams.StreamText.{StreamText}
 use Rattle.strm_image.specs.Counts as counts
-use Rattle.strm_image.specs.Counts.{laid_blocks, queue_blocks}
-use Rattle.strm_image.specs.ModuleTexts.{module_now, modules_now, names_now}
-use Rattle.strm_image.specs.QueueTexts.{queue_now}
-use Rattle.strm_image.specs.StreamTexts.{laid_now}
-use Rattle.strm_frame.specs.declared.queue_pair.Tables.{Tables}
+use Rattle.strm_image.specs.Counts.{queue_blocks}
 use Rattle.strm_pair.specs.declared.ends.StreamEnd.{StreamEnd}
 use Rattle.strm_pair.specs.declared.modules.AnyModule.{AnyModule}
 use Rattle.strm_pair.specs.AnyModules.{module_in}
-use Rattle.strm_frame.specs.Standings.{owns}
 use Rattle.strm_pair.specs.Laying.{IsStood, IsStreamText, stream_now}
 use Rattle.strm_pair.specs.Placing.{AreStacked, module_blocks}
 use Rattle.strm_pair.specs.Runs.{Spent}

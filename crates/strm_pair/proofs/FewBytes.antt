@@ -1,16 +1,7 @@
 -- How many bytes a call that isn't refused brings.
-use Rattle.std.proofs.Common.{ℕ, ◌≡◌, ◌<◌, ◌≤◌, ◌^◌, length, arith, length-append}
-use Rattle.std.specs.Prelude.{None}
-use Rattle.strm_types.specs.declared.events.Caller.{Caller}
-use Rattle.strm_types.specs.declared.events.Event.TheVariants.{Write, Put, Ioctl}
-use Rattle.strm_types.specs.Events.{Request, payload_of}
-use Rattle.strm_types.specs.Message.{part}
-use Rattle.strm_types.specs.Needs.{needs}
-use Rattle.strm_laws.specs.Refusals.{blocks_asked, refused_at_once}
-use Rattle.strm_laws.specs.State.{State}
-use Rattle.strm_types.specs.Write.{chunk_count}
-use Rattle.strm_laws.proofs.Balances.{parts-few}
-use Rattle.strm_laws.proofs.Replay.{met}
+use Rattle.strm_pair.proofs.Prelude.{ℕ, ◌≡◌, ◌<◌, ◌≤◌, length, arith, length-append, None, parts-few, met}
+use Rattle.strm_pair.specs.Prelude.{Caller, Write, Put, Ioctl, Request, payload_of, part, needs, blocks_asked, refused_at_once, State, chunk_count}
+use Rattle.std.proofs.Common.{◌^◌}
 use Rattle.strm_pair.proofs.Refusing.{few-asked}
 
 -- of no call that isn't refused at once, and for which a store has the blocks, there are more bytes than 32 bits count

@@ -1,23 +1,22 @@
 -- The flow control of a queue's bands, set one band after the other.
-use Rattle.std.proofs.Common.{ℕ, zero, suc, ◌≡◌, ◌<◌, ◌≤◌, ◌+◌, ◌-◌, Bool, true, false, List, [], ◌∷◌, ◌++◌, length, take, map, None, Some, refl, sym, ap, ◌∙◌, arith, get_or-set_other}
-use Rattle.std.specs.Prelude.{is_some, nat_lt, replicate, slice_index_or, slice_set}
-use Rattle.std.proofs.lemmas.Bool.Decides.{nat_tests}
-use Rattle.std.proofs.lemmas.List.{get_or-replicate, get_or_past, length-map, take_all}
-use Rattle.strm_types.specs.declared.limits.TheConstants.{BANDS}
+use Rattle.strm_pair.proofs.Prelude.{ℕ, zero, suc, ◌≡◌, ◌<◌, ◌≤◌, ◌+◌, ◌-◌, Bool, true, false, List, [], ◌∷◌, ◌++◌, length, take, map, refl, sym, ap}
+use Rattle.strm_pair.proofs.Prelude.{◌∙◌, arith, is_some, nat_lt, replicate, slice_index_or, nat_tests, length-map, take_all}
+use Rattle.strm_pair.specs.Prelude.{BANDS, plain_flow, plain_flows, QueueKind, First, Second, flow_now, read_flows, ◌>>=◌, behind_last, first_flow}
+use Rattle.strm_pair.specs.Prelude.{values_read}
+use Rattle.std.proofs.Common.{None, Some, get_or-set_other}
+use Rattle.std.specs.Prelude.{slice_set}
+use Rattle.std.proofs.lemmas.List.{get_or-replicate, get_or_past}
 use Rattle.strm_types.specs.Queue as plain
 use Rattle.strm_queue.specs.declared.flow.Flow as kept
-use Rattle.strm_queue.specs.Flows.{marked_with, plain_flow, plain_flows}
+use Rattle.strm_queue.specs.Flows.{marked_with}
 use Rattle.strm_queue.specs.Kept.{flow_at}
 use Rattle.strm_image.specs.declared.flows.Flow.{Flow}
 use Rattle.strm_image.specs.declared.passed.FlowsText.{FlowsText}
-use Rattle.strm_image.specs.declared.versions.QueueKind.{QueueKind}
 use Rattle.strm_image.specs.declared.versions.QueueKind.TheVariants as queues
 use Rattle.strm_image.specs.declared.versions.TheConstants.{FIRST_BANDS}
-use Rattle.strm_image.specs.declared.versions.Version.TheVariants.{First, Second}
-use Rattle.strm_image.specs.FlowTexts.{flow_now, read_flows}
-use Rattle.strm_image.specs.Format.{◌>>=◌, always, keep}
-use Rattle.strm_image.specs.Queues.{behind_last, few_flows, first_flow, flow, widened}
-use Rattle.strm_image.specs.Texts.{flows_now, values_read}
+use Rattle.strm_image.specs.Format.{always, keep}
+use Rattle.strm_image.specs.Queues.{few_flows, flow, widened}
+use Rattle.strm_image.specs.Texts.{flows_now}
 use Rattle.strm_image.proofs.Formats.{read_long}
 use Rattle.strm_image.proofs.TextRows.{map_replicate}
 use Rattle.strm_pair.specs.Standing.{no_flow, waits_at}

@@ -1,25 +1,11 @@
 -- A pair over a store with nothing in it, with an empty journal, is as new.
-use Rattle.std.proofs.Common.{ℕ, ◌≡◌, List, [], ap, sym, subst, refl, ◌∙◌}
-use Rattle.std.specs.Prelude.{◌≤◌, length, replicate}
-use Rattle.strm_types.specs.declared.limits.Config.{Config}
-use Rattle.strm_image.specs.declared.versions.Version.TheVariants.{Second}
-use Rattle.strm_image.specs.HasImage.{HasImage, imaged}
-use Rattle.strm_image.specs.Image.{image}
-use Rattle.strm_types.specs.Journal.{PlainEntry}
-use Rattle.strm_laws.specs.State.{opening}
-use Rattle.strm_types.specs.Cells.{plain}
-use Rattle.strm_types.specs.declared.rules.Fates.{Fates}
-use Rattle.strm_laws.specs.Kept.{told_by}
-use Rattle.strm_types.specs.Rules.{no_fates}
-use Rattle.strm_laws.specs.Step.{IsLegal}
-use Rattle.strm_laws.specs.Pair.{new_pair}
-use Rattle.strm_blocks.specs.Blocks.{Block, Held, StoreValue, empty_store}
+use Rattle.strm_pair.proofs.Prelude.{ℕ, ◌≡◌, List, [], ap, sym, subst, refl, ◌∙◌, replicate}
+use Rattle.strm_pair.specs.Prelude.{Config, Second, HasImage, imaged, image, PlainEntry, opening, plain, Fates, told_by, no_fates, IsLegal, new_pair}
+use Rattle.strm_pair.specs.Prelude.{Block, Held, StoreValue, empty_store, IsBase, FewBooked, AreWithinEntries}
+use Rattle.std.specs.Prelude.{◌≤◌, length}
 use Rattle.strm_pair.specs.declared.streams.Streams.{Streams}
 use Rattle.strm_pair.specs.declared.journal.Journal.{Journal}
 use Rattle.strm_pair.specs.Pairs.{state_in, AreHeld, free_in, journal_of}
-use Rattle.strm_laws.specs.Bases.{IsBase}
-use Rattle.strm_laws.specs.Ledgers.{FewBooked}
-use Rattle.strm_laws.specs.Restorable.{AreWithinEntries}
 use Rattle.strm_laws.proofs.BaseSteps.{opening-base}
 use Rattle.strm_pair.specs.PairViews.{pair_of, IsKept}
 use Rattle.strm_pair.specs.BaseTexts.{begun_at, image_room}

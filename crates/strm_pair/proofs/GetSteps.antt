@@ -1,25 +1,18 @@
 -- A get from a side's head: what it hands back is the answer.
-use Rattle.std.proofs.Common.{ℕ, ◌≡◌, ◌≤◌, ◌+◌, List, [], ◌++◌, length, min, append-nil, length-append, Option, refl, sym, ap, subst, ◌∙◌, arith}
-use Rattle.std.specs.Prelude.{None, Some, option_map}
-use Rattle.strm_types.specs.declared.answers.Answer.{Answer}
-use Rattle.strm_types.specs.declared.answers.Answer.TheVariants.{Msg}
-use Rattle.strm_types.specs.declared.limits.TheConstants.{READ_MAX}
+use Rattle.strm_pair.proofs.Prelude.{ℕ, ◌≡◌, ◌≤◌, ◌+◌, List, [], ◌++◌, length, append-nil, length-append, refl, sym, ap, subst, ◌∙◌, arith, None}
+use Rattle.strm_pair.proofs.Prelude.{Some, option_map, bytes-plain}
+use Rattle.strm_pair.specs.Prelude.{Answer, Msg, READ_MAX, Side, plain, part_len, reply_in, part, stream, StoreValue, messages_on}
+use Rattle.std.proofs.Common.{min, Option}
 use Rattle.strm_types.specs.declared.modes.Wanted.{Wanted}
-use Rattle.strm_types.specs.declared.names.Side.{Side}
 use Rattle.strm_types.specs.Events.{Reply, map_answer}
-use Rattle.strm_types.specs.Cells.{plain, bytes_of}
+use Rattle.strm_types.specs.Cells.{bytes_of}
 use Rattle.strm_types.specs.Gets.{Got, head_get, prio_got}
-use Rattle.strm_types.specs.Journal.{answer_len, part_len, reply_in}
-use Rattle.strm_types.specs.Message.{part}
+use Rattle.strm_types.specs.Journal.{answer_len}
 use Rattle.strm_types.specs.Heads as plain_state
-use Rattle.strm_laws.specs.State.{stream}
 use Rattle.strm_laws.proofs.GetKeeps.{get-control, get-data}
-use Rattle.strm_types.proofs.PlainCells.{bytes-plain}
 use Rattle.strm_laws.proofs.StoredCalls.{reply-back, reply-size}
-use Rattle.strm_blocks.specs.Blocks.{StoreValue}
 use Rattle.strm_head.specs.declared.getting.Gotten.{Gotten}
 use Rattle.strm_head.specs.Getting.{Gives}
-use Rattle.strm_queue.specs.Stored.{messages_on}
 use Rattle.strm_pair.specs.declared.streams.Streams.{Streams}
 use Rattle.strm_pair.specs.Pairs.{state_in, end_at}
 use Rattle.strm_pair.specs.Parts.{longest_part}

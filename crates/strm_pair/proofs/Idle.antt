@@ -1,16 +1,6 @@
 -- Nothing of a turn is under way at any module behind what closes, pushes and pops do.
-use Rattle.std.proofs.Common.{ℕ, List, [], ◌∷◌}
-use Rattle.strm_types.specs.declared.names.Side.{Side}
-use Rattle.strm_types.specs.declared.rules.Rule.{Rule}
-use Rattle.strm_types.specs.declared.rules.Rule.TheVariants.{EndClosed}
-use Rattle.strm_types.proofs.BySide.{set-all}
-use Rattle.strm_laws.specs.Closes.{head_emptied}
-use Rattle.strm_types.specs.Emptied.{of_all}
-use Rattle.strm_laws.specs.Kept.{AreIdle}
-use Rattle.strm_laws.specs.Pushes.{top_taken}
-use Rattle.strm_laws.specs.Stacked.{Standing}
-use Rattle.strm_laws.specs.State.{State, Stream, stream, with_stream}
-use Rattle.strm_laws.proofs.ModulesIdle.{AllIdle}
+use Rattle.strm_pair.proofs.Prelude.{ℕ, List, [], ◌∷◌, set-all, AllIdle}
+use Rattle.strm_pair.specs.Prelude.{Side, Rule, EndClosed, head_emptied, of_all, AreIdle, top_taken, Standing, State, Stream, stream, with_stream}
 
 -- at the modules of a side, and where they change
 pub idle-with : (side : Side) (t : Stream ℕ) (s : State ℕ) → AllIdle t.modules → AreIdle s → AreIdle (with_stream side t s)

@@ -1,13 +1,8 @@
 -- What is restored of an image, and the image of what was restored.
-use Rattle.std.proofs.Common.{ℕ, ◌≡◌, List, sym, ap, ◌∙◌}
-use Rattle.std.specs.Prelude.{IfOk, Result, Ok, Err}
-use Rattle.strm_types.specs.declared.limits.Config.{Config}
-use Rattle.strm_laws.specs.Pair.{PairState}
-use Rattle.strm_image.specs.declared.versions.Version.TheVariants.{Second}
-use Rattle.strm_image.specs.Format.{IsTextOf}
-use Rattle.strm_image.specs.HasImage.{counts_of, imaged}
-use Rattle.strm_image.specs.Image.{Imaged, image}
-use Rattle.strm_image.proofs.ReadRows.{same_images}
+use Rattle.strm_pair.proofs.Prelude.{ℕ, ◌≡◌, List, sym, ap, ◌∙◌, Result, Ok, Err, same_images}
+use Rattle.strm_pair.specs.Prelude.{Config, PairState, Second, IsTextOf, imaged, Imaged, image}
+use Rattle.std.specs.Prelude.{IfOk}
+use Rattle.strm_image.specs.HasImage.{counts_of}
 use Rattle.strm_pair.specs.Restored.{IsImageOf, restored}
 
 pub same-image : (bytes : List ℕ) (x y : Imaged) → IsImageOf bytes x → IsImageOf bytes y → x ≡ y

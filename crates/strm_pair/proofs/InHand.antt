@@ -1,18 +1,7 @@
 -- A message that was made while nobody is in a call is alone in hand, and the streams stay; so is one that was taken.
-use Rattle.std.proofs.Common.{ℕ, ◌≡◌, ◌≤◌, ◌+◌, ◌∷◌, sym, ap, subst, ◌∙◌, arith}
-use Rattle.strm_types.specs.declared.rules.Fates.{Fates}
-use Rattle.strm_types.specs.declared.spots.Spot.{Spot}
-use Rattle.strm_types.specs.Cells.{plain}
-use Rattle.strm_types.specs.Budgets.{most_of}
-use Rattle.strm_types.specs.Deliver.{Carried, tallied}
-use Rattle.strm_types.specs.Message.{Message}
-use Rattle.strm_laws.specs.Kept.{AreIdle}
-use Rattle.strm_laws.specs.Puts.{delivered}
-use Rattle.strm_laws.specs.Spares.{spare}
-use Rattle.strm_laws.specs.State.{State}
-use Rattle.strm_blocks.specs.Blocks.{StoreValue, held, in_hand}
-use Rattle.strm_msg.specs.Messages.{message_of, IsChain}
-use Rattle.strm_frame.specs.Hands.{Takes}
+use Rattle.strm_pair.proofs.Prelude.{ℕ, ◌≡◌, ◌≤◌, ◌+◌, ◌∷◌, sym, ap, subst, ◌∙◌, arith}
+use Rattle.strm_pair.specs.Prelude.{Fates, Spot, plain, most_of, Carried, tallied, Message, AreIdle, delivered, spare, State, StoreValue, held}
+use Rattle.strm_pair.specs.Prelude.{in_hand, message_of, IsChain, Takes}
 use Rattle.strm_pair.specs.declared.streams.Streams.{Streams}
 use Rattle.strm_pair.specs.Alone.{IsAlone}
 use Rattle.strm_pair.specs.Effects.{AreAtRest, Leads}

@@ -1,12 +1,7 @@
 -- What room in the plain journal says of the kept one.
-use Rattle.std.proofs.Common.{ℕ, ◌≡◌, ◌≤◌, ◌<◌, ◌+◌, Bool, true, false, List, length, refl, sym, ap, ◌∙◌, arith}
-use Rattle.std.specs.Prelude.{sum_by, ◌&&◌, nat_lt, nat_le}
-use Rattle.std.proofs.lemmas.Bool.Decides.{nat_tests}
-use Rattle.strm_types.specs.declared.entries.Entry.{Entry}
-use Rattle.strm_types.specs.declared.limits.Config.{Config}
-use Rattle.strm_laws.specs.Refusals.{has_room}
-use Rattle.strm_types.specs.Journal.{PlainEntry, entry_len, entries_in, room_used}
-use Rattle.strm_laws.proofs.JournalEntries.{length-entries_in, room_used-stored}
+use Rattle.strm_pair.proofs.Prelude.{ℕ, ◌≡◌, ◌≤◌, ◌<◌, ◌+◌, Bool, true, false, List, length, refl, sym, ap, ◌∙◌, arith, sum_by, ◌&&◌, nat_lt, nat_le}
+use Rattle.strm_pair.proofs.Prelude.{nat_tests, length-entries_in, room_used-stored}
+use Rattle.strm_pair.specs.Prelude.{Entry, Config, has_room, PlainEntry, entry_len, entries_in, room_used}
 use Rattle.strm_pair.specs.Journals.{has_room_for}
 
 both : (a b : Bool) → (a && b) ≡ true → (a ≡ true) × (b ≡ true)

@@ -1,27 +1,17 @@
 -- What a module of one kind did, one of any kind did: of each kind it stands for the same, fits the same, and keeps the same.
-use Rattle.std.proofs.Common.{ℕ, ◌≡◌, Bool, true, false, List, refl, sym, ap, subst, ◌∙◌}
+use Rattle.strm_pair.proofs.Prelude.{ℕ, ◌≡◌, Bool, true, false, List, refl, sym, ap, subst, ◌∙◌, Option, None}
+use Rattle.strm_pair.specs.Prelude.{Fates, Acted, Parcel, Serving, stood, Module, OfLdterm, OfPtem, OfPckt, Standing, StoreValue, Acts, QueuePair}
+use Rattle.strm_pair.specs.Prelude.{Served, Puts, Handles, Hands, HasRoom, parcels_in, sent_of, times_sent, later_cost, Fits, keeps_of, owns}
+use Rattle.strm_pair.specs.Prelude.{queues_in, standing, standing_in, ptem_in, pckt_in}
 use Rattle.std.proofs.lemmas.Bool.{OnTrue_at, OnTrue_from}
-use Rattle.std.specs.Prelude.{Option, None}
-use Rattle.strm_types.specs.declared.rules.Fates.{Fates}
-use Rattle.strm_types.specs.Deliver.{Acted, Parcel}
-use Rattle.strm_types.specs.Service.{Serving, done_by, served_by}
+use Rattle.strm_types.specs.Service.{done_by, served_by}
 use Rattle.strm_types.specs.Standings as plain
-use Rattle.strm_types.specs.Standings.{of_part, stood}
-use Rattle.strm_laws.specs.Stacked.{Module, OfLdterm, OfPtem, OfPckt, Standing, of_kind}
-use Rattle.strm_blocks.specs.Blocks.{StoreValue}
-use Rattle.strm_frame.specs.declared.modules.Acts.{Acts}
-use Rattle.strm_frame.specs.declared.queue_pair.QueuePair.{QueuePair}
-use Rattle.strm_frame.specs.declared.service.Served.{Served}
-use Rattle.strm_frame.specs.Does.{Puts, Serves}
-use Rattle.strm_frame.specs.Hands.{Handles, Hands, HasRoom}
-use Rattle.strm_frame.specs.Outboxes.{parcels_in, sent_of, times_sent}
-use Rattle.strm_frame.specs.Serves.{later_cost}
-use Rattle.strm_frame.specs.Standings.{Fits, keeps_of, owns, queues_in, standing, standing_in}
+use Rattle.strm_types.specs.Standings.{of_part}
+use Rattle.strm_laws.specs.Stacked.{of_kind}
+use Rattle.strm_frame.specs.Does.{Serves}
 use Rattle.strm_ldterm.specs.Stands as stands
 use Rattle.strm_pty.specs.declared.pckt.Pckt.{Pckt}
 use Rattle.strm_pty.specs.declared.ptem.Ptem.{Ptem}
-use Rattle.strm_pty.specs.Beside.{ptem_in}
-use Rattle.strm_pty.specs.Packs.{pckt_in}
 use Rattle.strm_pair.specs.declared.modules.AnyModule.{AnyModule}
 use Rattle.strm_pair.specs.declared.modules.AnyModule.TheVariants as kinds
 use Rattle.strm_pair.specs.AnyModules.{IsKindHeld, kind_in, kind_keeps}

@@ -1,9 +1,7 @@
 -- An ldterm that was made of a text, with its two queues.
-use Rattle.std.proofs.Common.{ℕ, ◌≡◌, ◌<◌, ◌+◌, arith}
-use Rattle.strm_blocks.specs.Blocks.{StoreValue, list_at}
+use Rattle.strm_pair.proofs.Prelude.{ℕ, ◌≡◌, ◌<◌, ◌+◌, arith, ready-same}
+use Rattle.strm_pair.specs.Prelude.{StoreValue, list_at, IsReady}
 use Rattle.strm_queue.specs.declared.queue.Queue.{Queue}
-use Rattle.strm_queue.specs.Stored.{IsReady}
-use Rattle.strm_queue.proofs.Placed.{ready-same}
 use Rattle.strm_pair.specs.Standing.{Fills}
 
 -- ---- its queues

@@ -1,11 +1,6 @@
 -- What steps lead to, one after the other.
-use Rattle.std.proofs.Common.{ℕ, List, [], ◌++◌, refl, sym, ap, subst, ◌∙◌}
-use Rattle.strm_types.specs.declared.rules.Fates.{Fates}
-use Rattle.strm_types.specs.Deliver.{Carried, Fate, tallied}
-use Rattle.strm_laws.specs.Kept.{AreIdle}
-use Rattle.strm_laws.specs.State.{State}
-use Rattle.strm_blocks.specs.Blocks.{StoreValue}
-use Rattle.strm_ldterm.proofs.Flushed.{tallied-append}
+use Rattle.strm_pair.proofs.Prelude.{ℕ, List, [], ◌++◌, refl, sym, ap, subst, ◌∙◌, tallied-append}
+use Rattle.strm_pair.specs.Prelude.{Fates, Carried, Fate, tallied, AreIdle, State, StoreValue}
 use Rattle.strm_pair.specs.declared.streams.Streams.{Streams}
 use Rattle.strm_pair.specs.Effects.{AreAtRest, Becomes, Leads}
 use Rattle.strm_pair.specs.Pairs.{state_in, AreHeld, SamePool}

@@ -1,3 +1,4 @@
+pub mod Prelude
 pub mod Peeked
 pub mod Idle
 pub mod Leading

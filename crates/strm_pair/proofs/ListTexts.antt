@@ -1,22 +1,15 @@
 -- The texts of messages are written one behind the other, with their number in front.
-use Rattle.std.proofs.Common.{ℕ, ◌≡◌, ◌<◌, List, [], ◌∷◌, length, map, sym, ap, ◌∙◌, arith}
-use Rattle.std.specs.Prelude.{sum_by, min, true}
+use Rattle.strm_pair.proofs.Prelude.{ℕ, ◌≡◌, ◌<◌, List, [], ◌∷◌, length, map, sym, ap, ◌∙◌, arith, sum_by, min, length-map, sum_by-cons, put_both}
+use Rattle.strm_pair.proofs.Prelude.{put_nothing, few-bytes}
+use Rattle.strm_pair.specs.Prelude.{Block, StoreValue, IsStore, list_at, seen_in, QueueKind, Second, message, Given, put, message_of, IsChain}
+use Rattle.strm_pair.specs.Prelude.{messages_on}
+use Rattle.std.specs.Prelude.{true}
 use Rattle.std.specs.Int.{to_be_bytes, w32}
 use Rattle.std.specs.List.{AllByRecursion}
-use Rattle.std.proofs.lemmas.List.{length-map}
-use Rattle.std.proofs.lemmas.List.Sums.{sum_by-cons}
-use Rattle.strm_blocks.specs.Blocks.{Block, StoreValue, IsStore, list_at}
-use Rattle.strm_blocks.specs.Outcomes.{seen_in, seen_on}
-use Rattle.strm_image.specs.declared.versions.QueueKind.{QueueKind}
-use Rattle.strm_image.specs.declared.versions.Version.TheVariants.{Second}
-use Rattle.strm_image.specs.Messages.{message, messages}
-use Rattle.strm_image.specs.Sinks.{Given, put}
-use Rattle.strm_image.proofs.SinkRows.{put_both, put_nothing}
+use Rattle.strm_blocks.specs.Outcomes.{seen_on}
+use Rattle.strm_image.specs.Messages.{messages}
 use Rattle.strm_image.proofs.WrittenRows.{messages_told}
-use Rattle.strm_msg.specs.Messages.{message_of, IsChain}
 use Rattle.strm_queue.specs.Kept.{bytes_of}
-use Rattle.strm_queue.specs.Stored.{messages_on}
-use Rattle.strm_queue.proofs.Bounds.{few-bytes}
 use Rattle.strm_queue.proofs.Sizes.{list-enough}
 use Rattle.strm_pair.specs.Writings.{ended, texts_of}
 use Rattle.strm_pair.specs.declared.images.texts.Writing.{Writing}

@@ -1,16 +1,8 @@
 -- The queues that a module is given as its name makes it.
-use Rattle.std.proofs.Common.{ℕ, zero, suc, ◌≡◌, ◌≢◌, ◌<◌, ◌≤◌, ◌+◌, Bool, true, false, cond, [], refl, sym, ap, arith}
-use Rattle.std.proofs.lemmas.Bool.Decides.{nat_tests}
-use Rattle.std.proofs.lemmas.Bool.{false≢true}
-use Rattle.std.specs.Prelude.{Option, None, Some, IfSome, is_some, ◌==◌}
-use Rattle.strm_types.specs.declared.names.ModuleName.{ModuleName}
+use Rattle.strm_pair.proofs.Prelude.{ℕ, zero, suc, ◌≡◌, ◌≢◌, ◌<◌, ◌≤◌, ◌+◌, Bool, true, false, cond, [], refl, sym, ap, arith, nat_tests, false≢true}
+use Rattle.strm_pair.proofs.Prelude.{Option, None, Some, IfSome, is_some, ◌==◌, once-self}
+use Rattle.strm_pair.specs.Prelude.{ModuleName, queues_named, StoreValue, list_at, QueuePair, once, IsPairReady, queues_in, queues_own}
 use Rattle.strm_types.specs.Standings.{new_pair}
-use Rattle.strm_laws.specs.Pushes.{queues_named}
-use Rattle.strm_blocks.specs.Blocks.{StoreValue, list_at}
-use Rattle.strm_frame.proofs.Handing.{once-self}
-use Rattle.strm_frame.specs.declared.queue_pair.QueuePair.{QueuePair}
-use Rattle.strm_frame.specs.Hands.{once}
-use Rattle.strm_frame.specs.Standings.{IsPairReady, queues_in, queues_own}
 use Rattle.strm_pair.specs.Given.{GivenFor}
 use Rattle.strm_pair.proofs.ModuleTaken.{once-is}
 

@@ -1,25 +1,21 @@
 -- Messages that are made of two runs of blocks, and what they stand for.
-use Rattle.std.proofs.Common.{ℕ, zero, suc, ◌≡◌, ◌≢◌, ◌≤◌, ◌<◌, ◌+◌, inl, inr, true, false, List, [], ◌∷◌, ◌++◌, length, map, Option, None, Some, refl, sym, ap, subst, ◌∙◌, arith, append-nil}
+use Rattle.strm_pair.proofs.Prelude.{ℕ, zero, suc, ◌≡◌, ◌≢◌, ◌≤◌, ◌<◌, ◌+◌, inl, inr, true, false, List, [], ◌∷◌, ◌++◌, length, map, refl, sym, ap}
+use Rattle.strm_pair.proofs.Prelude.{subst, ◌∙◌, arith, append-nil, control-front, data-behind, data-all, plain-is}
+use Rattle.strm_pair.specs.Prelude.{MsgKind, is_data_kind, is_control_kind, Message, is_high_priority, chunk_count, chunks_of, Block, StoreValue}
+use Rattle.strm_pair.specs.Prelude.{IsInHand, IsFreshName, block_at, in_hand, held, dropped, free_m, free_d, HasRoom, control_blocks, data_blocks}
+use Rattle.strm_pair.specs.Prelude.{message_of, part_of, AreData, IsChain, bytes_in}
+use Rattle.std.proofs.Common.{Option, None, Some}
 use Rattle.std.specs.List.{AllByRecursion}
-use Rattle.strm_types.specs.declared.kinds.MsgKind.{MsgKind}
 use Rattle.strm_types.specs.declared.kinds.MsgKind.TheVariants as kinds
-use Rattle.strm_types.specs.Flush.{is_data_kind}
-use Rattle.strm_types.specs.Kinds.{is_control_kind}
-use Rattle.strm_types.specs.Message.{Message, is_high_priority}
-use Rattle.strm_types.specs.Write.{chunk_count, chunks_of}
-use Rattle.strm_blocks.specs.Blocks.{Block, StoreValue, IsInHand, IsFreshName, block_at, in_hand, held, dropped, changed, free_m, free_d}
-use Rattle.strm_frame.specs.Hands.{HasRoom}
-use Rattle.strm_msg.specs.Bytes.{bytes_of, control_blocks, data_blocks, data_bytes}
+use Rattle.strm_blocks.specs.Blocks.{changed}
+use Rattle.strm_msg.specs.Bytes.{bytes_of, data_bytes}
 use Rattle.strm_msg.specs.Made.{MadeOf, TooFew, copies_of, piece, pieces}
-use Rattle.strm_msg.specs.Messages.{message_of, part_of, AreData, IsChain}
 use Rattle.strm_msg.proofs.AdjustingBytes.{bytes-append}
-use Rattle.strm_msg.proofs.Chains.{control-front, data-behind, data-shown, data-all}
+use Rattle.strm_msg.proofs.Chains.{data-shown}
 use Rattle.strm_msg.proofs.Counts.{free_m-joined, free_d-joined}
 use Rattle.strm_msg.proofs.Hands.{grown, held-apart, held-chain}
-use Rattle.strm_msg.proofs.MadePlain.{plain-is}
 use Rattle.strm_msg.proofs.Making.{made-in_hand, made-keeps}
 use Rattle.strm_msg.proofs.Pieces.{chunk-some, length-pieces}
-use Rattle.strm_image.specs.Messages.{bytes_in}
 use Rattle.strm_pair.specs.Runs.{IsRun, IsPart, Joins, Spent, run_blocks}
 
 -- ---- a run of pieces

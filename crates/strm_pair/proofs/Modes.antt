@@ -1,31 +1,16 @@
 -- A head that is told its read mode, and what stands on the stream beside it.
-use Rattle.std.proofs.Common.{ℕ, suc, ◌≡◌, Bool, true, false, cond, List, [], ◌∷◌, refl, sym, ap, ◌∙◌, arith}
-use Rattle.std.proofs.lemmas.Bool.Decides.{nat_tests}
-use Rattle.std.specs.Prelude.{Option, None, Some, is_some, ◌&&◌, ◌||◌, not, nat_le, nat_lt, min, length}
+use Rattle.strm_pair.proofs.Prelude.{ℕ, suc, ◌≡◌, Bool, true, false, cond, List, [], ◌∷◌, refl, sym, ap, ◌∙◌, arith, nat_tests, Option, None, Some}
+use Rattle.strm_pair.proofs.Prelude.{is_some, ◌&&◌, ◌||◌, not, nat_le, nat_lt, min, get-set-same}
+use Rattle.strm_pair.specs.Prelude.{MODULES, ReadMode, ModuleName, Side, Master, Slave, Up, EndClosed, plain, Carried, Fate, Goes, Took, before_among}
+use Rattle.strm_pair.specs.Prelude.{before_by, places_of, cells_of, first_place, stands, direction_at, driver_of, enable_if, is_open, other, place_of}
+use Rattle.strm_pair.specs.Prelude.{same_module, mode_message, head_above, may_stand, mode_put, module_named, named_by, with_modules, delivered}
+use Rattle.strm_pair.specs.Prelude.{is_none_left, Standing, module_name, State, Stream, stream, with_stream}
+use Rattle.std.specs.Prelude.{length}
 use Rattle.std.specs.List.{AllByRecursion}
-use Rattle.strm_types.specs.declared.limits.TheConstants.{MODULES}
-use Rattle.strm_types.specs.declared.modes.ReadMode.{ReadMode}
-use Rattle.strm_types.specs.declared.names.ModuleName.{ModuleName}
 use Rattle.strm_types.specs.declared.names.ModuleName.TheVariants as names
-use Rattle.strm_types.specs.declared.names.Side.{Side}
-use Rattle.strm_types.specs.declared.names.Side.TheVariants.{Master, Slave}
-use Rattle.strm_types.specs.declared.names.Way.TheVariants.{Up}
-use Rattle.strm_types.specs.declared.rules.Rule.TheVariants.{EndClosed}
-use Rattle.strm_types.specs.Cells.{plain}
-use Rattle.strm_types.specs.Deliver.{Carried, Fate, Goes, Took}
-use Rattle.strm_laws.specs.Earlier.{before_among, before_by, places_of}
 use Rattle.strm_types.specs.Heads.{with_options}
-use Rattle.strm_types.specs.Message.{cells_of}
-use Rattle.strm_types.specs.ModuleQueues.{first_place}
-use Rattle.strm_types.specs.Modules.{stands}
-use Rattle.strm_types.specs.Names.{direction_at, driver_of, enable_if, is_open, other, place_of, same_module}
-use Rattle.strm_types.specs.Options.{options_in, mode_message, mode_number}
-use Rattle.strm_types.proofs.BySide.{get-set-same}
-use Rattle.strm_laws.specs.Pushes.{enable_waiting, head_above, let_come, may_stand, mode_on_push, mode_put, module_named, named_by, pushed_named, with_modules}
-use Rattle.strm_laws.specs.Puts.{delivered}
-use Rattle.strm_types.specs.Queue.{is_none_left}
-use Rattle.strm_laws.specs.Stacked.{Standing, module_name}
-use Rattle.strm_laws.specs.State.{State, Stream, stream, with_stream}
+use Rattle.strm_types.specs.Options.{options_in, mode_number}
+use Rattle.strm_laws.specs.Pushes.{enable_waiting, let_come, mode_on_push, pushed_named}
 use Rattle.strm_laws.proofs.FlushDelivered.{carries, went_on}
 use Rattle.strm_pair.specs.AnyModules.{HasAsNamed}
 

@@ -1,26 +1,15 @@
 -- A module that is pushed on a stack of others.
-use Rattle.std.proofs.Common.{ℕ, zero, suc, ◌≡◌, ◌≤◌, ◌<◌, ◌+◌, Bool, true, false, List, [], ◌∷◌, map, refl, sym, ap, subst, ◌∙◌, arith}
-use Rattle.std.proofs.lemmas.Bool.{false≢true}
-use Rattle.std.proofs.lemmas.List.Sums.{sum_by-cons}
+use Rattle.strm_pair.proofs.Prelude.{ℕ, zero, suc, ◌≡◌, ◌≤◌, ◌<◌, ◌+◌, Bool, true, false, List, [], ◌∷◌, map, refl, sym, ap, subst, ◌∙◌, arith}
+use Rattle.strm_pair.proofs.Prelude.{false≢true, sum_by-cons, Option, None, is_some, Some, IfSome, Result, Ok, Err, ◌&&◌, not, nat_lt, once-self}
+use Rattle.strm_pair.specs.Prelude.{MODULES, ModuleName, stands, place_of, same_module, stood, may_stand, module_named, named_by, Standing, kind_name}
+use Rattle.strm_pair.specs.Prelude.{module_name, StoreValue, list_at, all_of, AreHeld, Stack, Tables, QueuePair, owns, queues_in, queues_own}
 use Rattle.std.specs.List.{AllByRecursion}
-use Rattle.std.specs.Prelude.{Option, None, is_some, Some, IfSome, Result, Ok, Err, MatchResult, ◌&&◌, not, nat_lt, length}
-use Rattle.strm_types.specs.declared.limits.TheConstants.{MODULES}
-use Rattle.strm_types.specs.declared.names.ModuleName.{ModuleName}
+use Rattle.std.specs.Prelude.{MatchResult, length}
 use Rattle.strm_types.specs.declared.names.ModuleName.TheVariants as names
-use Rattle.strm_types.specs.Modules.{may_push, stands}
-use Rattle.strm_types.specs.Names.{place_of, same_module}
-use Rattle.strm_types.specs.Standings.{stood}
-use Rattle.strm_laws.specs.Pushes.{kind_named, may_stand, module_named, named_by}
-use Rattle.strm_laws.specs.Stacked.{Standing, kind_name, module_name}
-use Rattle.strm_blocks.specs.Blocks.{StoreValue, list_at}
-use Rattle.strm_frame.specs.Stacks.{all_of, AreHeld}
-use Rattle.strm_frame.specs.declared.stack.Stack.{Stack}
-use Rattle.strm_frame.specs.declared.queue_pair.Tables.{Tables}
+use Rattle.strm_types.specs.Modules.{may_push}
+use Rattle.strm_laws.specs.Pushes.{kind_named}
 use Rattle.strm_pair.specs.declared.modules.AnyModule.{AnyModule}
 use Rattle.strm_pair.specs.AnyModules.{AnyStanding, IsFresh, IsHeld, any-has, keeps, kind_in, module_in}
-use Rattle.strm_frame.specs.declared.queue_pair.QueuePair.{QueuePair}
-use Rattle.strm_frame.specs.Standings.{owns, queues_in, queues_own}
-use Rattle.strm_frame.proofs.Handing.{once-self}
 use Rattle.strm_pair.specs.Given.{GivenFor}
 use Rattle.strm_pair.proofs.MadeModules.{given-are, given-ready, own-apart, own-within, some-own}
 use Rattle.strm_pair.proofs.Modes.{bare, neither}

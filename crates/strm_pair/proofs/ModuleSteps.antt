@@ -1,42 +1,17 @@
 -- What modules do: a side's stack changes with the lists that it owns and the messages that it keeps, and all else stays.
-use Rattle.std.proofs.Common.{ℕ, zero, suc, ◌≡◌, ◌≤◌, ◌<◌, ◌+◌, ◌-◌, List, length, map, refl, sym, ap, subst, ◌∙◌, arith}
-use Rattle.std.specs.Prelude.{◌*◌, ◌^◌, slice_index_or, Option, None}
-use Rattle.strm_types.specs.declared.books.Book.{Book}
-use Rattle.strm_types.specs.declared.both.Both.{Both}
-use Rattle.strm_types.specs.declared.names.Dir.{Dir}
-use Rattle.strm_types.specs.declared.names.Dir.TheVariants.{MasterToSlave, SlaveToMaster}
-use Rattle.strm_types.specs.declared.names.Place.{Place}
-use Rattle.strm_types.specs.declared.names.QueueName.{QueueName}
-use Rattle.strm_types.specs.declared.names.Side.{Side}
-use Rattle.strm_types.specs.declared.names.Way.{Way}
-use Rattle.strm_types.specs.declared.rules.Fates.{Fates}
-use Rattle.strm_types.specs.declared.spots.Note.{Note}
-use Rattle.strm_types.specs.declared.spots.Spot.{Spot}
-use Rattle.strm_types.specs.Cells.{plain}
-use Rattle.strm_types.specs.Deliver.{Acted, Fate, Took, tallied}
-use Rattle.strm_laws.specs.Earlier.{places_of}
-use Rattle.strm_types.specs.Input.{made_of}
-use Rattle.strm_types.specs.Message.{Message}
-use Rattle.strm_types.specs.ModuleQueues.{at_place}
-use Rattle.strm_types.specs.Both.{set}
-use Rattle.strm_types.specs.Names.{other}
-use Rattle.strm_types.proofs.BySide.{get-map, get-set-same}
-use Rattle.strm_laws.specs.Puts.{earlier_at, made_above, module_acted, noted, put_at_module}
-use Rattle.strm_laws.specs.Spares.{module_packs, packet_most, spare, spare_behind}
-use Rattle.strm_laws.specs.StackCosts.{EachOnce, module_takes}
-use Rattle.strm_laws.specs.Stacked.{Standing, module_name}
-use Rattle.strm_laws.specs.State.{State, Stream, book, stream, with_stream}
-use Rattle.strm_laws.proofs.Booked.{between-counts, booked-on, made-within, made_in, master-told, slave-told}
-use Rattle.strm_laws.proofs.Noted.{noted-same}
+use Rattle.strm_pair.proofs.Prelude.{ℕ, zero, suc, ◌≡◌, ◌≤◌, ◌<◌, ◌+◌, ◌-◌, List, length, map, refl, sym, ap, subst, ◌∙◌, arith, ◌*◌, ◌^◌}
+use Rattle.strm_pair.proofs.Prelude.{slice_index_or, Option, None, get-map, get-set-same, between-counts, made-within, made_in, master-told}
+use Rattle.strm_pair.proofs.Prelude.{slave-told, noted-same, keep-names, ready-same}
+use Rattle.strm_pair.specs.Prelude.{Book, Both, Dir, MasterToSlave, SlaveToMaster, Place, QueueName, Side, Way, Fates, Note, Spot, plain, Acted, Fate}
+use Rattle.strm_pair.specs.Prelude.{Took, tallied, places_of, made_of, Message, at_place, set, other, earlier_at, module_acted, noted, put_at_module}
+use Rattle.strm_pair.specs.Prelude.{spare, spare_behind, EachOnce, module_takes, Standing, module_name, State, Stream, book, stream, with_stream}
+use Rattle.strm_pair.specs.Prelude.{IsStore, StoreValue, list_at, queue_in, HoldsReadable, Acts, AreIn, CanPut, Handles, OnlyOwn, SamePool, Spends}
+use Rattle.strm_pair.specs.Prelude.{once, message_in, sent_of, times_sent}
+use Rattle.strm_laws.specs.Puts.{made_above}
+use Rattle.strm_laws.specs.Spares.{module_packs, packet_most}
+use Rattle.strm_laws.proofs.Booked.{booked-on}
 use Rattle.strm_laws.proofs.PlainPuts.{among-same}
 use Rattle.strm_laws.proofs.StackSpares.{among-makes, among-one, spare-fits}
-use Rattle.strm_laws.proofs.StackStays.{keep-names}
-use Rattle.strm_blocks.specs.Blocks.{IsStore, StoreValue, list_at}
-use Rattle.strm_queue.specs.Stored.{queue_in, HoldsReadable}
-use Rattle.strm_queue.proofs.Placed.{ready-same}
-use Rattle.strm_frame.specs.declared.modules.Acts.{Acts}
-use Rattle.strm_frame.specs.Hands.{AreIn, CanPut, Handles, OnlyOwn, SamePool, Spends, once}
-use Rattle.strm_frame.specs.Outboxes.{message_in, sent_of, times_sent}
 use Rattle.strm_pair.specs.declared.ends.StreamEnd.{StreamEnd}
 use Rattle.strm_pair.specs.declared.streams.Streams.{Streams}
 use Rattle.strm_pair.specs.Framing.{kept-parts, kept-with}

@@ -1,35 +1,16 @@
 -- The module on top of a stack, taken off it.
-use Rattle.std.proofs.Common.{ℕ, zero, suc, ◌≡◌, ◌<◌, ◌+◌, Bool, true, false, cond, List, [], ◌∷◌, map, refl, sym, ap, subst, ◌∙◌, arith}
-use Rattle.std.proofs.lemmas.Bool.Decides.{nat_tests}
-use Rattle.std.proofs.lemmas.List.Sums.{sum_by-cons}
-use Rattle.std.specs.Prelude.{Option, None, Some, ◌==◌}
-use Rattle.strm_types.specs.declared.names.ModuleName.{ModuleName}
+use Rattle.strm_pair.proofs.Prelude.{ℕ, zero, suc, ◌≡◌, ◌<◌, ◌+◌, Bool, true, false, cond, List, [], ◌∷◌, map, refl, sym, ap, subst, ◌∙◌, arith}
+use Rattle.strm_pair.proofs.Prelude.{nat_tests, sum_by-cons, Option, None, Some, ◌==◌, all-gone}
+use Rattle.strm_pair.specs.Prelude.{ModuleName, Side, Up, Down, Fates, Rule, tallied, of_all, emptied, none_goes, queue_behind, act_among, top_name}
+use Rattle.strm_pair.specs.Prelude.{Message, Standing, module_name, Block, StoreValue, list_at, message_of, FreesBlocks, queue_in, once, OnlyOwn}
+use Rattle.strm_pair.specs.Prelude.{SameHand, all_of, AreHeld, Stack, QueuePair, owns, queues_in, queues_own}
 use Rattle.strm_types.specs.declared.names.ModuleName.TheVariants as names
-use Rattle.strm_types.specs.declared.names.Side.{Side}
-use Rattle.strm_types.specs.declared.names.Way.TheVariants.{Up, Down}
-use Rattle.strm_types.specs.declared.rules.Fates.{Fates}
-use Rattle.strm_types.specs.declared.rules.Rule.{Rule}
-use Rattle.strm_types.specs.Deliver.{tallied}
-use Rattle.strm_types.specs.Emptied.{of_all, emptied, none_goes, queue_behind}
-use Rattle.strm_types.specs.Modules.{act_among, top_name}
-use Rattle.strm_types.specs.Message.{Message}
 use Rattle.strm_types.specs.Queue as queue
 use Rattle.strm_types.specs.Service.{queues_cleared}
 use Rattle.strm_types.specs.Standings as plain
 use Rattle.strm_types.specs.Standings.{messages_on}
-use Rattle.strm_laws.specs.Stacked.{Standing, module_name}
-use Rattle.strm_blocks.specs.Blocks.{Block, StoreValue, list_at}
-use Rattle.strm_msg.specs.Messages.{message_of}
-use Rattle.strm_queue.specs.Stored.{FreesBlocks, queue_in}
-use Rattle.strm_frame.specs.Hands.{once, OnlyOwn}
-use Rattle.strm_frame.specs.Serves.{SameHand}
-use Rattle.strm_frame.specs.Stacks.{all_of, AreHeld}
-use Rattle.strm_frame.specs.declared.stack.Stack.{Stack}
-use Rattle.strm_frame.proofs.Seeking.{all-gone}
-use Rattle.strm_frame.specs.declared.queue_pair.QueuePair.{QueuePair}
 use Rattle.strm_pair.specs.declared.modules.AnyModule.{AnyModule}
 use Rattle.strm_pair.specs.AnyModules.{AnyStanding, IsHeld, keeps, module_in}
-use Rattle.strm_frame.specs.Standings.{owns, queues_in, queues_own}
 use Rattle.strm_pair.specs.declared.stacks.Taken.{Taken}
 use Rattle.strm_pair.specs.Taken.{TookTop, let_go_of}
 

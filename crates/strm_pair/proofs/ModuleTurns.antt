@@ -1,32 +1,19 @@
 -- What a turn of a module's queue begins with, where nothing of one is under way.
-use Rattle.std.proofs.Common.{ℕ, zero, suc, ◌≡◌, ◌≤◌, ◌<◌, ◌-◌, true, false, cond, List, [], ◌∷◌, length, map, refl, sym, ap, ◌∙◌, arith}
-use Rattle.std.specs.Prelude.{◌&&◌, not, slice_index_or, Option, None, Some, is_some}
+use Rattle.strm_pair.proofs.Prelude.{ℕ, zero, suc, ◌≡◌, ◌≤◌, ◌<◌, ◌-◌, true, false, cond, List, [], ◌∷◌, length, map, refl, sym, ap, ◌∙◌, arith, ◌&&◌}
+use Rattle.strm_pair.proofs.Prelude.{not, slice_index_or, Option, None, Some, is_some, get-set-same, index-map}
+use Rattle.strm_pair.specs.Prelude.{Turn, Idle, Blocked, QueueName, Side, Way, Up, Down, Spot, plain, AreIdle, at_place, place_past, messages_at}
+use Rattle.strm_pair.specs.Prelude.{module_turned, moved_within, place_named, stayed_at, change_among, has_room_past, waits_on, writer_waits}
+use Rattle.strm_pair.specs.Prelude.{is_none_left, first_size, IsAtRest, KindRests, Module, OfLdterm, Standing, module_asks, State, Stream, stream}
+use Rattle.strm_pair.specs.Prelude.{none_there, TurnOutcome, stayed_put}
 use Rattle.std.specs.List.{AllByRecursion}
-use Rattle.strm_types.specs.declared.answers.Turn.{Turn}
-use Rattle.strm_types.specs.declared.answers.Turn.TheVariants.{Idle, Blocked}
 use Rattle.strm_types.specs.declared.kinds.Band.{Band}
-use Rattle.strm_types.specs.declared.names.QueueName.{QueueName}
-use Rattle.strm_types.specs.declared.names.Side.{Side}
-use Rattle.strm_types.specs.declared.names.Way.{Way}
-use Rattle.strm_types.specs.declared.names.Way.TheVariants.{Up, Down}
 use Rattle.strm_types.specs.declared.spots.Asks.{Asks}
 use Rattle.strm_types.specs.declared.spots.Asks.TheVariants as asked
-use Rattle.strm_types.specs.declared.spots.Spot.{Spot}
-use Rattle.strm_types.specs.Cells.{plain}
-use Rattle.strm_types.proofs.BySide.{get-set-same}
-use Rattle.strm_laws.specs.Kept.{AreIdle}
 use Rattle.strm_types.specs.Ldterms.{is_between}
-use Rattle.strm_types.specs.ModuleQueues.{at_place, place_past, waits}
-use Rattle.strm_types.specs.Standings.{messages_at}
-use Rattle.strm_laws.specs.ModuleTurns.{asked_turn, module_turned, moved_within, place_named, stayed_at, turned_named}
-use Rattle.strm_types.specs.Modules.{change_among}
-use Rattle.strm_laws.specs.Past.{has_room_past, waits_on, writer_waits}
-use Rattle.strm_types.specs.Queue.{is_none_left, first_size}
-use Rattle.strm_laws.specs.Stacked.{IsAtRest, KindRests, Module, OfLdterm, Standing, kind_rests, module_asks, module_rests}
-use Rattle.strm_laws.specs.State.{State, Stream, stream}
-use Rattle.strm_laws.specs.TurnCalls.{none_there}
-use Rattle.strm_laws.specs.TurnOutcomes.{TurnOutcome, stayed_put}
-use Rattle.strm_laws.proofs.ModuleTurnCalls.{index-map, whole}
+use Rattle.strm_types.specs.ModuleQueues.{waits}
+use Rattle.strm_laws.specs.ModuleTurns.{asked_turn, turned_named}
+use Rattle.strm_laws.specs.Stacked.{kind_rests, module_rests}
+use Rattle.strm_laws.proofs.ModuleTurnCalls.{whole}
 use Rattle.strm_pair.proofs.NamedPlaces.{found-low}
 use Rattle.strm_pair.specs.ModuleTurned.{MayMove}
 

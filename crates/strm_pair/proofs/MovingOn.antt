@@ -1,47 +1,19 @@
 -- A turn that moved something treated its message whole, or a byte of it at least.
-use Rattle.std.proofs.Common.{ℕ, zero, suc, ◌≡◌, ◌≤◌, ◌<◌, ◌-◌, Bool, true, false, cond, List, [], ◌∷◌, length, map, inl, inr, refl, sym, ap, subst, ◌∙◌, arith}
-use Rattle.std.specs.Prelude.{◌&&◌, nat_le, nat_lt, not, slice_index_or, Some, Option, None}
+use Rattle.strm_pair.proofs.Prelude.{ℕ, zero, suc, ◌≡◌, ◌≤◌, ◌<◌, ◌-◌, Bool, true, false, cond, List, [], ◌∷◌, length, map, inl, inr, refl, sym, ap}
+use Rattle.strm_pair.proofs.Prelude.{subst, ◌∙◌, arith, ◌&&◌, nat_le, nat_lt, not, slice_index_or, Some, Option, None, nat_tests, FullFirst}
+use Rattle.strm_pair.proofs.Prelude.{kept-ahead, kind-is}
+use Rattle.strm_pair.specs.Prelude.{Turn, Moved, Blocked, Idle, MsgKind, STOP_BLOCKS, Data, Place, Driver, Ldterm, QueueName, Way, Spot, plain}
+use Rattle.strm_pair.specs.Prelude.{is_data_kind, is_data, bytes_left, Message, at_place, messages_at, is_open, other, first_size, disciplined}
+use Rattle.strm_pair.specs.Prelude.{moved_by, place_named, IsKeptAhead, MovesOn, Free, enough, State, Stream, stream, discipline_of, module_at}
+use Rattle.strm_pair.specs.Prelude.{none_there, ldterm_of, TurnOutcome, stayed_put, driver_serves, driver_turned, is_stopped_across, moved_across}
+use Rattle.strm_pair.specs.Prelude.{Block, StoreValue, free_d, free_m, list_at, message_of, least_free, QueuePair, queues_in}
 use Rattle.std.specs.List.{AllByRecursion}
 use Rattle.std.proofs.Math.Nat.{le-min}
-use Rattle.std.proofs.lemmas.Bool.Decides.{nat_tests}
-use Rattle.strm_types.specs.declared.answers.Turn.{Turn}
-use Rattle.strm_types.specs.declared.answers.Turn.TheVariants.{Moved, Blocked, Idle}
-use Rattle.strm_types.specs.declared.kinds.MsgKind.{MsgKind}
-use Rattle.strm_types.specs.declared.limits.TheConstants.{STOP_BLOCKS}
-use Rattle.strm_types.specs.declared.kinds.MsgKind.TheVariants.{Data}
-use Rattle.strm_types.specs.declared.names.Place.{Place}
-use Rattle.strm_types.specs.declared.names.Place.TheVariants.{Driver, Ldterm}
-use Rattle.strm_types.specs.declared.names.QueueName.{QueueName}
-use Rattle.strm_types.specs.declared.names.Way.{Way}
-use Rattle.strm_types.specs.declared.spots.Spot.{Spot}
-use Rattle.strm_types.specs.Cells.{plain}
 use Rattle.strm_types.specs.Ldterms as ldterms
-use Rattle.strm_types.specs.Flush.{is_data_kind}
-use Rattle.strm_types.specs.Input.{is_data}
-use Rattle.strm_types.specs.LdtermCalls.{bytes_left}
-use Rattle.strm_types.specs.Message.{Message}
-use Rattle.strm_types.specs.ModuleQueues.{at_place}
-use Rattle.strm_types.specs.Standings.{messages_at}
-use Rattle.strm_types.specs.Names.{is_open, other}
-use Rattle.strm_types.specs.Queue.{first_size}
-use Rattle.strm_types.specs.LdtermStands.{disciplined}
-use Rattle.strm_laws.specs.ModuleTurns.{moved_by, place_named, whole_module}
-use Rattle.strm_laws.specs.Pair.{IsKeptAhead, MovesOn}
-use Rattle.strm_laws.specs.Refusals.{Free, enough}
-use Rattle.strm_laws.specs.State.{State, Stream, stream}
-use Rattle.strm_laws.specs.TurnCalls.{discipline_of, module_at, none_there, ldterm_of}
-use Rattle.strm_laws.specs.TurnOutcomes.{TurnOutcome, stayed_put}
-use Rattle.strm_laws.specs.Turns.{driver_serves, driver_turned, is_stopped_across, moved_across, whole_at}
-use Rattle.strm_laws.proofs.LdtermStops.{FullFirst}
+use Rattle.strm_laws.specs.ModuleTurns.{whole_module}
+use Rattle.strm_laws.specs.Turns.{whole_at}
 use Rattle.strm_laws.proofs.ModuleTurnCalls.{first-left}
-use Rattle.strm_laws.proofs.Staying.{kept-ahead}
-use Rattle.strm_blocks.specs.Blocks.{Block, StoreValue, free_d, free_m, list_at}
-use Rattle.strm_msg.specs.Messages.{message_of}
-use Rattle.strm_msg.proofs.Chains.{kind-is}
 use Rattle.strm_msg.proofs.MadePlain.{booked-data}
-use Rattle.strm_frame.specs.Serves.{least_free}
-use Rattle.strm_frame.specs.declared.queue_pair.QueuePair.{QueuePair}
-use Rattle.strm_frame.specs.Standings.{queues_in}
 use Rattle.strm_pair.specs.declared.streams.Streams.{Streams}
 use Rattle.strm_pair.specs.AnyModules.{AnyStanding, IsHeld, any-has, kind_in, module_in}
 use Rattle.strm_pair.specs.Stacks.{IsStackHeld}

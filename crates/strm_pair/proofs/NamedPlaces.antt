@@ -1,14 +1,9 @@
 -- The first module whose queues have a name is one of those that have places.
-use Rattle.std.proofs.Common.{ℕ, zero, suc, ◌≡◌, ◌≤◌, ◌<◌, ◌+◌, ◌-◌, Bool, true, false, cond, List, [], ◌∷◌, length, map, slice_index_or, take, refl, sym, ap, ◌∙◌, arith}
-use Rattle.std.specs.Prelude.{min, Option, None, Some, unwrap_or}
-use Rattle.std.proofs.lemmas.List.{length-map, length-take}
-use Rattle.strm_types.specs.declared.limits.TheConstants.{MODULES}
-use Rattle.strm_types.specs.declared.names.ModuleName.{ModuleName}
-use Rattle.strm_types.specs.declared.names.Place.{Place}
-use Rattle.strm_laws.specs.Earlier.{places_of}
-use Rattle.strm_laws.specs.ModuleTurns.{named_from}
-use Rattle.strm_types.specs.Names.{place_of, same_place}
-use Rattle.strm_laws.specs.Stacked.{Standing, module_name}
+use Rattle.strm_pair.proofs.Prelude.{ℕ, zero, suc, ◌≡◌, ◌≤◌, ◌<◌, ◌+◌, ◌-◌, Bool, true, false, cond, List, [], ◌∷◌, length, map, take, refl, sym, ap}
+use Rattle.strm_pair.proofs.Prelude.{◌∙◌, arith, min, Option, None, Some, length-map, length-take}
+use Rattle.strm_pair.specs.Prelude.{MODULES, ModuleName, Place, places_of, named_from, place_of, same_place, Standing, module_name}
+use Rattle.std.proofs.Common.{slice_index_or}
+use Rattle.std.specs.Prelude.{unwrap_or}
 
 module _ (ps : List (Standing ℕ)) where
   -- the places of a stream's modules that have places

@@ -1,25 +1,13 @@
 -- The nearest earlier queue goes by the names of the modules and by which have queues, so it is the same behind what a module does.
-use Rattle.std.proofs.Common.{ℕ, zero, suc, ◌≡◌, ◌-◌, Bool, cond, List, [], ◌∷◌, map, take, drop, refl, sym, ap, ◌∙◌}
-use Rattle.std.specs.Prelude.{Option, None, Some, is_some, option_map}
+use Rattle.strm_pair.proofs.Prelude.{ℕ, zero, suc, ◌≡◌, ◌-◌, Bool, cond, List, [], ◌∷◌, map, take, drop, refl, sym, ap, ◌∙◌, Option, None, Some}
+use Rattle.strm_pair.proofs.Prelude.{is_some, option_map, queue-names}
+use Rattle.strm_pair.specs.Prelude.{Side, Way, Up, Down, first_place, change_among, Queue, has_queues, place_of, turn_ended, Master, Slave, Spot}
+use Rattle.strm_pair.specs.Prelude.{queue_ended, State, stream, with_stream, before_among, before_at, before_by, places_of, Standing, module_name}
+use Rattle.strm_pair.specs.Prelude.{StoreValue}
 use Rattle.std.specs.List.{AllByRecursion}
 use Rattle.std.proofs.lemmas.List.{take-map, drop-map}
-use Rattle.strm_types.specs.declared.names.Side.{Side}
-use Rattle.strm_types.specs.declared.names.Way.{Way}
-use Rattle.strm_types.specs.declared.names.Way.TheVariants.{Up, Down}
-use Rattle.strm_types.specs.ModuleQueues.{first_place, last_place, place_before}
-use Rattle.strm_types.specs.Modules.{change_among}
-use Rattle.strm_types.specs.Queue.{Queue}
-use Rattle.strm_types.specs.Standings.{QueuePair, has_queues, pair_changed, queue_changed}
-use Rattle.strm_types.specs.Names.{place_of}
-use Rattle.strm_types.specs.Service.{turn_ended}
-use Rattle.strm_types.specs.declared.names.Side.TheVariants.{Master, Slave}
-use Rattle.strm_types.specs.declared.spots.Spot.{Spot}
-use Rattle.strm_laws.specs.ModuleTurns.{queue_ended}
-use Rattle.strm_laws.specs.State.{State, stream, with_stream}
-use Rattle.strm_laws.proofs.StackStays.{queue-names}
-use Rattle.strm_laws.specs.Earlier.{before_among, before_at, before_by, places_of}
-use Rattle.strm_laws.specs.Stacked.{Standing, module_name}
-use Rattle.strm_blocks.specs.Blocks.{StoreValue}
+use Rattle.strm_types.specs.ModuleQueues.{last_place, place_before}
+use Rattle.strm_types.specs.Standings.{QueuePair, pair_changed, queue_changed}
 use Rattle.strm_pair.specs.declared.streams.Streams.{Streams}
 use Rattle.strm_pair.specs.AnyModules.{HasAsNamed, all-have}
 use Rattle.strm_pair.specs.Pairs.{state_in, end_at}

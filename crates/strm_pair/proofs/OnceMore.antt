@@ -1,19 +1,13 @@
 -- Values of which each stands once among others, appended one behind the other: none of them is there already.
-use Rattle.std.proofs.Common.{ℕ, zero, suc, ◌≡◌, ◌≤◌, ◌<◌, ◌+◌, Bool, true, false, cond, List, [], ◌∷◌, ◌++◌, length, take, get_or, refl, sym, ap, ◌∙◌, arith}
-use Rattle.std.specs.Prelude.{◌||◌, ◌==◌, None, Some}
+use Rattle.strm_pair.proofs.Prelude.{ℕ, zero, suc, ◌≡◌, ◌≤◌, ◌<◌, ◌+◌, Bool, true, false, cond, List, [], ◌∷◌, ◌++◌, length, take, get_or, refl, sym}
+use Rattle.strm_pair.proofs.Prelude.{ap, ◌∙◌, arith, ◌||◌, ◌==◌, None, Some, take_more}
+use Rattle.strm_pair.specs.Prelude.{Place, Ldterm, Driver, Side, Master, Slave, Way, Up, Down, QueueName, enable, is_enabled, same_place, AreSignals}
 use Rattle.std.specs.List.{AllByRecursion, list_any}
 use Rattle.std.proofs.lemmas.Bool.{eq-eqb}
-use Rattle.std.proofs.lemmas.List.{take_more}
-use Rattle.strm_types.specs.declared.names.Place.{Place}
-use Rattle.strm_types.specs.declared.names.Place.TheVariants.{Head, Ldterm, Driver}
-use Rattle.strm_types.specs.declared.names.Side.{Side}
-use Rattle.strm_types.specs.declared.names.Side.TheVariants.{Master, Slave}
-use Rattle.strm_types.specs.declared.names.Way.{Way}
-use Rattle.strm_types.specs.declared.names.Way.TheVariants.{Up, Down}
-use Rattle.strm_types.specs.declared.names.QueueName.{QueueName}
-use Rattle.strm_types.specs.Names.{IsOnce, enable, is_enabled, same_place, same_queue, same_side, same_way}
+use Rattle.strm_types.specs.declared.names.Place.TheVariants.{Head}
+use Rattle.strm_types.specs.Names.{IsOnce, same_queue, same_side, same_way}
 use Rattle.strm_types.specs.Names as names
-use Rattle.strm_types.specs.Signals.{AreSignals, has_signal, is_signal, signal_in, with_signal}
+use Rattle.strm_types.specs.Signals.{has_signal, is_signal, signal_in, with_signal}
 use Rattle.strm_types.proofs.SignalRoom.{times, times-cons}
 use Rattle.strm_image.proofs.EachOnce.{IsCount}
 

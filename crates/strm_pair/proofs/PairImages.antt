@@ -1,9 +1,7 @@
 -- Each pair has an image.
-use Rattle.std.proofs.Common.{arith}
-use Rattle.strm_types.specs.declared.limits.Config.{Config}
-use Rattle.strm_types.specs.declared.rules.Fates.{Fates}
-use Rattle.strm_blocks.specs.Blocks.{StoreValue, IsStore}
-use Rattle.strm_image.specs.HasImage.{AreCounts, AreNumbers, AreShort, HasImage, imaged}
+use Rattle.strm_pair.proofs.Prelude.{arith}
+use Rattle.strm_pair.specs.Prelude.{Config, Fates, StoreValue, IsStore, AreCounts, AreNumbers, HasImage, imaged}
+use Rattle.strm_image.specs.HasImage.{AreShort}
 use Rattle.strm_image.proofs.BaseImages.{base_has_image}
 use Rattle.strm_image.proofs.ShortRows.{few_short}
 use Rattle.strm_pair.specs.declared.journal.Journal.{Journal}

@@ -1,7 +1,6 @@
 -- The texts of a stream and of a pair in their pieces.
-use Rattle.std.proofs.Common.{◌≡◌, ℕ, List, ◌++◌, ◌∙◌}
-use Rattle.strm_image.specs.Sinks.{Given, put}
-use Rattle.strm_image.proofs.SinkRows.{put_both}
+use Rattle.strm_pair.proofs.Prelude.{◌≡◌, ℕ, List, ◌++◌, ◌∙◌, put_both}
+use Rattle.strm_pair.specs.Prelude.{Given, put}
 
 -- texts one behind the other
 pub put_three : (a b c : List ℕ) (g : Given) → put c (put b (put a g)) ≡ put (a ++ (b ++ c)) g

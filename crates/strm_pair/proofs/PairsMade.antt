@@ -1,10 +1,6 @@
 -- Both streams of a text, one after the other, in a store that holds nothing.
-use Rattle.std.proofs.Common.{ℕ, ◌≡◌, ◌≤◌, ◌<◌, ◌+◌, List, [], refl, ap, ◌∙◌, arith}
-use Rattle.std.specs.Prelude.{replicate, slice_index_or}
-use Rattle.strm_types.proofs.BySide.{each-side}
-use Rattle.strm_laws.specs.State.{Stream}
-use Rattle.strm_blocks.specs.Blocks.{Block, StoreValue, list_at}
-use Rattle.strm_frame.specs.Hands.{HasRoom}
+use Rattle.strm_pair.proofs.Prelude.{ℕ, ◌≡◌, ◌≤◌, ◌<◌, ◌+◌, List, [], refl, ap, ◌∙◌, arith, replicate, slice_index_or, each-side}
+use Rattle.strm_pair.specs.Prelude.{Stream, Block, StoreValue, list_at, HasRoom}
 use Rattle.strm_pair.specs.declared.ends.StreamEnd.{StreamEnd}
 use Rattle.strm_pair.specs.Framing.{still}
 use Rattle.strm_pair.specs.Laying.{IsStood}

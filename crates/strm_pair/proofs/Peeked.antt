@@ -1,10 +1,6 @@
 -- What is seen of a list's first message without taking it.
-use Rattle.std.proofs.Common.{ℕ, ◌≡◌, ◌∷◌, map, ap, subst}
-use Rattle.strm_blocks.specs.Blocks.{StoreValue, list_at}
-use Rattle.strm_blocks.specs.Outcomes.{PeekedFirst}
-use Rattle.strm_blocks.specs.declared.asked.Peek.{Peek}
-use Rattle.strm_msg.specs.Messages.{message_of, IsChain, AreMessages}
-use Rattle.strm_queue.specs.Stored.{messages_on}
+use Rattle.strm_pair.proofs.Prelude.{ℕ, ◌≡◌, ◌∷◌, map, ap, subst}
+use Rattle.strm_pair.specs.Prelude.{StoreValue, list_at, PeekedFirst, Peek, message_of, IsChain, AreMessages, messages_on}
 use Rattle.strm_queue.proofs.Holding.{first-chain}
 
 module _ (s : StoreValue) (k : ℕ) (peek : Peek) (p : PeekedFirst s k peek) where

@@ -1,33 +1,14 @@
 -- What a put at a spot of a pair takes of the books is no more than what its tables say of blocks, and a delivery takes few of either.
-use Rattle.std.proofs.Common.{ℕ, ◌≡◌, ◌≤◌, ◌+◌, Bool, true, false, cond, List, length, refl, ap, arith}
-use Rattle.std.specs.Prelude.{◌==◌, nat_le}
-use Rattle.strm_types.specs.declared.limits.TheConstants.{HOPS}
-use Rattle.strm_types.specs.declared.names.Side.TheVariants.{Master, Slave}
-use Rattle.strm_types.proofs.BySide.{each-side}
-use Rattle.strm_types.specs.declared.spots.Spot.{Spot}
-use Rattle.strm_types.specs.Budgets.{budget, cost_of, most, most_of}
-use Rattle.strm_types.specs.Cells.{plain}
-use Rattle.strm_types.specs.Deliver.{Parcel}
-use Rattle.strm_laws.specs.Earlier.{modules_on}
-use Rattle.strm_types.specs.Flush.{is_data_kind}
-use Rattle.strm_types.specs.Message.{Message}
-use Rattle.strm_types.specs.Shapes.{shape_of}
+use Rattle.strm_pair.proofs.Prelude.{ℕ, ◌≡◌, ◌≤◌, ◌+◌, Bool, true, false, cond, List, length, refl, ap, arith, ◌==◌, nat_le, each-side, keeps-most}
+use Rattle.strm_pair.proofs.Prelude.{own, place-makes, bytes-sum, plain-is, few-bytes}
+use Rattle.strm_pair.specs.Prelude.{HOPS, Master, Slave, Spot, budget, cost_of, most, most_of, plain, Parcel, modules_on, is_data_kind, Message}
+use Rattle.strm_pair.specs.Prelude.{shape_of, put_at_head, put_at_module, put_behind, put_below, put_in, costs, spare, EachOnce, stands_of, State}
+use Rattle.strm_pair.specs.Prelude.{IsStore, StoreValue, block_at, in_hand, message_of, HasRoom, message_in}
 use Rattle.strm_types.proofs.CostsOf.{cost-under}
-use Rattle.strm_laws.specs.Puts.{put_at_head, put_at_module, put_behind, put_below, put_in}
-use Rattle.strm_laws.specs.SideCosts.{costs}
-use Rattle.strm_laws.specs.Spares.{spare}
-use Rattle.strm_laws.specs.StackCosts.{EachOnce, StandOnce, Stands, stands_of}
-use Rattle.strm_laws.specs.State.{State}
-use Rattle.strm_laws.proofs.Budgeted.{keeps-most}
-use Rattle.strm_laws.proofs.PutsOwn.{own, place-makes}
+use Rattle.strm_laws.specs.StackCosts.{StandOnce, Stands}
 use Rattle.strm_laws.proofs.StackSpares.{behind-spare, head-spare, stack-falls}
-use Rattle.strm_blocks.specs.Blocks.{IsStore, StoreValue, block_at, in_hand}
-use Rattle.strm_msg.specs.Messages.{message_of}
-use Rattle.strm_msg.proofs.Chains.{bytes-sum}
-use Rattle.strm_msg.proofs.MadePlain.{plain-is, plain-none}
-use Rattle.strm_queue.proofs.Bounds.{few-bytes}
-use Rattle.strm_frame.specs.Hands.{HasRoom, MayTake}
-use Rattle.strm_frame.specs.Outboxes.{message_in}
+use Rattle.strm_msg.proofs.MadePlain.{plain-none}
+use Rattle.strm_frame.specs.Hands.{MayTake}
 use Rattle.strm_pair.specs.declared.streams.Streams.{Streams}
 use Rattle.strm_pair.specs.Pairs.{state_in, AreBeside}
 

@@ -1,19 +1,14 @@
 -- A message that was made, and put on a queue behind all that stand there.
-use Rattle.std.proofs.Common.{ℕ, ◌≡◌, ◌≤◌, ◌<◌, ◌+◌, List, [], ◌∷◌, ◌++◌, length, sym, ap, subst, ◌∙◌, arith}
-use Rattle.std.specs.Prelude.{sum_by}
+use Rattle.strm_pair.proofs.Prelude.{ℕ, ◌≡◌, ◌≤◌, ◌<◌, ◌+◌, List, [], ◌∷◌, ◌++◌, length, sym, ap, subst, ◌∙◌, arith, sum_by}
+use Rattle.strm_pair.specs.Prelude.{Message, rank_of, Block, StoreValue, IsInHand, IsStore, list_at, in_hand, held, dropped, times_in, free_m, free_d}
+use Rattle.strm_pair.specs.Prelude.{AreMessages, plain_flows, AreCounted, OnlyCounts, messages_on, queue_in, IsReady, Changes}
 use Rattle.std.specs.List.{AllByRecursion}
-use Rattle.strm_types.specs.Message.{Message, rank_of}
 use Rattle.strm_types.specs.Queue as plain
 use Rattle.strm_types.proofs.Ranked.{put-last, sum-put}
 use Rattle.strm_blocks.specs.Blocks as blocks
-use Rattle.strm_blocks.specs.Blocks.{Block, StoreValue, IsInHand, IsStore, list_at, in_hand, held, placed, dropped, put, times_in, free_m, free_d}
-use Rattle.strm_msg.specs.Messages.{AreMessages}
+use Rattle.strm_blocks.specs.Blocks.{placed, put}
 use Rattle.strm_msg.proofs.Hands.{held-is}
 use Rattle.strm_queue.specs.declared.queue.Queue.{Queue}
-use Rattle.strm_queue.specs.Flows.{plain_flows}
-use Rattle.strm_queue.specs.Kept.{AreCounted}
-use Rattle.strm_queue.specs.Queues.{OnlyCounts}
-use Rattle.strm_queue.specs.Stored.{messages_on, queue_in, IsReady, Changes}
 use Rattle.strm_queue.proofs.Holding.{put-messages}
 use Rattle.strm_queue.proofs.Placed.{Landed, put-is, put-on, same-free_m, same-free_d}
 use Rattle.strm_queue.proofs.Queued.{put-queue}

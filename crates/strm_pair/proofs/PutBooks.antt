@@ -1,31 +1,13 @@
 -- A putmsg on a side's stream: its message is delivered from below the head, and its bytes are booked as written.
-use Rattle.std.proofs.Common.{ℕ, ◌≡◌, ◌<◌, ◌+◌, Bool, true, false, cond, List, [], length, refl, sym, ap, ◌∙◌, arith}
-use Rattle.std.specs.Prelude.{Option, None, Some, option_map, nat_lt, ◌&&◌}
-use Rattle.std.proofs.lemmas.Bool.Decides.{nat_tests}
-use Rattle.strm_types.specs.declared.books.Book.{Book}
+use Rattle.strm_pair.proofs.Prelude.{ℕ, ◌≡◌, ◌<◌, ◌+◌, Bool, true, false, cond, List, [], length, refl, sym, ap, ◌∙◌, arith, Option, None, Some}
+use Rattle.strm_pair.proofs.Prelude.{option_map, nat_lt, ◌&&◌, nat_tests, written-plain}
+use Rattle.strm_pair.specs.Prelude.{Book, Prio, Dir, MasterToSlave, SlaveToMaster, Side, Master, Slave, Down, Fates, Spot, with_written, plain}
+use Rattle.strm_pair.specs.Prelude.{cells_written, Carried, tallied, Message, part, direction_from, no_parts, put_message, delivered, in_range, spare}
+use Rattle.strm_pair.specs.Prelude.{State, book, with_book}
 use Rattle.strm_types.specs.declared.books.TheConstants.{BOOK_MAX}
-use Rattle.strm_types.specs.declared.modes.Prio.{Prio}
-use Rattle.strm_types.specs.declared.names.Dir.{Dir}
-use Rattle.strm_types.specs.declared.names.Dir.TheVariants.{MasterToSlave, SlaveToMaster}
-use Rattle.strm_types.specs.declared.names.Side.{Side}
-use Rattle.strm_types.specs.declared.names.Side.TheVariants.{Master, Slave}
-use Rattle.strm_types.specs.declared.names.Way.TheVariants.{Down}
-use Rattle.strm_types.specs.declared.rules.Fates.{Fates}
-use Rattle.strm_types.specs.declared.spots.Spot.{Spot}
 use Rattle.strm_types.specs.Books as books
-use Rattle.strm_types.specs.Books.{with_written}
 use Rattle.strm_laws.specs.Calls.{message_put, put_at}
-use Rattle.strm_types.specs.Cells.{plain, cells_written}
-use Rattle.strm_types.specs.Deliver.{Carried, tallied}
-use Rattle.strm_types.specs.Message.{Message, part}
-use Rattle.strm_types.specs.Names.{direction_from}
-use Rattle.strm_types.specs.PutMsg.{no_parts, put_message}
-use Rattle.strm_laws.specs.Puts.{delivered}
-use Rattle.strm_laws.specs.Refusals.{in_range}
-use Rattle.strm_laws.specs.Spares.{spare}
-use Rattle.strm_laws.specs.State.{State, book, with_book}
 use Rattle.strm_laws.proofs.PutsBook.{delivered-books}
-use Rattle.strm_types.proofs.PlainCells.{written-plain}
 
 -- a book that has room
 both-true : (a b : Bool) → (a && b) ≡ true → (a ≡ true) × (b ≡ true)

@@ -1,67 +1,42 @@
 -- Puts at the heads and the drivers of a pair, step by step.
-use Rattle.std.proofs.Common.{ℕ, suc, ◌≡◌, ◌≤◌, ◌<◌, ◌+◌, Bool, true, false, cond, List, [], ◌∷◌, refl, sym, ap, subst, ◌∙◌, arith}
-use Rattle.std.specs.Prelude.{◌==◌, ◌&&◌, nat_le, Option, None, Some}
-use Rattle.std.proofs.lemmas.Bool.Decides.{nat_tests}
-use Rattle.strm_types.specs.declared.flushing.FlushAsked.{FlushAsked}
-use Rattle.strm_types.specs.declared.kinds.MsgKind.{MsgKind}
-use Rattle.strm_types.specs.declared.kinds.MsgKind.TheVariants.{Flush, Ioctl}
-use Rattle.strm_types.specs.declared.names.Way.{Way}
-use Rattle.strm_types.specs.declared.spots.Across.{Across}
-use Rattle.strm_types.specs.declared.rules.Rule.TheVariants.{EndClosed}
+use Rattle.strm_pair.proofs.Prelude.{ℕ, suc, ◌≡◌, ◌≤◌, ◌<◌, ◌+◌, Bool, true, false, cond, List, [], ◌∷◌, refl, sym, ap, subst, ◌∙◌, arith, ◌==◌, ◌&&◌}
+use Rattle.strm_pair.proofs.Prelude.{nat_le, Option, None, Some, nat_tests, kind-is, parts-same, own, place-own}
+use Rattle.strm_pair.specs.Prelude.{FlushAsked, MsgKind, Flush, Way, Across, EndClosed, driver_put, IsStore, dropped, list_at, token, StoreValue}
+use Rattle.strm_pair.specs.Prelude.{in_hand, head_in, down_message, sent_down, queue_in, HoldsReadable, Changes, FreesBlocks, FreesNone, Acts, CanPut}
+use Rattle.strm_pair.specs.Prelude.{Handles, Hands, SamePool, Spends, once, HasRoom, Shifts, sent_of, message_in, times_sent, parcels_in, AreChains}
+use Rattle.strm_pair.specs.Prelude.{OnlyQueue, Makes, before_head, driver_place, modules_on, QueueName, Side, Up, Down, Fates, Spot, Acted, Parcel}
+use Rattle.strm_pair.specs.Prelude.{Took, tallied, toward, Goes, is_data_kind, asked_by, flush_bytes, flush_message, Message, cells_of, has_parts}
+use Rattle.strm_pair.specs.Prelude.{is_held, direction_at, enable_some, is_open, IsKeptAhead, across_of, earlier_at, noted, passed_up, put_at_driver}
+use Rattle.strm_pair.specs.Prelude.{put_at_head, put_at_module, put_behind, put_below, put_in, is_there, State, stream, with_stream}
+use Rattle.strm_pair.specs.Prelude.{with_driver_queue, IsChain, Sent, MODULES, head_takes, FlushR, FlushRW, FlushW, shape_of, driver_own, at_place}
+use Rattle.strm_pair.specs.Prelude.{module_takes}
+use Rattle.strm_types.specs.declared.kinds.MsgKind.TheVariants.{Ioctl}
 use Rattle.strm_types.specs.Cells as cells
-use Rattle.strm_types.specs.Drivers.{driver_put}
 use Rattle.strm_types.specs.Queue as plain
-use Rattle.strm_blocks.specs.Blocks.{IsStore, dropped, list_at, token, StoreValue, in_hand}
 use Rattle.strm_head.specs.declared.head.Head as heads
-use Rattle.strm_head.specs.Heads.{head_in, down_message, notes_of, sent_down}
+use Rattle.strm_head.specs.Heads.{notes_of}
 use Rattle.strm_queue.specs.declared.queue.Queue.{Queue}
-use Rattle.strm_queue.specs.Stored.{queue_in, HoldsReadable, Changes, FreesBlocks, FreesNone}
-use Rattle.strm_frame.specs.declared.modules.Acts.{Acts}
-use Rattle.strm_frame.specs.Hands.{CanPut, Handles, Hands, SamePool, Spends, once, HasRoom, Shifts}
-use Rattle.strm_frame.specs.Outboxes.{sent_of, message_in, times_sent, parcels_in, AreChains}
 use Rattle.strm_frame.proofs.Shifting.{shifts-joined}
-use Rattle.strm_pty.specs.Does.{OnlyQueue, driver_cost, Makes, Swaps}
+use Rattle.strm_pty.specs.Does.{driver_cost, Swaps}
 use Rattle.strm_pair.specs.Pairs.{end_at, with_end, state_in, AreBeside, Stays, kept_by}
-use Rattle.strm_laws.specs.Earlier.{before_head, driver_place, modules_on}
 use Rattle.strm_pair.proofs.Sides.{driver-changed, driver-state, head-changed, head-state, driver-is, head-is}
 use Rattle.strm_types.specs.declared.names.Place.TheVariants as places
-use Rattle.strm_types.specs.declared.names.QueueName.{QueueName}
-use Rattle.strm_types.specs.declared.names.Side.{Side}
-use Rattle.strm_types.specs.declared.names.Way.TheVariants.{Up, Down}
-use Rattle.strm_types.specs.declared.rules.Fates.{Fates}
-use Rattle.strm_types.specs.declared.spots.Spot.{Spot}
-use Rattle.strm_types.specs.Deliver.{Acted, Parcel, Took, tallied, toward, Goes}
-use Rattle.strm_types.specs.Flush.{is_data_kind}
-use Rattle.strm_types.specs.Flushing.{asked_by, flush_bytes, flush_message}
 use Rattle.strm_types.specs.Heads.{head_put, is_doubled, obeyed, turned_round, waits_for_readers, Head}
-use Rattle.strm_types.specs.Message.{Message, cells_of, has_parts, is_held}
-use Rattle.strm_types.specs.Names.{direction_at, enable_some, is_open}
-use Rattle.strm_laws.specs.Pair.{IsKeptAhead}
-use Rattle.strm_laws.specs.Puts.{across_of, earlier_at, noted, passed_up, put_at_driver, put_at_head, put_at_module, put_behind, put_below, put_in}
-use Rattle.strm_types.specs.Reads.{is_there}
-use Rattle.strm_laws.specs.State.{State, stream, with_stream, with_driver_queue}
-use Rattle.strm_msg.specs.Messages.{IsChain}
-use Rattle.strm_msg.proofs.Chains.{kind-is}
-use Rattle.strm_msg.proofs.MadePlain.{parts-same}
 use Rattle.strm_head.specs.declared.putting.Down as heads_down
 use Rattle.strm_head.specs.declared.putting.Down.TheVariants as downs
-use Rattle.strm_frame.specs.declared.parcels.Sent.{Sent}
 use Rattle.strm_frame.proofs.Handing.{one-parts, one-chains}
 use Rattle.strm_frame.proofs.Shifting.{shifts-both, shifts-as}
 use Rattle.strm_pty.proofs.Doing.{times-one}
 use Rattle.strm_pair.specs.declared.streams.Streams.{Streams}
-use Rattle.strm_types.specs.declared.limits.TheConstants.{MODULES}
-use Rattle.strm_types.specs.Costs.{head_takes, is_turned, turns_round, up_takes}
-use Rattle.strm_types.specs.Shapes.{Shape, FlushR, FlushRW, FlushW, flush_shape, is_flushing, shape_by, shape_of}
-use Rattle.strm_types.specs.Tables.{driver_does, driver_own, head_does}
+use Rattle.strm_types.specs.Costs.{is_turned, turns_round, up_takes}
+use Rattle.strm_types.specs.Shapes.{Shape, flush_shape, is_flushing, shape_by}
+use Rattle.strm_types.specs.Tables.{driver_does, head_does}
 use Rattle.strm_types.proofs.ShapesOf.{same-flushing}
-use Rattle.strm_types.specs.ModuleQueues.{at_place}
 use Rattle.strm_laws.specs.SideCosts.{behind_costs, rises, side_drives}
-use Rattle.strm_laws.specs.StackCosts.{module_takes}
 use Rattle.strm_pair.specs.Framing.{kept-parts, kept-with, same-state, same-beside}
 use Rattle.strm_pair.specs.PutBy.{PutBy, CameBy}
 use Rattle.strm_pair.specs.Staying.{ComesToStand}
-use Rattle.strm_laws.proofs.PutsOwn.{behind-own, head-own, own, place-own}
+use Rattle.strm_laws.proofs.PutsOwn.{behind-own, head-own}
 
 -- what a head sends down is nothing where nothing is turned round
 sent-nothing : (S : Type 0) (b : Bool) (one another : Acted ℕ S) → one.sent ≡ [] → another.sent ≡ [] → (cond b one another).sent ≡ []

@@ -1,16 +1,10 @@
 -- A module that is put on a side's stack.
-use Rattle.std.proofs.Common.{ℕ, ◌≡◌, ◌≤◌, ◌<◌, ◌+◌, true, List, [], ◌∷◌, map, sym, ap, subst, ◌∙◌, arith}
-use Rattle.std.specs.Prelude.{Option, None, Some, IfSome, is_some}
-use Rattle.strm_types.specs.declared.names.Side.{Side}
-use Rattle.strm_types.proofs.BySide.{set-all}
-use Rattle.strm_laws.specs.Pushes.{may_stand, with_modules}
-use Rattle.strm_laws.specs.StackCosts.{EachOnce}
-use Rattle.strm_laws.specs.Stacked.{Standing, module_name}
-use Rattle.strm_laws.specs.State.{Stream, stream, with_stream}
+use Rattle.strm_pair.proofs.Prelude.{ℕ, ◌≡◌, ◌≤◌, ◌<◌, ◌+◌, true, List, [], ◌∷◌, map, sym, ap, subst, ◌∙◌, arith, Option, None, Some, IfSome, is_some}
+use Rattle.strm_pair.proofs.Prelude.{set-all}
+use Rattle.strm_pair.specs.Prelude.{Side, may_stand, with_modules, EachOnce, Standing, module_name, Stream, stream, with_stream, StoreValue, list_at}
+use Rattle.strm_pair.specs.Prelude.{Tables}
 use Rattle.strm_laws.proofs.StackOnce.{push-once}
-use Rattle.strm_blocks.specs.Blocks.{StoreValue, list_at}
 use Rattle.strm_pair.specs.declared.ends.StreamEnd.{StreamEnd}
-use Rattle.strm_frame.specs.declared.queue_pair.Tables.{Tables}
 use Rattle.strm_pair.specs.declared.streams.Streams.{Streams}
 use Rattle.strm_pair.specs.Framing.{stream_with}
 use Rattle.strm_pair.specs.Lists.{first_list}

@@ -1,26 +1,13 @@
 -- A read of a side's head.
-use Rattle.std.proofs.Common.{ℕ, ◌≡◌, Bool, List, sym, ap, ◌∙◌}
-use Rattle.std.specs.Prelude.{min}
-use Rattle.strm_types.specs.declared.answers.Answer.TheVariants.{Bytes}
-use Rattle.strm_types.specs.declared.limits.TheConstants.{READ_MAX}
-use Rattle.strm_types.specs.declared.names.Side.{Side}
-use Rattle.strm_types.specs.declared.rules.Fates.{Fates}
-use Rattle.strm_types.specs.Deliver.{tallied}
-use Rattle.strm_laws.specs.Earlier.{before_head}
-use Rattle.strm_types.specs.Names.{direction_of, enable_some, head_of}
-use Rattle.strm_types.specs.Reads.{head_draw, read_queue, read_lets_go, read_gone}
+use Rattle.strm_pair.proofs.Prelude.{ℕ, ◌≡◌, Bool, List, sym, ap, ◌∙◌, min, bytes-plain}
+use Rattle.strm_pair.specs.Prelude.{Bytes, READ_MAX, Side, Fates, tallied, before_head, direction_of, enable_some, head_of, read_gone, State, stream}
+use Rattle.strm_pair.specs.Prelude.{with_stream, StoreValue, Head, head_in, queue_in, IsHeadQueue, Keeps, plain}
+use Rattle.strm_types.specs.Reads.{head_draw, read_queue, read_lets_go}
 use Rattle.strm_types.specs.Heads as heads
-use Rattle.strm_laws.specs.State.{State, stream, with_stream}
-use Rattle.strm_blocks.specs.Blocks.{StoreValue}
-use Rattle.strm_head.specs.declared.head.Head.{Head}
-use Rattle.strm_head.specs.Heads.{head_in}
-use Rattle.strm_queue.specs.Stored.{queue_in, IsHeadQueue, Keeps}
 use Rattle.strm_pair.specs.declared.streams.Streams.{Streams}
 use Rattle.strm_pair.specs.Framing.{still}
 use Rattle.strm_pair.specs.Pairs.{state_in, end_at, with_end, AreBeside, kept_by}
 use Rattle.strm_laws.specs.Calls.{read_at}
-use Rattle.strm_types.specs.Cells.{plain}
-use Rattle.strm_types.proofs.PlainCells.{bytes-plain}
 use Rattle.strm_pair.proofs.Sides.{head-changed, head-state, head-is, only-kept}
 
 module _ (side : Side) (s : StoreValue) (p : Streams) (most n : ℕ) (most_is : most ≡ min n READ_MAX) where

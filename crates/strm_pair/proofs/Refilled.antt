@@ -1,25 +1,18 @@
 -- The messages of a queue in a text, one after the other, and the queue on which they are put.
-use Rattle.std.proofs.Common.{ℕ, suc, ◌≡◌, ◌≤◌, ◌+◌, Bool, true, false, cond, List, [], ◌∷◌, ◌++◌, Option, None, Some, refl, sym, ap, subst, ◌∙◌, arith, append-nil, append_assoc}
-use Rattle.std.specs.Prelude.{option_map, sum_by, nat_le}
+use Rattle.strm_pair.proofs.Prelude.{ℕ, suc, ◌≡◌, ◌≤◌, ◌+◌, Bool, true, false, cond, List, [], ◌∷◌, ◌++◌, refl, sym, ap, subst, ◌∙◌, arith}
+use Rattle.strm_pair.proofs.Prelude.{append-nil, append_assoc, option_map, sum_by, nat_le, and_parts, nat_tests, sum_by-cons, sum_by-append}
+use Rattle.strm_pair.specs.Prelude.{Message, rank_of, StoreValue, HasRoom, messages_on, queue_in, IsReady, Changes, QueueKind, Version, gather_from}
+use Rattle.strm_pair.specs.Prelude.{◌>>=◌, blocks_of, message, messages_now, values_read}
+use Rattle.std.proofs.Common.{Option, None, Some}
 use Rattle.std.specs.List.{AllByRecursion}
-use Rattle.std.proofs.lemmas.Bool.{and_parts}
-use Rattle.std.proofs.lemmas.Bool.Decides.{nat_tests}
 use Rattle.std.proofs.lemmas.Option.{same_Some}
-use Rattle.std.proofs.lemmas.List.Sums.{sum_by-cons, sum_by-append}
 use Rattle.strm_types.specs.declared.limits.TheConstants.{HIGH_PRIORITY_RANK}
-use Rattle.strm_types.specs.Message.{Message, rank_of}
-use Rattle.strm_blocks.specs.Blocks.{StoreValue}
-use Rattle.strm_frame.specs.Hands.{HasRoom}
 use Rattle.strm_queue.specs.declared.queue.Queue.{Queue}
-use Rattle.strm_queue.specs.Stored.{messages_on, queue_in, IsReady, Changes}
 use Rattle.strm_image.specs.declared.passed.MessagesText.{MessagesText}
 use Rattle.strm_image.specs.declared.versions.Load.{Load}
-use Rattle.strm_image.specs.declared.versions.QueueKind.{QueueKind}
-use Rattle.strm_image.specs.declared.versions.Version.{Version}
-use Rattle.strm_image.specs.Format.{before, gather_from, read_from, ◌>>=◌}
-use Rattle.strm_image.specs.Loads.{add_message, blocks_of, no_load}
-use Rattle.strm_image.specs.Messages.{may_follow, message, message_behind, next_rank}
-use Rattle.strm_image.specs.Texts.{messages_now, values_read}
+use Rattle.strm_image.specs.Format.{before, read_from}
+use Rattle.strm_image.specs.Loads.{add_message, no_load}
+use Rattle.strm_image.specs.Messages.{may_follow, message_behind, next_rank}
 use Rattle.strm_image.proofs.Formats.{bind_some, gather_some}
 use Rattle.strm_pair.specs.Runs.{Spent, with_messages}
 

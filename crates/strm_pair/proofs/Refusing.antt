@@ -1,34 +1,18 @@
 -- A refusal is the first one whose condition holds.
-use Rattle.std.proofs.Common.{ℕ, ◌≡◌, ◌<◌, ◌≤◌, ◌+◌, Bool, true, false, List, length, refl, sym, ap, ◌∙◌, arith}
-use Rattle.std.proofs.lemmas.Bool.Decides.{nat_tests}
-use Rattle.std.specs.Prelude.{nat_le, nat_lt, Option, None, Some, Result, Ok, Err, MatchOption}
-use Rattle.strm_types.specs.declared.events.Caller.{Caller}
-use Rattle.strm_types.specs.declared.events.Event.TheVariants.{Put, Ioctl}
-use Rattle.strm_types.specs.declared.answers.Answer.TheVariants.{Stop}
+use Rattle.strm_pair.proofs.Prelude.{ℕ, ◌≡◌, ◌<◌, ◌≤◌, ◌+◌, Bool, true, false, List, length, refl, sym, ap, ◌∙◌, arith, nat_tests, nat_le, nat_lt}
+use Rattle.strm_pair.proofs.Prelude.{Option, None, Some, Result, Ok, Err, MatchOption, met, or_else-none, unless-none, both-true}
+use Rattle.strm_pair.specs.Prelude.{Caller, Put, Ioctl, Stop, Refusal, Prio, Einval, Enosr, IOCTL_MAX, plain, Config, QueueName, Request, PlainEntry}
+use Rattle.strm_pair.specs.Prelude.{is_enabled, judged, PairState, call_refused, needs, enough, has_room, in_range, refused_at_once, refused_by_state}
+use Rattle.strm_pair.specs.Prelude.{stop_of, State, StoreValue, free_d, free_m, HasRoom}
 use Rattle.strm_types.specs.declared.job_control.Verdict.{Verdict}
 use Rattle.strm_types.specs.declared.job_control.Verdict.TheVariants.{Allowed, Refused, Stopped}
-use Rattle.strm_types.specs.declared.refusals.Refusal.{Refusal}
 use Rattle.strm_types.specs.declared.signals.StopSignal.{StopSignal}
-use Rattle.strm_types.specs.declared.modes.Prio.{Prio}
-use Rattle.strm_types.specs.declared.refusals.Refusal.TheVariants.{Einval, Enosr, Erange, JournalFull}
-use Rattle.strm_types.specs.declared.limits.TheConstants.{IOCTL_END, IOCTL_MAX}
-use Rattle.strm_types.specs.Cells.{plain}
-use Rattle.strm_types.specs.declared.limits.Config.{Config}
-use Rattle.strm_types.specs.declared.names.QueueName.{QueueName}
-use Rattle.strm_types.specs.Events.{Request}
-use Rattle.strm_types.specs.Journal.{PlainEntry}
-use Rattle.strm_types.specs.Names.{is_enabled}
-use Rattle.strm_types.specs.JobControl.{judged, refusal_behind, stop_in}
+use Rattle.strm_types.specs.declared.refusals.Refusal.TheVariants.{Erange, JournalFull}
+use Rattle.strm_types.specs.declared.limits.TheConstants.{IOCTL_END}
+use Rattle.strm_types.specs.JobControl.{refusal_behind, stop_in}
 use Rattle.strm_laws.specs.Calls.{called, or_stopped, performed, tells}
-use Rattle.strm_laws.specs.Pair.{PairState, call_refused}
-use Rattle.strm_types.specs.Needs.{needs}
-use Rattle.strm_laws.specs.Refusals.{enough, has_room, in_range, refused_at_once, refused_by_state, stop_of, turn_refused}
+use Rattle.strm_laws.specs.Refusals.{turn_refused}
 use Rattle.strm_types.specs.Refused.{or_else, unless}
-use Rattle.strm_laws.specs.State.{State}
-use Rattle.strm_laws.proofs.Replay.{met, or_else-none, unless-none}
-use Rattle.strm_laws.proofs.Balances.{both-true}
-use Rattle.strm_blocks.specs.Blocks.{StoreValue, free_d, free_m}
-use Rattle.strm_frame.specs.Hands.{HasRoom}
 use Rattle.strm_pair.specs.Pairs.{free_in}
 
 -- an ioctl that isn't refused at once sends few bytes, and a number is left for it

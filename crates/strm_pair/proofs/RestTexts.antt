@@ -1,22 +1,12 @@
 -- The text of an ldterm is that of its settings and of both queues as they are kept.
-use Rattle.std.proofs.Common.{ℕ, ◌≡◌, ◌++◌, refl, sym, ap, ◌∙◌, append_assoc}
-use Rattle.std.specs.Prelude.{Some}
+use Rattle.strm_pair.proofs.Prelude.{ℕ, ◌≡◌, ◌++◌, refl, sym, ap, ◌∙◌, append_assoc, Some, put_both}
+use Rattle.strm_pair.specs.Prelude.{StoreValue, Second, module_format, queue, Given, put, queue_in, own_in, QueuePair, pair_in, standing}
 use Rattle.strm_types.specs.Ldterms as plain
 use Rattle.strm_types.specs.Ldterms.{by_itself}
-use Rattle.strm_blocks.specs.Blocks.{StoreValue}
 use Rattle.strm_image.specs.declared.versions.QueueKind.TheVariants as queues
-use Rattle.strm_image.specs.declared.versions.Version.TheVariants.{Second}
-use Rattle.strm_image.specs.Modules.{module_format}
-use Rattle.strm_image.specs.Queues.{queue}
-use Rattle.strm_image.specs.Sinks.{Given, put}
 use Rattle.strm_image.specs.Written.{ldterm_text}
-use Rattle.strm_image.proofs.SinkRows.{put_both}
 use Rattle.strm_image.proofs.WrittenRows.{ldterm_told}
-use Rattle.strm_queue.specs.Stored.{queue_in}
 use Rattle.strm_ldterm.specs.declared.ldterm.Ldterm.{Ldterm}
-use Rattle.strm_ldterm.specs.Stands.{own_in}
-use Rattle.strm_frame.specs.declared.queue_pair.QueuePair.{QueuePair}
-use Rattle.strm_frame.specs.Standings.{pair_in, standing}
 use Rattle.strm_pair.specs.declared.modules.AnyModule.TheVariants as kinds
 use Rattle.strm_pair.specs.AnyModules.{module_in}
 use Rattle.strm_pair.specs.Imaging.{settings_text}

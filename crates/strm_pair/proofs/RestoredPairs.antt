@@ -1,27 +1,12 @@
 -- A pair that is made of an image: which refusal comes, and what the pair is.
-use Rattle.std.proofs.Common.{ℕ, ◌≡◌, ◌≤◌, ◌-◌, true, false, List, [], refl, sym, ap, subst, ◌∙◌, arith}
-use Rattle.std.specs.Prelude.{◌↔◌, length, replicate, Option, Some}
+use Rattle.strm_pair.proofs.Prelude.{ℕ, ◌≡◌, ◌≤◌, ◌-◌, true, false, List, [], refl, sym, ap, subst, ◌∙◌, arith, replicate, Option, Some, same_images}
+use Rattle.strm_pair.proofs.Prelude.{image_length_in}
+use Rattle.strm_pair.specs.Prelude.{Config, Refusal, Einval, Enosr, Fates, plain, IsBase, told_by, FewBooked, Free, enough, AreWithinEntries, IsLegal}
+use Rattle.strm_pair.specs.Prelude.{StoreValue, IsStore, free_m, free_d, Second, IsTextOf, HasImage, imaged, Imaged, image, imaged_now}
+use Rattle.std.specs.Prelude.{◌↔◌, length}
 use Rattle.std.proofs.lemmas.Bool.{and_from, le-leb}
-use Rattle.strm_types.specs.declared.limits.Config.{Config}
-use Rattle.strm_types.specs.declared.refusals.Refusal.{Refusal}
-use Rattle.strm_types.specs.declared.refusals.Refusal.TheVariants.{Einval, Enosr}
-use Rattle.strm_types.specs.declared.rules.Fates.{Fates}
-use Rattle.strm_types.specs.Cells.{plain}
-use Rattle.strm_laws.specs.Bases.{IsBase}
-use Rattle.strm_laws.specs.Kept.{told_by}
-use Rattle.strm_laws.specs.Ledgers.{FewBooked}
-use Rattle.strm_laws.specs.Refusals.{Free, enough}
-use Rattle.strm_laws.specs.Restorable.{AreWithinEntries}
-use Rattle.strm_laws.specs.Step.{IsLegal}
-use Rattle.strm_blocks.specs.Blocks.{StoreValue, IsStore, free_m, free_d}
 use Rattle.strm_image.specs.declared.image.ImageText.{ImageText}
-use Rattle.strm_image.specs.declared.versions.Version.TheVariants.{Second}
-use Rattle.strm_image.specs.Format.{IsTextOf}
-use Rattle.strm_image.specs.HasImage.{HasImage, imaged}
-use Rattle.strm_image.specs.Image.{Imaged, image}
-use Rattle.strm_image.specs.ImageTexts.{image_now, imaged_now}
-use Rattle.strm_image.proofs.ReadRows.{same_images}
-use Rattle.strm_image.proofs.TextLengths.{image_length_in}
+use Rattle.strm_image.specs.ImageTexts.{image_now}
 use Rattle.strm_pair.specs.declared.streams.Streams.{Streams}
 use Rattle.strm_pair.specs.declared.journal.Journal.{Journal}
 use Rattle.strm_pair.specs.BaseTexts.{image_room}

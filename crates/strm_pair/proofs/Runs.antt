@@ -1,20 +1,10 @@
 -- Turns one after the other.
-use Rattle.std.proofs.Common.{ℕ, suc, ◌≡◌, ◌≤◌, ◌+◌, true, List, [], ◌∷◌, length, length-append, refl, ap, ◌∙◌, subst, arith}
-use Rattle.std.specs.Prelude.{None, Some, nat_lt, nat_le, slice_get}
-use Rattle.std.proofs.lemmas.Bool.Decides.{nat_tests}
-use Rattle.strm_types.specs.declared.answers.Turn.{Turn}
-use Rattle.strm_types.specs.declared.entries.Entry.TheVariants.{Turned}
-use Rattle.strm_types.specs.declared.limits.TheConstants.{STOP_BLOCKS}
-use Rattle.strm_types.specs.declared.names.QueueName.{QueueName}
-use Rattle.strm_types.specs.Journal.{PlainEntry, room_used}
-use Rattle.strm_types.specs.Refused.{turn_blocks}
-use Rattle.strm_laws.specs.Pair.{PairState, AddsEntry, RanTurns, Stops, next_refused, queue_refused, refused_of}
-use Rattle.strm_laws.specs.Refusals.{enough, in_range}
+use Rattle.strm_pair.proofs.Prelude.{ℕ, suc, ◌≡◌, ◌≤◌, ◌+◌, true, List, [], ◌∷◌, length, length-append, refl, ap, ◌∙◌, subst, arith, None, Some}
+use Rattle.strm_pair.proofs.Prelude.{nat_lt, nat_le, slice_get, nat_tests, both-true, turn-allowed}
+use Rattle.strm_pair.specs.Prelude.{Turn, Turned, STOP_BLOCKS, QueueName, PlainEntry, room_used, turn_blocks, PairState, AddsEntry, RanTurns}
+use Rattle.strm_pair.specs.Prelude.{next_refused, queue_refused, enough, in_range, Restorable, stands_of}
+use Rattle.strm_laws.specs.Pair.{Stops, refused_of}
 use Rattle.strm_laws.specs.Rest.{EchoesOnce, work}
-use Rattle.strm_laws.specs.Restorable.{Restorable}
-use Rattle.strm_laws.specs.StackCosts.{stands_of}
-use Rattle.strm_laws.proofs.Balances.{both-true}
-use Rattle.strm_laws.proofs.Replay.{turn-allowed}
 use Rattle.strm_laws.proofs.RestRuns.{echoed-runs, next-goes}
 use Rattle.strm_pair.specs.Running.{IsRunning}
 

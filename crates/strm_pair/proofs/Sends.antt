@@ -1,9 +1,6 @@
 -- A chunk of a write that a head's call made, as the queues' lemmas speak of it.
-use Rattle.std.proofs.Common.{ℕ, ◌≡◌, ◌+◌, List, refl, sym, ap, ◌∙◌}
-use Rattle.strm_types.specs.declared.kinds.MsgKind.TheVariants.{Data}
-use Rattle.strm_types.specs.Message.{Message, data_message}
-use Rattle.strm_blocks.specs.Blocks.{StoreValue, in_hand, free_m, free_d}
-use Rattle.strm_msg.proofs.Chains.{kind-is}
+use Rattle.strm_pair.proofs.Prelude.{ℕ, ◌≡◌, ◌+◌, List, refl, sym, ap, ◌∙◌, kind-is}
+use Rattle.strm_pair.specs.Prelude.{Data, Message, data_message, StoreValue, in_hand, free_m, free_d}
 use Rattle.strm_queue.proofs.OneMade.{OneMade}
 use Rattle.strm_head.specs.Sending.{Sends}
 

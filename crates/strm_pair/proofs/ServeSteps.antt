@@ -1,49 +1,21 @@
 -- Calls of a turn of a module's queue: what the stack of a side does, what is booked of it, and what comes next.
-use Rattle.std.proofs.Common.{ℕ, zero, suc, ◌≡◌, ◌≤◌, ◌<◌, ◌+◌, ◌-◌, Bool, true, false, cond, List, [], ◌∷◌, length, map, refl, sym, ap, subst, ◌∙◌, arith}
-use Rattle.std.specs.Prelude.{◌*◌, ◌^◌, slice_index_or, HoldsAt, Option, None, is_some}
+use Rattle.strm_pair.proofs.Prelude.{ℕ, zero, suc, ◌≡◌, ◌≤◌, ◌<◌, ◌+◌, ◌-◌, Bool, true, false, cond, List, [], ◌∷◌, length, map, refl, sym, ap, subst}
+use Rattle.strm_pair.proofs.Prelude.{◌∙◌, arith, ◌*◌, ◌^◌, slice_index_or, HoldsAt, Option, None, is_some, false≢true, serve-names, between-counts}
+use Rattle.strm_pair.proofs.Prelude.{made-within, made_in, master-told, slave-told, UnderWay, index-map, under_way, module-ends, module-goes}
+use Rattle.strm_pair.proofs.Prelude.{tallied-append}
+use Rattle.strm_pair.specs.Prelude.{Dir, MasterToSlave, SlaveToMaster, Place, QueueName, Side, Way, Up, Down, HOPS, STOP_BLOCKS, Fates, Spot, plain}
+use Rattle.strm_pair.specs.Prelude.{budget, cost_of, most, Carried, Fate, Parcel, tallied, places_of, made_of, Discipline, at_place, act_among}
+use Rattle.strm_pair.specs.Prelude.{IsKeptAhead, earlier_at, module_acted, noted, put_in, spare, spare_behind, costs, stands_of, Module, OfLdterm}
+use Rattle.strm_pair.specs.Prelude.{Standing, module_serves, State, book, stream, Begins, Ends, bytes_left, disciplined, HoldsOfPart, stood}
+use Rattle.strm_pair.specs.Prelude.{most_made, asks_on, called, discipline_of, module_at, treated, none_there, IsStore, StoreValue, Served, Sent}
+use Rattle.strm_pair.specs.Prelude.{AreIn, Handles, HasRoom, SamePool, Spends, Takes, sent_of, times_sent, parcels_in, later_cost, least_free}
+use Rattle.strm_pair.specs.Prelude.{stop_at, StaysAlone, FreesNone}
 use Rattle.std.specs.Bool.{OnTrue}
-use Rattle.std.proofs.lemmas.Bool.{false≢true}
-use Rattle.strm_types.specs.declared.names.Dir.{Dir}
-use Rattle.strm_types.specs.declared.names.Dir.TheVariants.{MasterToSlave, SlaveToMaster}
-use Rattle.strm_types.specs.declared.names.Place.{Place}
-use Rattle.strm_types.specs.declared.names.QueueName.{QueueName}
-use Rattle.strm_types.specs.declared.names.Side.{Side}
-use Rattle.strm_types.specs.declared.names.Way.{Way}
-use Rattle.strm_types.specs.declared.names.Way.TheVariants.{Up, Down}
-use Rattle.strm_types.specs.declared.limits.TheConstants.{HOPS, STOP_BLOCKS}
-use Rattle.strm_types.specs.declared.rules.Fates.{Fates}
-use Rattle.strm_types.specs.declared.spots.Spot.{Spot}
-use Rattle.strm_types.specs.Cells.{plain}
-use Rattle.strm_types.specs.Budgets.{budget, cost_of, most}
-use Rattle.strm_types.specs.Deliver.{Carried, Fate, Parcel, carried, in_turn, tallied}
-use Rattle.strm_laws.specs.Earlier.{places_of}
-use Rattle.strm_types.specs.Input.{made_of}
-use Rattle.strm_types.specs.Ldterms.{Discipline}
-use Rattle.strm_types.specs.ModuleQueues.{at_place}
-use Rattle.strm_types.specs.Modules.{act_among}
-use Rattle.strm_laws.specs.Pair.{IsKeptAhead}
-use Rattle.strm_laws.specs.Puts.{earlier_at, module_acted, noted, put_in}
-use Rattle.strm_laws.specs.Spares.{spare, spare_behind}
-use Rattle.strm_laws.specs.SideCosts.{costs}
-use Rattle.strm_laws.specs.StackCosts.{stands_of}
-use Rattle.strm_laws.specs.Stacked.{Module, OfLdterm, Standing, module_serves}
-use Rattle.strm_laws.specs.State.{State, book, stream}
-use Rattle.strm_types.specs.LdtermCalls.{Begins, Ends, bytes_left}
-use Rattle.strm_types.specs.LdtermStands.{disciplined}
-use Rattle.strm_types.specs.Standings.{HoldsOfPart, stood}
-use Rattle.strm_types.specs.Service.{most_made}
-use Rattle.strm_laws.specs.TurnCalls.{asks_on, called, discipline_of, module_at, treated, none_there}
+use Rattle.strm_types.specs.Deliver.{carried, in_turn}
 use Rattle.strm_types.proofs.CostsOf.{none-few}
 use Rattle.strm_laws.proofs.StackSpares.{acted-falls, units-fit}
-use Rattle.strm_laws.proofs.StackStays.{serve-names}
-use Rattle.strm_laws.proofs.Booked.{between-counts, made-within, made_in, master-told, slave-told}
-use Rattle.strm_laws.proofs.ModuleTurnCalls.{UnderWay, index-map, sent-stays, under_way, module-ends, module-goes}
-use Rattle.strm_blocks.specs.Blocks.{IsStore, StoreValue}
-use Rattle.strm_frame.specs.declared.service.Served.{Served}
-use Rattle.strm_frame.specs.declared.parcels.Sent.{Sent}
-use Rattle.strm_frame.specs.Hands.{AreIn, Handles, HasRoom, MayDeliver, SamePool, Spends, Takes}
-use Rattle.strm_frame.specs.Outboxes.{sent_of, times_sent, parcels_in}
-use Rattle.strm_frame.specs.Serves.{later_cost, least_free, stop_at}
+use Rattle.strm_laws.proofs.ModuleTurnCalls.{sent-stays}
+use Rattle.strm_frame.specs.Hands.{MayDeliver}
 use Rattle.strm_ldterm.specs.Turns.{needs}
 use Rattle.strm_pair.specs.AnyModules.{MayServe, turn_cost}
 use Rattle.strm_pair.specs.declared.service_calls.Call.{Call}
@@ -51,9 +23,6 @@ use Rattle.strm_pair.specs.declared.streams.Streams.{Streams}
 use Rattle.strm_pair.specs.ModuleServed.{ActsAs, CallsAs, IsKeptAll, LeavesFew, MayBook, StackServes, TellsAs, acts_in, between, call_of, call_units, next_cost, stop_in, with_more}
 use Rattle.strm_pair.specs.Pairs.{state_in, end_at, with_end, AreBeside, kept_by}
 use Rattle.strm_pair.specs.Staying.{ComesToStand}
-use Rattle.strm_frame.specs.Does.{StaysAlone}
-use Rattle.strm_queue.specs.Stored.{FreesNone}
-use Rattle.strm_ldterm.proofs.Flushed.{tallied-append}
 use Rattle.strm_ldterm.proofs.Freeing.{stays-few}
 use Rattle.strm_ldterm.proofs.Spared.{call-few}
 use Rattle.strm_pair.specs.Framing.{kept-parts}

@@ -1,19 +1,9 @@
 -- What the state of a pair shows of its store.
-use Rattle.std.proofs.Common.{◌≡◌, ◌≤◌, ◌+◌, ℕ, List, [], ◌∷◌, ◌++◌, length, refl, sym, ap, ◌∙◌, arith}
-use Rattle.std.specs.Prelude.{sum_by}
+use Rattle.strm_pair.proofs.Prelude.{◌≡◌, ◌≤◌, ◌+◌, ℕ, List, [], ◌∷◌, ◌++◌, length, refl, sym, ap, ◌∙◌, arith, sum_by, length-map, sum_by-append}
+use Rattle.strm_pair.proofs.Prelude.{sum_by-cons, free_m-is}
+use Rattle.strm_pair.specs.Prelude.{Master, Slave, Config, AreIdle, IsOrdered, Queue, AreOrdered, messages_in, stream_queues, IsAtRest}
+use Rattle.strm_pair.specs.Prelude.{queues_of_modules, Block, StoreValue, IsStore, list_at, empty_store, used, message_of, messages_on, queue_in}
 use Rattle.std.specs.List.{AllByRecursion}
-use Rattle.std.proofs.lemmas.List.{length-map}
-use Rattle.std.proofs.lemmas.List.Sums.{sum_by-append, sum_by-cons}
-use Rattle.strm_types.specs.declared.names.Side.TheVariants.{Master, Slave}
-use Rattle.strm_types.specs.declared.limits.Config.{Config}
-use Rattle.strm_laws.specs.Kept.{AreIdle}
-use Rattle.strm_types.specs.Queue.{IsOrdered, Queue}
-use Rattle.strm_laws.specs.State.{AreOrdered, messages_in, stream_queues}
-use Rattle.strm_laws.specs.Stacked.{IsAtRest, queues_of_modules}
-use Rattle.strm_blocks.specs.Blocks.{Block, StoreValue, IsStore, list_at, empty_store, used}
-use Rattle.strm_blocks.proofs.Laws.{free_m-is}
-use Rattle.strm_msg.specs.Messages.{message_of}
-use Rattle.strm_queue.specs.Stored.{messages_on, queue_in}
 use Rattle.strm_pair.specs.declared.ends.StreamEnd.{StreamEnd}
 use Rattle.strm_pair.specs.declared.streams.Streams.{Streams}
 use Rattle.strm_pair.specs.ModuleLists.{ordered-map}

@@ -1,34 +1,18 @@
 -- The queues of both sides beside their store, where one of them changed.
-use Rattle.std.proofs.Common.{ℕ, zero, suc, ◌≡◌, ◌≢◌, ◌≤◌, ◌<◌, ◌+◌, Bool, true, false, cond, List, [], ◌∷◌, map, refl, sym, ap, subst, ◌∙◌, arith}
-use Rattle.std.specs.Prelude.{◌==◌, replicate, slice_index_or, is_some}
-use Rattle.std.proofs.lemmas.Bool.Decides.{nat_tests}
-use Rattle.strm_types.specs.declared.names.Openness.{Openness}
-use Rattle.strm_types.specs.declared.names.Side.{Side}
-use Rattle.strm_types.specs.declared.names.Side.TheVariants.{Master, Slave}
+use Rattle.strm_pair.proofs.Prelude.{ℕ, zero, suc, ◌≡◌, ◌≢◌, ◌≤◌, ◌<◌, ◌+◌, Bool, true, false, cond, List, [], ◌∷◌, map, refl, sym, ap, subst, ◌∙◌}
+use Rattle.strm_pair.proofs.Prelude.{arith, ◌==◌, replicate, slice_index_or, is_some, nat_tests, get-map, get-set-same, map-set, set-all, ready-same}
+use Rattle.strm_pair.proofs.Prelude.{all-gone}
+use Rattle.strm_pair.specs.Prelude.{Openness, Side, Master, Slave, is_data_kind, of_all, emptied, none_goes, queue_behind, set, map_both, new_head}
+use Rattle.strm_pair.specs.Prelude.{enable_some, other, is_none_left, before_driver, before_head, State, stream, with_stream, with_driver_queue}
+use Rattle.strm_pair.specs.Prelude.{with_head_queue, Block, StoreValue, empty_store, list_at, message_of, Head, head_in, plain_slot, plain_flows}
+use Rattle.strm_pair.specs.Prelude.{queue_in, HoldsReadable, IsHeadQueue, IsReady, Keeps, Changes, OnlyQueue}
 use Rattle.strm_types.specs.declared.kinds.MsgKind.TheVariants as kinds
-use Rattle.strm_types.specs.Flush.{is_data_kind}
-use Rattle.strm_types.specs.Emptied.{of_all, emptied, none_goes, queue_behind}
-use Rattle.strm_types.specs.Both.{set, map_both}
 use Rattle.strm_types.specs.Heads as heads
-use Rattle.strm_types.specs.Heads.{new_head}
-use Rattle.strm_types.specs.Names.{enable_some, other}
-use Rattle.strm_types.proofs.BySide.{get-map, get-set-other, get-set-same, map-set, set-all, set-same, side-and-other}
+use Rattle.strm_types.proofs.BySide.{get-set-other, set-same, side-and-other}
 use Rattle.strm_types.specs.Queue as state
-use Rattle.strm_types.specs.Queue.{is_none_left}
-use Rattle.strm_laws.specs.Earlier.{before_driver, before_head}
 use Rattle.strm_laws.specs.Stacked as stacked
 use Rattle.strm_laws.specs.State as streams
-use Rattle.strm_laws.specs.State.{State, stream, with_stream, with_driver_queue, with_head_queue}
-use Rattle.strm_blocks.specs.Blocks.{Block, StoreValue, empty_store, list_at}
-use Rattle.strm_msg.specs.Messages.{message_of}
-use Rattle.strm_head.specs.declared.head.Head.{Head}
-use Rattle.strm_head.specs.Heads.{head_in, plain_slot}
 use Rattle.strm_queue.specs.declared.queue.Queue.{Queue}
-use Rattle.strm_queue.specs.Flows.{plain_flows}
-use Rattle.strm_queue.specs.Stored.{queue_in, HoldsReadable, IsHeadQueue, IsReady, Keeps, Changes}
-use Rattle.strm_queue.proofs.Placed.{ready-same}
-use Rattle.strm_frame.proofs.Seeking.{all-gone}
-use Rattle.strm_pty.specs.Does.{OnlyQueue}
 use Rattle.strm_pair.specs.declared.ends.StreamEnd.{StreamEnd}
 use Rattle.strm_pair.specs.declared.streams.Streams.{Streams}
 use Rattle.strm_pair.specs.Framing.{state_with, stack-same, stays-at, still}

@@ -1,30 +1,20 @@
 -- The modules of a text, placed one behind the other.
-use Rattle.std.proofs.Common.{ℕ, zero, suc, ◌≡◌, ◌≤◌, ◌<◌, ◌+◌, cond, true, List, [], ◌∷◌, ◌++◌, length, map, take, get_or, refl, sym, ap, subst, ◌∙◌, arith}
-use Rattle.std.specs.Prelude.{is_some, sum_by, Option, Some}
-use Rattle.std.proofs.lemmas.List.{map-append, take_more}
-use Rattle.std.proofs.lemmas.List.Sums.{sum_by-cons, sum_by-le-sum_by, sum_by_more_le, sum_by_push}
+use Rattle.strm_pair.proofs.Prelude.{ℕ, zero, suc, ◌≡◌, ◌≤◌, ◌<◌, ◌+◌, cond, true, List, [], ◌∷◌, ◌++◌, length, map, take, get_or, refl, sym, ap}
+use Rattle.strm_pair.proofs.Prelude.{subst, ◌∙◌, arith, is_some, sum_by, Option, Some, take_more, sum_by-cons, once-self}
+use Rattle.strm_pair.specs.Prelude.{same_module, stood, EachOnce, OfLdterm, module_name, StoreValue, list_at, HasRoom, SameOwn, once, stack-stays}
+use Rattle.strm_pair.specs.Prelude.{all_of, AreHeld, LdtermText, ModuleText, module_now, modules_now, names_now, QueuePair, Tables, HasInHand, own_in}
+use Rattle.strm_pair.specs.Prelude.{IsPairReady, owns, pair_in, queues_own, standing}
+use Rattle.std.proofs.lemmas.List.{map-append}
+use Rattle.std.proofs.lemmas.List.Sums.{sum_by-le-sum_by, sum_by_more_le, sum_by_push}
 use Rattle.strm_types.specs.declared.names.ModuleName.TheVariants as names
-use Rattle.strm_types.specs.Names.{same_module}
-use Rattle.strm_types.specs.Standings.{stood}
-use Rattle.strm_laws.specs.StackCosts.{EachOnce, times_there}
-use Rattle.strm_laws.specs.Stacked.{OfLdterm, module_name}
+use Rattle.strm_laws.specs.StackCosts.{times_there}
 use Rattle.strm_laws.proofs.StackOnce.{nothing-there, top-times}
-use Rattle.strm_blocks.specs.Blocks.{StoreValue, list_at}
-use Rattle.strm_frame.specs.Hands.{HasRoom, SameOwn, once}
-use Rattle.strm_frame.proofs.Handing.{once-self}
-use Rattle.strm_frame.specs.StackLaws.{stack-stays}
-use Rattle.strm_frame.specs.Stacks.{all_of, AreHeld}
-use Rattle.strm_image.specs.declared.modules.LdtermText.{LdtermText}
-use Rattle.strm_image.specs.declared.modules.ModuleText.{ModuleText}
 use Rattle.strm_image.specs.declared.modules.ModuleText.TheVariants as texts
-use Rattle.strm_image.specs.ModuleTexts.{module_now, modules_now, names_now, own_now, pair_now}
+use Rattle.strm_image.specs.ModuleTexts.{own_now, pair_now}
 use Rattle.strm_ldterm.specs.declared.ldterm.Ldterm.{Ldterm}
-use Rattle.strm_frame.specs.declared.queue_pair.QueuePair.{QueuePair}
-use Rattle.strm_frame.specs.declared.queue_pair.Tables.{Tables}
-use Rattle.strm_ldterm.specs.Stands.{HasInHand, keeps_itself, own_in}
+use Rattle.strm_ldterm.specs.Stands.{keeps_itself}
 use Rattle.strm_pair.specs.declared.modules.AnyModule.TheVariants as kinds
 use Rattle.strm_pair.specs.AnyModules.{AnyStanding, IsHeld, any-frame, keeps, module_in}
-use Rattle.strm_frame.specs.Standings.{IsPairReady, owns, pair_in, queues_own, standing}
 use Rattle.strm_pair.specs.Placing.{AreStacked, IsFreeFor, IsPlaced, module_blocks, own_of}
 use Rattle.strm_pair.specs.Runs.{Spent}
 use Rattle.strm_pair.specs.Standing.{FillsTwo, ldterm_blocks}

@@ -1,20 +1,12 @@
 -- A pair keeps what holds of it where it takes a step and its journal gains the entry, and where its journal begins anew.
-use Rattle.std.proofs.Common.{ℕ, List, refl, ◌≡◌, ◌∙◌, ◌++◌, ◌∷◌, [], ap, sym, subst}
-use Rattle.strm_types.specs.declared.limits.Config.{Config}
-use Rattle.strm_types.specs.Cells.{plain}
-use Rattle.strm_types.specs.declared.rules.Fates.{Fates}
-use Rattle.strm_types.specs.Deliver.{tallied}
-use Rattle.strm_types.specs.Journal.{PlainEntry}
-use Rattle.strm_laws.specs.Bases.{IsBase}
-use Rattle.strm_laws.specs.Kept.{AreIdle, gone, told_by}
-use Rattle.strm_laws.specs.Ledgers.{FewBooked}
-use Rattle.strm_laws.specs.Pair.{restarted}
-use Rattle.strm_laws.specs.Restorable.{AreWithinEntries, IsWithinEntry}
-use Rattle.strm_laws.specs.State.{State}
-use Rattle.strm_laws.specs.Step.{Step, after, replay, IsLegal}
+use Rattle.strm_pair.proofs.Prelude.{ℕ, List, refl, ◌≡◌, ◌∙◌, ◌++◌, ◌∷◌, [], ap, sym, subst}
+use Rattle.strm_pair.specs.Prelude.{Config, plain, Fates, tallied, PlainEntry, IsBase, AreIdle, told_by, FewBooked, restarted, AreWithinEntries}
+use Rattle.strm_pair.specs.Prelude.{State, after, replay, IsLegal, StoreValue}
+use Rattle.strm_laws.specs.Kept.{gone}
+use Rattle.strm_laws.specs.Restorable.{IsWithinEntry}
+use Rattle.strm_laws.specs.Step.{Step}
 use Rattle.strm_laws.proofs.BaseSteps.{base-on}
 use Rattle.strm_laws.proofs.Replay.{kept-legal, replay-append}
-use Rattle.strm_blocks.specs.Blocks.{StoreValue}
 use Rattle.strm_pair.specs.declared.streams.Streams.{Streams}
 use Rattle.strm_pair.specs.declared.journal.Journal.{Journal}
 use Rattle.strm_pair.specs.BaseTexts.{begun_at}

@@ -1,39 +1,23 @@
 -- What a call of a turn sends that stops within its message is one M_DATA, which comes to stand where it is kept ahead: what was gathered, or output. Calls
 -- open and close no side.
-use Rattle.std.proofs.Common.{ℕ, zero, suc, ◌≡◌, ◌<◌, ◌+◌, ◌-◌, ◌*◌, Bool, true, false, cond, List, [], ◌∷◌, ◌++◌, length, map, refl, sym, ap, subst, ◌∙◌, arith}
-use Rattle.std.proofs.lemmas.Bool.{false≢true}
-use Rattle.std.specs.Prelude.{◌&&◌, slice_index_or, Option, Some, is_some}
+use Rattle.strm_pair.proofs.Prelude.{ℕ, zero, suc, ◌≡◌, ◌<◌, ◌+◌, ◌-◌, Bool, true, false, cond, List, [], ◌∷◌, ◌++◌, length, map, refl, sym, ap}
+use Rattle.strm_pair.proofs.Prelude.{subst, ◌∙◌, arith, false≢true, ◌&&◌, slice_index_or, Option, Some, is_some, kept-ahead}
+use Rattle.strm_pair.specs.Prelude.{MsgKind, Data, Way, Up, Down, Spot, plain, Acted, Parcel, input_begins, is_data, made_of, passes, stages}
+use Rattle.strm_pair.specs.Prelude.{stages_done, treats, Begins, bytes_left, Discipline, Message, cells_of, data_message, is_held, size_of, act_among}
+use Rattle.strm_pair.specs.Prelude.{Outgoing, output_serves, posted, unchanged, first_size, is_none_left, left_with, Serving, opost, stood}
+use Rattle.strm_pair.specs.Prelude.{disciplined, IsKeptAhead, module_acted, Module, OfLdterm, Standing, module_serves, State, stream, asks_on, called}
+use Rattle.strm_pair.specs.Prelude.{discipline_of, led, module_at, none_there, treated, StaysAlone, stop_at}
+use Rattle.std.proofs.Common.{◌*◌}
 use Rattle.std.specs.Bool.{OnTrue}
-use Rattle.strm_types.specs.declared.kinds.MsgKind.{MsgKind}
-use Rattle.strm_types.specs.declared.kinds.MsgKind.TheVariants.{Data}
-use Rattle.strm_types.specs.declared.names.Way.{Way}
-use Rattle.strm_types.specs.declared.names.Way.TheVariants.{Up, Down}
-use Rattle.strm_types.specs.declared.spots.Spot.{Spot}
-use Rattle.strm_types.specs.Cells.{plain}
-use Rattle.strm_types.specs.Deliver.{Acted, Parcel, onward}
-use Rattle.strm_types.specs.Input.{input_begins, is_data, made_of, next_stage, passes, stages, stages_done, treats}
-use Rattle.strm_types.specs.LdtermCalls.{Begins, bytes_left}
+use Rattle.strm_types.specs.Deliver.{onward}
+use Rattle.strm_types.specs.Input.{next_stage}
 use Rattle.strm_types.specs.LdtermServes.{ldterm_serves}
-use Rattle.strm_types.specs.Ldterms.{Discipline}
-use Rattle.strm_types.specs.Message.{Message, cells_of, data_message, is_held, size_of}
-use Rattle.strm_types.specs.Modules.{act_among}
-use Rattle.strm_types.specs.OutputTurns.{Outgoing, output_serves, posted, unchanged, with_given}
-use Rattle.strm_types.specs.Queue.{first_size, is_none_left, left_with}
-use Rattle.strm_types.specs.Service.{Serving}
-use Rattle.strm_types.specs.Termios.{opost}
+use Rattle.strm_types.specs.OutputTurns.{with_given}
 use Rattle.strm_types.specs.Typing.{gathered_up}
-use Rattle.strm_types.specs.Standings.{stood}
-use Rattle.strm_types.specs.LdtermStands.{disciplined}
-use Rattle.strm_laws.specs.Pair.{IsKeptAhead}
-use Rattle.strm_laws.specs.Puts.{SameButMade, module_acted}
-use Rattle.strm_laws.specs.Stacked.{Module, OfLdterm, Standing, module_serves}
-use Rattle.strm_laws.specs.State.{State, stream}
-use Rattle.strm_laws.specs.TurnCalls.{asks_on, called, discipline_of, led, module_at, none_there, treated}
+use Rattle.strm_laws.specs.Puts.{SameButMade}
 use Rattle.strm_laws.proofs.PutParts.{acted-holds, sent-holds}
 use Rattle.strm_laws.proofs.PutsKeep.{same-itself, same-stays}
-use Rattle.strm_laws.proofs.Staying.{SentOn, kept-ahead}
-use Rattle.strm_frame.specs.Does.{StaysAlone}
-use Rattle.strm_frame.specs.Serves.{stop_at}
+use Rattle.strm_laws.proofs.Staying.{SentOn}
 use Rattle.strm_ldterm.proofs.Spending.{next-works}
 use Rattle.strm_pair.specs.declared.service_calls.Call.{Call}
 use Rattle.strm_pair.specs.ModuleServed.{TellsAs, acts_in, stop_in}

@@ -1,26 +1,12 @@
 -- The module on top of a side's stream, taken off it.
-use Rattle.std.proofs.Common.{ℕ, zero, suc, ◌≡◌, ◌≤◌, ◌<◌, ◌+◌, true, List, [], ◌∷◌, ◌++◌, length, map, refl, sym, ap, subst, ◌∙◌, arith}
-use Rattle.std.specs.Prelude.{Option, None, Some, is_some}
-use Rattle.strm_types.specs.declared.names.QueueName.{QueueName}
-use Rattle.strm_types.specs.declared.names.Side.{Side}
-use Rattle.strm_types.specs.declared.rules.Fates.{Fates}
-use Rattle.strm_types.specs.declared.rules.Rule.{Rule}
-use Rattle.strm_types.specs.declared.spots.Note.{Note}
-use Rattle.strm_types.specs.Deliver.{Carried, Fate, tallied}
-use Rattle.strm_types.specs.Modules.{top_name, without_module}
-use Rattle.strm_types.specs.Names.{other, place_of}
-use Rattle.strm_types.proofs.BySide.{get-set-same}
-use Rattle.strm_laws.specs.Pushes.{all_taken, top_taken, with_modules}
-use Rattle.strm_laws.specs.Puts.{earlier_at, noted}
-use Rattle.strm_laws.specs.Stacked.{Standing, module_name}
-use Rattle.strm_laws.specs.State.{State, Stream, stream, with_stream}
+use Rattle.strm_pair.proofs.Prelude.{ℕ, zero, suc, ◌≡◌, ◌≤◌, ◌<◌, ◌+◌, true, List, [], ◌∷◌, ◌++◌, length, map, refl, sym, ap, subst, ◌∙◌, arith}
+use Rattle.strm_pair.proofs.Prelude.{Option, None, Some, is_some, get-set-same, ready-same}
+use Rattle.strm_pair.specs.Prelude.{QueueName, Side, Fates, Rule, Note, Carried, Fate, tallied, top_name, without_module, other, place_of, all_taken}
+use Rattle.strm_pair.specs.Prelude.{top_taken, with_modules, earlier_at, noted, Standing, module_name, State, Stream, stream, with_stream, StoreValue}
+use Rattle.strm_pair.specs.Prelude.{free_d, free_m, list_at, queue_in, HoldsReadable, Tables}
 use Rattle.strm_laws.proofs.StackOnce.{pop-once}
-use Rattle.strm_blocks.specs.Blocks.{StoreValue, free_d, free_m, list_at}
-use Rattle.strm_queue.specs.Stored.{queue_in, HoldsReadable}
-use Rattle.strm_queue.proofs.Placed.{ready-same}
 use Rattle.strm_pair.specs.declared.ends.StreamEnd.{StreamEnd}
 use Rattle.strm_pair.specs.declared.stacks.Taken.{Taken}
-use Rattle.strm_frame.specs.declared.queue_pair.Tables.{Tables}
 use Rattle.strm_pair.specs.declared.streams.Streams.{Streams}
 use Rattle.strm_pair.specs.Framing.{stays-at, still}
 use Rattle.strm_pair.specs.Lists.{first_list}

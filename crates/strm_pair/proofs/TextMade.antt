@@ -1,23 +1,15 @@
 -- What a message of a text is made of stands for it, and takes as many blocks as the image counts for it.
-use Rattle.std.proofs.Common.{ℕ, ◌≡◌, ◌<◌, ◌+◌, Bool, true, false, cond, not, List, [], ◌∷◌, ◌++◌, length, take, drop, Option, None, Some, refl, sym, ap, subst, ◌∙◌, arith, inl, inr, append-nil}
-use Rattle.std.specs.Prelude.{◌||◌, ◌==◌, nat_lt}
-use Rattle.std.proofs.lemmas.Bool.{and_parts, eqb-true}
-use Rattle.std.proofs.lemmas.Bool.Decides.{nat_tests}
-use Rattle.std.proofs.lemmas.List.{take-append-drop, length-drop, length-take}
-use Rattle.strm_types.specs.declared.kinds.MsgKind.{MsgKind}
+use Rattle.strm_pair.proofs.Prelude.{ℕ, ◌≡◌, ◌<◌, ◌+◌, Bool, true, false, cond, List, [], ◌∷◌, ◌++◌, length, take, drop, refl, sym, ap, subst, ◌∙◌}
+use Rattle.strm_pair.proofs.Prelude.{arith, inl, inr, append-nil, ◌||◌, ◌==◌, nat_lt, and_parts, nat_tests, length-take, data-or-control}
+use Rattle.strm_pair.specs.Prelude.{MsgKind, is_data_kind, is_control_kind, is_high_priority, chunk_count, Block, StoreValue, message_of, Version}
+use Rattle.strm_pair.specs.Prelude.{First, Second, blocks_of, part_blocks, Parts, bytes_in, is_ioctl_kind}
+use Rattle.std.proofs.Common.{not, Option, None, Some}
+use Rattle.std.proofs.lemmas.Bool.{eqb-true}
+use Rattle.std.proofs.lemmas.List.{take-append-drop, length-drop}
 use Rattle.strm_types.specs.declared.kinds.MsgKind.TheVariants as kinds
-use Rattle.strm_types.specs.Flush.{is_data_kind}
-use Rattle.strm_types.specs.Kinds.{is_control_kind}
-use Rattle.strm_types.specs.Message.{is_high_priority}
-use Rattle.strm_types.specs.Write.{chunk_count}
-use Rattle.strm_blocks.specs.Blocks.{Block, StoreValue}
-use Rattle.strm_msg.specs.Messages.{message_of}
-use Rattle.strm_msg.proofs.Chains.{data-or-control}
-use Rattle.strm_image.specs.declared.versions.Version.{Version}
-use Rattle.strm_image.specs.declared.versions.Version.TheVariants.{First, Second}
-use Rattle.strm_image.specs.Loads.{begun, blocks_of, part_blocks}
+use Rattle.strm_image.specs.Loads.{begun}
 use Rattle.strm_image.specs.Messages as texts
-use Rattle.strm_image.specs.Messages.{Parts, bands_in, bytes_in, is_ioctl_kind, message_with, parts_fit}
+use Rattle.strm_image.specs.Messages.{bands_in, message_with, parts_fit}
 use Rattle.strm_image.proofs.LoadRows.{ioctl_blocks, part_blocks_added}
 use Rattle.strm_pair.specs.Runs.{IsRun, IsPart, Joins, Makes, Runs, if_some, run_blocks, runs_of}
 use Rattle.strm_queue.proofs.OneMade.{chunk-one}

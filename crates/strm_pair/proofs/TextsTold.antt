@@ -1,18 +1,11 @@
 -- What a text of a restorable state tells of its streams.
-use Rattle.std.proofs.Common.{List, [], ◌∷◌, map, sym, subst}
+use Rattle.strm_pair.proofs.Prelude.{List, [], ◌∷◌, map, sym, subst, length-map}
+use Rattle.strm_pair.specs.Prelude.{MODULES, Openness, Side, GoodStream, EachOnce, ModuleText, StreamText, module_now}
 use Rattle.std.specs.Prelude.{◌≤◌}
 use Rattle.std.specs.List.{AllByRecursion}
-use Rattle.std.proofs.lemmas.List.{length-map}
-use Rattle.strm_types.specs.declared.limits.TheConstants.{MODULES}
-use Rattle.strm_types.specs.declared.names.Openness.{Openness}
-use Rattle.strm_types.specs.declared.names.Side.{Side}
-use Rattle.strm_laws.specs.Restorable.{GoodModule, GoodStream}
-use Rattle.strm_laws.specs.StackCosts.{EachOnce}
+use Rattle.strm_laws.specs.Restorable.{GoodModule}
 use Rattle.strm_laws.specs.Within.{IsWithin}
-use Rattle.strm_image.specs.declared.modules.ModuleText.{ModuleText}
 use Rattle.strm_image.specs.declared.modules.ModuleText.TheVariants as texts
-use Rattle.strm_image.specs.declared.streams.StreamText.{StreamText}
-use Rattle.strm_image.specs.ModuleTexts.{module_now}
 use Rattle.strm_pair.specs.Laying.{IsStreamText, stream_now}
 use Rattle.strm_pair.specs.Placing.{IsModuleText}
 use Rattle.strm_pair.proofs.EndsMade.{names-same}

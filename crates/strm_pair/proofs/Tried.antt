@@ -1,13 +1,8 @@
 -- Modules that are tried one after the other, until one has queues of a name.
-use Rattle.std.proofs.Common.{ℕ, zero, suc, ◌≡◌, ◌≤◌, ◌<◌, ◌-◌, true, false, List, [], ◌∷◌, drop, length, refl, sym, ap, ◌∙◌, arith}
-use Rattle.std.proofs.lemmas.List.{length-map, length-take}
-use Rattle.std.specs.Prelude.{Option, None, Some, slice_index_or, take, min}
-use Rattle.strm_types.specs.declared.limits.TheConstants.{MODULES}
-use Rattle.strm_types.specs.declared.names.Place.{Place}
-use Rattle.strm_laws.specs.Earlier.{places_of}
-use Rattle.strm_types.specs.Names.{place_of}
-use Rattle.strm_laws.specs.ModuleTurns.{named_from}
-use Rattle.strm_laws.specs.Stacked.{Standing, module_name}
+use Rattle.strm_pair.proofs.Prelude.{ℕ, zero, suc, ◌≡◌, ◌≤◌, ◌<◌, ◌-◌, true, false, List, [], ◌∷◌, drop, length, refl, sym, ap, ◌∙◌, arith}
+use Rattle.strm_pair.proofs.Prelude.{length-map, length-take, Option, None, Some, slice_index_or, min}
+use Rattle.strm_pair.specs.Prelude.{MODULES, Place, places_of, place_of, named_from, Standing, module_name}
+use Rattle.std.specs.Prelude.{take}
 use Rattle.strm_pair.specs.Named.{is_there}
 
 -- the places of the first modules are the first places

@@ -1,37 +1,20 @@
 -- A turn of a driver, step by step.
-use Rattle.std.proofs.Common.{ℕ, ◌≡◌, ◌≤◌, Bool, true, false, List, [], ◌∷◌, map, refl, sym, ap, ◌∙◌, arith}
-use Rattle.std.specs.Prelude.{not, ◌&&◌, Option, None, Some, MatchOption}
-use Rattle.strm_types.specs.declared.answers.Turn.TheVariants.{Blocked, Idle}
-use Rattle.strm_types.specs.declared.names.Side.{Side}
-use Rattle.strm_types.specs.declared.names.Way.{Way}
-use Rattle.strm_types.specs.declared.names.Way.TheVariants.{Up}
+use Rattle.strm_pair.proofs.Prelude.{ℕ, ◌≡◌, ◌≤◌, Bool, true, false, List, [], ◌∷◌, map, refl, sym, ap, ◌∙◌, arith, not, ◌&&◌, Option, None, Some}
+use Rattle.strm_pair.proofs.Prelude.{MatchOption, same-spare, kind-is}
+use Rattle.strm_pair.specs.Prelude.{Blocked, Idle, Side, Way, Up, most_of, shape_of, driver_place, AreIdle, Message, is_held, other, is_open}
+use Rattle.strm_pair.specs.Prelude.{has_room_past, writer_waits, left_with, spare, State, Stream, stream, stayed_put, is_stopped_across, with_driver}
+use Rattle.strm_pair.specs.Prelude.{moved_across, driver_serves, driver_turned, Block, StoreValue, block_at, list_at, token, PeekedFirst, Peek}
+use Rattle.strm_pair.specs.Prelude.{message_of, messages_on, OnlyQueue}
 use Rattle.strm_types.specs.Cells as cells
-use Rattle.strm_types.specs.Budgets.{most_of}
-use Rattle.strm_types.specs.Shapes.{shape_of}
 use Rattle.strm_types.proofs.CostsOf.{most-few}
-use Rattle.strm_laws.specs.Earlier.{driver_place}
-use Rattle.strm_laws.specs.Kept.{AreIdle}
-use Rattle.strm_types.specs.Message.{Message, band_of, is_held}
-use Rattle.strm_types.specs.Names.{other, is_open}
-use Rattle.strm_laws.specs.Past.{has_room_past, writer_waits}
+use Rattle.strm_types.specs.Message.{band_of}
 use Rattle.strm_types.specs.Queue as plain
-use Rattle.strm_types.specs.Queue.{left_with}
-use Rattle.strm_laws.specs.Spares.{spare}
-use Rattle.strm_laws.specs.State.{State, Stream, stream}
-use Rattle.strm_laws.specs.TurnOutcomes.{stayed_put}
-use Rattle.strm_laws.specs.Turns.{is_stopped_across, held_back, with_driver, moved_across, driver_serves, driver_turned, turn_ended}
-use Rattle.strm_laws.proofs.StackSpares.{same-spare}
+use Rattle.strm_laws.specs.Turns.{held_back, turn_ended}
 use Rattle.strm_laws.proofs.StepBooks.{driver-books, end-books, waits-books}
-use Rattle.strm_blocks.specs.Blocks.{Block, StoreValue, block_at, list_at, token}
-use Rattle.strm_blocks.specs.Outcomes.{PeekedFirst}
-use Rattle.strm_blocks.specs.declared.asked.Peek.{Peek}
 use Rattle.strm_blocks.specs.declared.in_hand.InHand.{InHand}
-use Rattle.strm_msg.specs.Messages.{message_of}
 use Rattle.strm_queue.specs.declared.queue.Queue.{Queue}
-use Rattle.strm_queue.specs.Stored.{messages_on, NoneTaken, Dequeued}
-use Rattle.strm_msg.proofs.Chains.{kind-is}
+use Rattle.strm_queue.specs.Stored.{NoneTaken, Dequeued}
 use Rattle.strm_queue.proofs.Chains.{held-band, stopped-held}
-use Rattle.strm_pty.specs.Does.{OnlyQueue}
 use Rattle.strm_pair.specs.declared.ends.StreamEnd.{StreamEnd}
 use Rattle.strm_pair.specs.declared.streams.Streams.{Streams}
 use Rattle.strm_pair.specs.Framing.{rests}

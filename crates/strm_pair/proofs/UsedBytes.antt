@@ -1,24 +1,13 @@
 -- The messages of a pair have 256 bytes at most for each block that a store has.
-use Rattle.std.proofs.Common.{ℕ, ◌≡◌, ◌≤◌, ◌+◌, Bool, true, false, cond, List, [], ◌∷◌, ◌++◌, length, length-append, map, refl, ap, sym, arith}
-use Rattle.std.specs.Prelude.{◌*◌, Option, None, Some, sum_by}
-use Rattle.std.proofs.lemmas.Bool.{false≢true}
-use Rattle.std.proofs.lemmas.List.Sums.{sum_by-append, sum_by-cons}
-use Rattle.strm_types.specs.declared.names.Side.TheVariants.{Master, Slave}
-use Rattle.strm_types.specs.declared.names.Way.TheVariants.{Up, Down}
-use Rattle.strm_types.specs.Flush.{is_data_kind}
-use Rattle.strm_types.specs.Kinds.{is_body_kind, is_control_kind}
-use Rattle.strm_types.specs.Message.{Message, cells_of, part, size_of}
-use Rattle.strm_types.specs.Queue.{Queue, bytes_of}
-use Rattle.strm_types.specs.Standings.{QueuePair, stood}
-use Rattle.strm_laws.specs.Kept.{AreIdle}
-use Rattle.strm_laws.specs.Stacked.{Standing, queues_of_modules}
-use Rattle.strm_laws.specs.State.{Stream, stream_queues}
+use Rattle.strm_pair.proofs.Prelude.{ℕ, ◌≡◌, ◌≤◌, ◌+◌, Bool, true, false, cond, List, [], ◌∷◌, ◌++◌, length, length-append, map, refl, ap, sym, arith}
+use Rattle.strm_pair.proofs.Prelude.{◌*◌, Option, None, Some, sum_by, false≢true, sum_by-append, sum_by-cons, bytes-sum, control-body}
+use Rattle.strm_pair.specs.Prelude.{Master, Slave, Up, Down, is_data_kind, is_body_kind, is_control_kind, Message, cells_of, part, size_of, Queue}
+use Rattle.strm_pair.specs.Prelude.{bytes_of, stood, AreIdle, Standing, queues_of_modules, Stream, stream_queues, Block, StoreValue, IsStore}
+use Rattle.strm_pair.specs.Prelude.{block_at, list_at, control_blocks, data_blocks, message_of, part_of}
+use Rattle.strm_types.specs.Standings.{QueuePair}
 use Rattle.strm_image.specs.HasImage.{bytes_in}
-use Rattle.strm_blocks.specs.Blocks.{Block, StoreValue, IsStore, block_at, extent, list_at}
+use Rattle.strm_blocks.specs.Blocks.{extent}
 use Rattle.strm_msg.specs.Bytes as chains
-use Rattle.strm_msg.specs.Bytes.{control_blocks, data_blocks}
-use Rattle.strm_msg.specs.Messages.{message_of, part_of}
-use Rattle.strm_msg.proofs.Chains.{bytes-sum, control-body}
 use Rattle.strm_msg.proofs.Parts.{control-blocks-cons}
 use Rattle.strm_queue.proofs.Bounds.{bytes-extent}
 use Rattle.strm_pair.specs.declared.streams.Streams.{Streams}

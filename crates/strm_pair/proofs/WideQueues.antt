@@ -1,26 +1,16 @@
 -- What the queues of a pair have, as an image wants it: the flow control of each band, and few bytes.
-use Rattle.std.proofs.Common.{ℕ, ◌≡◌, List, [], ◌∷◌, ◌++◌, length, length-append, map, ◌∙◌, arith}
-use Rattle.std.specs.Prelude.{◌≤◌, ◌*◌, sum_by, Option, None, Some, IfSome}
+use Rattle.strm_pair.proofs.Prelude.{ℕ, ◌≡◌, List, [], ◌∷◌, ◌++◌, length, length-append, map, ◌∙◌, arith, ◌*◌, sum_by, Option, None, Some, IfSome}
+use Rattle.strm_pair.proofs.Prelude.{length-map, sum_by-cons, few-bytes}
+use Rattle.strm_pair.specs.Prelude.{BANDS, Side, Master, Slave, Queue, bytes_of, stood, StoreValue, IsStore, list_at, GoodStream, Restorable}
+use Rattle.strm_pair.specs.Prelude.{Standing, queues_of_modules, Stream, stream_queues, plain_flow, queue_in, IsReady, IsPairReady, standing}
+use Rattle.std.specs.Prelude.{◌≤◌}
 use Rattle.std.specs.List.{AllByRecursion}
-use Rattle.std.proofs.lemmas.List.{length-map}
-use Rattle.std.proofs.lemmas.List.Sums.{sum_by-cons}
-use Rattle.strm_types.specs.declared.limits.TheConstants.{BANDS}
-use Rattle.strm_types.specs.declared.names.Side.{Side}
-use Rattle.strm_types.specs.declared.names.Side.TheVariants.{Master, Slave}
-use Rattle.strm_types.specs.Queue.{Queue, bytes_of}
-use Rattle.strm_types.specs.Standings.{QueuePair, stood}
-use Rattle.strm_blocks.specs.Blocks.{StoreValue, IsStore, list_at}
-use Rattle.strm_laws.specs.Restorable.{GoodStream, Restorable}
-use Rattle.strm_laws.specs.Stacked.{Standing, queues_of_modules}
-use Rattle.strm_laws.specs.State.{Stream, queues_of, stream_queues}
+use Rattle.strm_types.specs.Standings.{QueuePair}
+use Rattle.strm_laws.specs.State.{queues_of}
 use Rattle.strm_image.specs.HasImage.{AreBanded, bytes_in}
 use Rattle.strm_queue.specs.declared.queue.Queue as kept
-use Rattle.strm_queue.specs.Flows.{plain_flow}
-use Rattle.strm_queue.specs.Stored.{queue_in, IsReady}
-use Rattle.strm_queue.proofs.Bounds.{few-bytes}
 use Rattle.strm_queue.proofs.Sizes.{bytes-same}
 use Rattle.strm_frame.specs.declared.queue_pair.QueuePair as pairs
-use Rattle.strm_frame.specs.Standings.{IsPairReady, standing}
 use Rattle.strm_pair.specs.declared.ends.StreamEnd.{StreamEnd}
 use Rattle.strm_pair.specs.declared.streams.Streams.{Streams}
 use Rattle.strm_pair.specs.AnyModules.{AnyStanding, IsHeld, module_in}

@@ -1,8 +1,6 @@
 -- A message that is to be delivered, with nothing else in hand.
 use Rattle.std.specs.Prelude.{ℕ, ◌≡◌, [], ◌∷◌}
-use Rattle.strm_laws.specs.Kept.{AreIdle}
-use Rattle.strm_blocks.specs.Blocks.{StoreValue, in_hand}
-use Rattle.strm_msg.specs.Messages.{IsChain}
+use Rattle.strm_pair.specs.Prelude.{AreIdle, StoreValue, in_hand, IsChain}
 use Rattle.strm_pair.specs.declared.streams.Streams.{Streams}
 use Rattle.strm_pair.specs.Pairs.{state_in, AreBeside}
 

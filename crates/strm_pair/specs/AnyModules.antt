@@ -2,30 +2,19 @@
 use Rattle.std.specs.Prelude.{ℕ, ◌≡◌, Bool, false, List, [], ◌∷◌, map, Option, None, Some, is_some}
 use Rattle.std.specs.List.{AllByRecursion}
 use Rattle.std.proofs.Common.{refl, ap}
-use Rattle.strm_types.specs.declared.names.ModuleName.{ModuleName}
-use Rattle.strm_types.specs.declared.names.Way.{Way}
-use Rattle.strm_types.specs.declared.spots.Spot.{Spot}
-use Rattle.strm_types.specs.Cells.{plain}
-use Rattle.strm_types.specs.LdtermStands.{disciplined}
-use Rattle.strm_types.specs.Message.{Message}
-use Rattle.strm_types.specs.Names.{place_of}
-use Rattle.strm_types.specs.Standings.{QueuePair, has_queues, stood}
-use Rattle.strm_laws.specs.Stacked.{Module, OfLdterm, OfPtem, OfPckt, Standing, kind_name, module_name, module_puts, module_serves, without_kind_line}
-use Rattle.strm_laws.specs.TurnCalls.{ldterm_of}
-use Rattle.strm_blocks.specs.Blocks.{StoreValue}
+use Rattle.strm_pair.specs.Prelude.{ModuleName, Way, Spot, plain, disciplined, Message, place_of, has_queues, stood, Module, OfLdterm, OfPtem, OfPckt}
+use Rattle.strm_pair.specs.Prelude.{Standing, kind_name, module_name, module_puts, module_serves, without_kind_line, ldterm_of, StoreValue, SameOwn}
+use Rattle.strm_pair.specs.Prelude.{Fits, keeps_of, owns, queues_in, queues_own, standing_in, own-rests, ptem_in, pckt_in}
+use Rattle.strm_types.specs.Standings.{QueuePair}
 use Rattle.strm_frame.specs.declared.queue_pair.QueuePair as frame
 use Rattle.strm_frame.specs.declared.standing.Standing as standing
-use Rattle.strm_frame.specs.Hands.{SameOwn}
 use Rattle.strm_frame.specs.StandingLaws.{none-same, standing-frame}
-use Rattle.strm_frame.specs.Standings.{Fits, keeps_of, lists_of, owns, queues_in, queues_own, standing_in}
+use Rattle.strm_frame.specs.Standings.{lists_of}
 use Rattle.strm_ldterm.specs.Bounds as bounds
 use Rattle.strm_ldterm.specs.Frames.{own-frame, own-rested}
-use Rattle.strm_ldterm.specs.Resting.{own-rests}
 use Rattle.strm_ldterm.specs.Served.{MayBeServed}
 use Rattle.strm_ldterm.specs.ServedLaws.{either-served, line-served, puts-served, serves-served}
 use Rattle.strm_ldterm.specs.Stands as stands
-use Rattle.strm_pty.specs.Beside.{ptem_in}
-use Rattle.strm_pty.specs.Packs.{pckt_in}
 use Rattle.strm_pair.specs.declared.modules.AnyModule.{AnyModule}
 use Rattle.strm_pair.specs.declared.modules.AnyModule.TheVariants as kinds
 

@@ -1,17 +1,7 @@
 -- The base of a journal, as its text tells it.
 use Rattle.std.specs.Prelude.{ℕ, List, Option, None, Some, ◌≡◌, ◌≤◌, ◌+◌, ◌*◌, vec_capacity}
-use Rattle.strm_types.specs.declared.both.Both.{Both}
-use Rattle.strm_types.specs.declared.limits.Config.{Config}
-use Rattle.strm_types.specs.declared.rules.Fates.{Fates}
-use Rattle.strm_types.specs.Journal.{PlainEntry}
-use Rattle.strm_types.specs.Rules.{no_fates}
-use Rattle.strm_laws.specs.State.{State, opening}
+use Rattle.strm_pair.specs.Prelude.{Both, Config, Fates, PlainEntry, no_fates, State, opening, Version, Second, whole, imaged, Imaged, image}
 use Rattle.strm_image.specs.declared.lengths.TheConstants.{IMAGE_BLOCK, IMAGE_FIXED}
-use Rattle.strm_image.specs.declared.versions.Version.{Version}
-use Rattle.strm_image.specs.declared.versions.Version.TheVariants.{Second}
-use Rattle.strm_image.specs.Format.{whole}
-use Rattle.strm_image.specs.HasImage.{imaged}
-use Rattle.strm_image.specs.Image.{Imaged, image}
 use Rattle.strm_pair.specs.declared.base.Base.{Base}
 use Rattle.strm_pair.specs.Starts.{Start}
 

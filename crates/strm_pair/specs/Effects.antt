@@ -1,14 +1,6 @@
 -- What puts, calls and turns ask of the streams and their store, and what calls and turns lead to.
 use Rattle.std.specs.Prelude.{ℕ, ◌≡◌, ◌≤◌, ◌+◌, true, List}
-use Rattle.strm_types.specs.declared.rules.Fates.{Fates}
-use Rattle.strm_types.specs.Deliver.{Fate, tallied}
-use Rattle.strm_laws.specs.Kept.{AreIdle}
-use Rattle.strm_laws.specs.Refusals.{in_range}
-use Rattle.strm_laws.specs.Spares.{spare}
-use Rattle.strm_laws.specs.State.{State}
-use Rattle.strm_blocks.specs.Blocks.{StoreValue, in_hand}
-use Rattle.strm_msg.specs.Messages.{IsChain}
-use Rattle.strm_frame.specs.Hands.{CanPut, HasRoom}
+use Rattle.strm_pair.specs.Prelude.{Fates, Fate, tallied, AreIdle, in_range, spare, State, StoreValue, in_hand, IsChain, CanPut, HasRoom}
 use Rattle.strm_pair.specs.declared.streams.Streams.{Streams}
 use Rattle.strm_pair.specs.Pairs.{state_in, AreBeside, AreHeld, SamePool, kept_by}
 

@@ -2,21 +2,13 @@
 use Rattle.std.specs.Prelude.{ℕ, ◌≡◌, ◌+◌, ◌≤◌, ◌<◌, List, [], slice_index_or}
 use Rattle.std.proofs.Common.{refl, sym, ap, subst, ◌∙◌, arith}
 use Rattle.std.specs.List.{AllByRecursion}
-use Rattle.strm_types.specs.declared.both.Both.{Both}
-use Rattle.strm_types.specs.declared.names.Side.{Side}
-use Rattle.strm_types.specs.declared.names.Side.TheVariants.{Master, Slave}
+use Rattle.strm_pair.specs.Prelude.{Both, Side, Master, Slave, AreIdle, other, IsAtRest, State, StoreValue, in_hand, list_at, head_in, queue_in}
+use Rattle.strm_pair.specs.Prelude.{HoldsReadable}
 use Rattle.strm_types.specs.Cells as cells
-use Rattle.strm_laws.specs.Kept.{AreIdle}
-use Rattle.strm_types.specs.Names.{other}
 use Rattle.strm_types.proofs.BySide.{map-same}
 use Rattle.strm_laws.specs.Stacked as plain
-use Rattle.strm_laws.specs.Stacked.{IsAtRest}
 use Rattle.strm_laws.specs.State as state
-use Rattle.strm_laws.specs.State.{State}
-use Rattle.strm_blocks.specs.Blocks.{StoreValue, in_hand, list_at}
 use Rattle.strm_frame.specs.Hands.{SameFor}
-use Rattle.strm_head.specs.Heads.{head_in}
-use Rattle.strm_queue.specs.Stored.{queue_in, HoldsReadable}
 use Rattle.strm_queue.proofs.Placed.{ready-same}
 use Rattle.strm_pair.specs.declared.ends.StreamEnd.{StreamEnd}
 use Rattle.strm_pair.specs.declared.streams.Streams.{Streams}

@@ -1,12 +1,6 @@
 -- The queues that a module is given when it is pushed (streamio(7I): I_PUSH).
 use Rattle.std.specs.Prelude.{ℕ, ◌≡◌, ◌+◌, true, [], Option, is_some, IfSome}
-use Rattle.strm_types.specs.declared.names.ModuleName.{ModuleName}
-use Rattle.strm_types.specs.Names.{place_of}
-use Rattle.strm_laws.specs.Pushes.{queues_named}
-use Rattle.strm_blocks.specs.Blocks.{StoreValue, list_at}
-use Rattle.strm_frame.specs.declared.queue_pair.QueuePair.{QueuePair}
-use Rattle.strm_frame.specs.Hands.{once}
-use Rattle.strm_frame.specs.Standings.{IsPairReady, queues_in, queues_own}
+use Rattle.strm_pair.specs.Prelude.{ModuleName, place_of, queues_named, StoreValue, list_at, QueuePair, once, IsPairReady, queues_in, queues_own}
 
 -- Modules of this name have them: then they are new and ready while nothing stands on their lists, which are two from a number on. Else there are none.
 pub record GivenFor (name : ModuleName) (first : ℕ) (queues : Option QueuePair) : Type 0 where

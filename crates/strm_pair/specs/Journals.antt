@@ -1,7 +1,6 @@
 -- How a journal is kept: entries without their bytes, and one buffer with the bytes of all.
 use Rattle.std.specs.Prelude.{◌≡◌, ℕ, ◌+◌, ◌≤◌, ◌&&◌, Bool, nat_lt, nat_le, List, length, sum_by}
-use Rattle.strm_types.specs.declared.entries.Entry.{Entry}
-use Rattle.strm_types.specs.Journal.{PlainEntry, entry_len, room_used}
+use Rattle.strm_pair.specs.Prelude.{Entry, PlainEntry, entry_len, room_used}
 
 -- the buffer has the bytes of the entries, and both have their room
 pub record IsStored (entries : List (Entry ℕ)) (bytes : List ℕ)

@@ -1,16 +1,9 @@
 -- Streams of a text in a store.
 use Rattle.std.specs.Prelude.{ℕ, ◌≡◌, ◌≤◌, ◌<◌, ◌+◌, length}
-use Rattle.strm_types.specs.declared.limits.TheConstants.{IOCTL_MAX}
-use Rattle.strm_types.specs.declared.names.Openness.{Openness}
-use Rattle.strm_types.specs.Signals.{AreSignals}
+use Rattle.strm_pair.specs.Prelude.{IOCTL_MAX, Openness, AreSignals, is_part_kind, Stream, StoreValue, list_at, StreamText, queue_now, laid_now}
 use Rattle.strm_types.specs.Slots.{answer_bytes, map_slot}
-use Rattle.strm_laws.specs.Restorable.{GoodQueue, is_part_kind}
-use Rattle.strm_laws.specs.State.{Stream}
-use Rattle.strm_blocks.specs.Blocks.{StoreValue, list_at}
-use Rattle.strm_image.specs.declared.streams.StreamText.{StreamText}
+use Rattle.strm_laws.specs.Restorable.{GoodQueue}
 use Rattle.strm_image.specs.Image.{stream_of}
-use Rattle.strm_image.specs.QueueTexts.{queue_now}
-use Rattle.strm_image.specs.StreamTexts.{laid_now}
 use Rattle.strm_pair.specs.declared.ends.StreamEnd.{StreamEnd}
 use Rattle.strm_pair.specs.Placing.{AreModuleTexts}
 use Rattle.strm_pair.specs.Runs.{Spent}

@@ -1,3 +1,4 @@
+pub mod Prelude
 pub mod Alone
 pub mod AnyModules
 pub mod Given

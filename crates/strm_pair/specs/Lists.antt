@@ -1,7 +1,6 @@
 -- The lists of a store on which the queues of a side stand: four from a number on.
 use Rattle.std.specs.Prelude.{ℕ}
-use Rattle.strm_types.specs.declared.names.Side.{Side}
-use Rattle.strm_types.specs.declared.names.Side.TheVariants.{Master, Slave}
+use Rattle.strm_pair.specs.Prelude.{Side, Master, Slave}
 
 abbrev pub first_list : Side → ℕ
 first_list Master = 0

@@ -5,24 +5,14 @@ use Rattle.std.proofs.Common.{append-nil, arith, cond, refl, ap, sym, subst, ◌
 use Rattle.std.proofs.lemmas.Bool.Decides.{nat_tests}
 use Rattle.std.proofs.lemmas.List.{length-map}
 use Rattle.std.proofs.lemmas.List.Sums.{sum_by-cons}
-use Rattle.strm_types.specs.declared.names.Way.{Way}
-use Rattle.strm_types.specs.declared.names.Way.TheVariants.{Up, Down}
-use Rattle.strm_types.specs.Message.{rank_of}
-use Rattle.strm_types.specs.Queue.{IsOrdered, Queue}
+use Rattle.strm_pair.specs.Prelude.{Way, Up, Down, rank_of, IsOrdered, Queue, queues_of_modules, Block, StoreValue, list_at, message_of, messages_on}
+use Rattle.strm_pair.specs.Prelude.{QueuePair, once, all_of, AreHeld, IsPairReady, owns, pair_in, queues_own, standing}
 use Rattle.strm_types.specs.Ranked as ranked
-use Rattle.strm_laws.specs.Stacked.{queues_of_modules}
 use Rattle.strm_blocks.specs.Blocks as blocks
-use Rattle.strm_blocks.specs.Blocks.{Block, StoreValue, list_at}
-use Rattle.strm_msg.specs.Messages.{message_of}
 use Rattle.strm_msg.proofs.Chains.{rank-same}
-use Rattle.strm_queue.specs.Stored.{messages_on}
 use Rattle.strm_frame.proofs.Handing.{once-self}
-use Rattle.strm_frame.specs.declared.queue_pair.QueuePair.{QueuePair}
-use Rattle.strm_frame.specs.Hands.{once}
-use Rattle.strm_frame.specs.Stacks.{all_of, AreHeld}
 use Rattle.strm_pair.specs.declared.modules.AnyModule.{AnyModule}
 use Rattle.strm_pair.specs.AnyModules.{AnyStanding, IsHeld, module_in}
-use Rattle.strm_frame.specs.Standings.{IsPairReady, owns, pair_in, queues_own, standing}
 use Rattle.strm_pair.specs.Named.{messages_queued}
 use Rattle.strm_pair.specs.Streams.{AreFor, AreShown}
 

@@ -1,32 +1,12 @@
 -- What the calls of a turn of a module's queue did to the store, the streams and what has gone.
 use Rattle.std.specs.Prelude.{ℕ, ◌≡◌, ◌≤◌, ◌<◌, ◌+◌, ◌-◌, ◌*◌, ◌==◌, ◌%◌, ◌^◌, Bool, true, false, not, List, length, Option, HoldsAt}
 use Rattle.std.specs.Bool.{OnTrue}
-use Rattle.strm_types.specs.declared.answers.Turn.TheVariants.{Moved}
-use Rattle.strm_types.specs.declared.books.Book.{Book}
-use Rattle.strm_types.specs.declared.both.Both.{Both}
-use Rattle.strm_types.specs.declared.limits.TheConstants.{STOP_BLOCKS}
-use Rattle.strm_types.specs.declared.names.QueueName.{QueueName}
-use Rattle.strm_types.specs.declared.rules.Fates.{Fates}
-use Rattle.strm_types.specs.declared.spots.Spot.{Spot}
+use Rattle.strm_pair.specs.Prelude.{Moved, Book, Both, STOP_BLOCKS, QueueName, Fates, Spot, plain, Fate, Took, tallied, made_of, at_place}
+use Rattle.strm_pair.specs.Prelude.{module_turn_ended, moved_on, IsKeptAhead, module_acted, spare, State, stream, Begins, Ends, bytes_left, most_made}
+use Rattle.strm_pair.specs.Prelude.{asks_on, called, discipline_of, led, module_at, treated, StoreValue, times_in, Sent, Served, Handles, HasRoom}
+use Rattle.strm_pair.specs.Prelude.{OnlyOwn, SamePool, AreChains, parcels_in, sent_of, times_sent, later_cost, least_free, stop_at}
 use Rattle.strm_types.specs.Books.{with_made}
-use Rattle.strm_types.specs.Cells.{plain}
-use Rattle.strm_types.specs.Deliver.{Fate, Took, tallied}
-use Rattle.strm_types.specs.Input.{made_of}
-use Rattle.strm_types.specs.ModuleQueues.{at_place}
-use Rattle.strm_laws.specs.ModuleTurns.{module_turn_ended, moved_on}
-use Rattle.strm_laws.specs.Pair.{IsKeptAhead}
-use Rattle.strm_laws.specs.Puts.{module_acted}
-use Rattle.strm_laws.specs.Spares.{spare}
-use Rattle.strm_laws.specs.State.{State, stream}
-use Rattle.strm_types.specs.LdtermCalls.{Begins, Ends, bytes_left}
-use Rattle.strm_types.specs.Service.{most_made}
-use Rattle.strm_laws.specs.TurnCalls.{asks_on, called, discipline_of, led, module_at, treated}
-use Rattle.strm_blocks.specs.Blocks.{StoreValue, times_in}
-use Rattle.strm_frame.specs.declared.parcels.Sent.{Sent}
-use Rattle.strm_frame.specs.declared.service.Served.{Served}
-use Rattle.strm_frame.specs.Hands.{Handles, HasRoom, OnlyOwn, SamePool}
-use Rattle.strm_frame.specs.Outboxes.{AreChains, parcels_in, sent_of, times_sent}
-use Rattle.strm_frame.specs.Serves.{later_cost, least_free, stop_at, stop_of}
+use Rattle.strm_frame.specs.Serves.{stop_of}
 use Rattle.strm_pair.specs.AnyModules.{turn_cost}
 use Rattle.strm_pair.specs.declared.service_calls.Call.{Call}
 use Rattle.strm_pair.specs.declared.streams.Streams.{Streams}

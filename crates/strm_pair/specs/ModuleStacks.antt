@@ -4,18 +4,10 @@ use Rattle.std.specs.List.{AllByRecursion}
 use Rattle.std.proofs.Common.{arith, refl, sym, ◌∙◌}
 use Rattle.std.proofs.lemmas.List.{length-map}
 use Rattle.std.proofs.lemmas.List.Sums.{sum_by-cons}
-use Rattle.strm_types.specs.declared.names.Way.TheVariants.{Up}
-use Rattle.strm_laws.specs.Stacked.{IsAtRest, KindRests}
-use Rattle.strm_blocks.specs.Blocks.{StoreValue}
-use Rattle.strm_frame.specs.declared.queue_pair.QueuePair.{QueuePair}
-use Rattle.strm_frame.specs.Hands.{SameOwn}
-use Rattle.strm_frame.specs.StackLaws.{stack-stays}
-use Rattle.strm_frame.specs.Stacks.{all_of}
-use Rattle.strm_ldterm.specs.Resting.{own-rests}
+use Rattle.strm_pair.specs.Prelude.{Up, IsAtRest, KindRests, StoreValue, QueuePair, SameOwn, stack-stays, all_of, own-rests, owns}
 use Rattle.strm_pair.specs.declared.modules.AnyModule.{AnyModule}
 use Rattle.strm_pair.specs.declared.modules.AnyModule.TheVariants as kinds
 use Rattle.strm_pair.specs.AnyModules.{AnyStanding, IsHeld, IsKindHeld, any-frame, keeps, kind_in, kind_keeps, module_in}
-use Rattle.strm_frame.specs.Standings.{owns}
 use Rattle.strm_pair.specs.ModuleLists.{none-own, stack-shown}
 use Rattle.strm_pair.specs.Stacks.{modules_in, IsStackHeld, stack_owns, stack_keeps, Stack}
 use Rattle.strm_pair.specs.Streams.{AreFor, AreShown}

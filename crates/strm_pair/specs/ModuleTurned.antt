@@ -1,15 +1,7 @@
 -- What a turn of a module's queue begins with.
 use Rattle.std.specs.Prelude.{ℕ, ◌≡◌, ◌<◌, ◌≤◌, false, length, Some}
-use Rattle.strm_types.specs.declared.answers.Turn.{Turn}
-use Rattle.strm_types.specs.declared.limits.TheConstants.{MODULES}
-use Rattle.strm_types.specs.declared.names.QueueName.{QueueName}
-use Rattle.strm_types.specs.declared.spots.Spot.{Spot}
-use Rattle.strm_types.specs.Cells.{plain}
-use Rattle.strm_laws.specs.ModuleTurns.{module_turned, moved_by, moved_within, place_named}
-use Rattle.strm_laws.specs.State.{State, stream}
-use Rattle.strm_types.specs.LdtermCalls.{bytes_left}
-use Rattle.strm_laws.specs.TurnCalls.{discipline_of, module_at}
-use Rattle.strm_laws.specs.TurnOutcomes.{stayed_put}
+use Rattle.strm_pair.specs.Prelude.{Turn, MODULES, QueueName, Spot, plain, module_turned, moved_by, moved_within, place_named, State, stream}
+use Rattle.strm_pair.specs.Prelude.{bytes_left, discipline_of, module_at, stayed_put}
 use Rattle.strm_pair.specs.declared.module_turns.Begun.{Begun}
 use Rattle.strm_pair.specs.declared.module_turns.Begun.TheVariants.{Over, Serves}
 

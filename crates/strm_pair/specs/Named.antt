@@ -1,13 +1,6 @@
 -- The module of a stream whose queues have a name, and what is said of it. Places count from 1 for the module on top.
 use Rattle.std.specs.Prelude.{ℕ, Bool, false, List, [], flat_map, Option, None, Some}
-use Rattle.strm_types.specs.declared.names.Place.{Place}
-use Rattle.strm_types.specs.declared.names.Way.{Way}
-use Rattle.strm_types.specs.Message.{Message}
-use Rattle.strm_types.specs.ModuleQueues.{at_place}
-use Rattle.strm_types.specs.Names.{same_place}
-use Rattle.strm_types.specs.Standings.{messages_at}
-use Rattle.strm_laws.specs.ModuleTurns.{place_named}
-use Rattle.strm_laws.specs.Stacked.{Standing}
+use Rattle.strm_pair.specs.Prelude.{Place, Way, Message, at_place, same_place, messages_at, place_named, Standing}
 
 -- a place of queues is this one
 abbrev pub is_there : Place → Option Place → Bool

@@ -1,8 +1,6 @@
 -- The nearest earlier queues of a place.
 use Rattle.std.specs.Prelude.{Option}
-use Rattle.strm_types.specs.declared.names.QueueName.{QueueName}
-use Rattle.strm_types.specs.declared.names.Way.{Way}
-use Rattle.strm_types.specs.declared.names.Way.TheVariants.{Up, Down}
+use Rattle.strm_pair.specs.Prelude.{QueueName, Way, Up, Down}
 use Rattle.strm_pair.specs.declared.earlier.Earlier.{Earlier}
 
 -- that of a way

@@ -1,16 +1,6 @@
 -- What a pair over a store stands for, and what holds of each.
 use Rattle.std.specs.Prelude.{ℕ, ◌≡◌}
-use Rattle.strm_types.specs.declared.limits.Config.{Config}
-use Rattle.strm_types.specs.declared.rules.Fates.{Fates}
-use Rattle.strm_types.specs.Cells.{plain}
-use Rattle.strm_laws.specs.Bases.{IsBase}
-use Rattle.strm_laws.specs.Kept.{told_by}
-use Rattle.strm_laws.specs.Ledgers.{FewBooked}
-use Rattle.strm_laws.specs.Pair.{PairState}
-use Rattle.strm_laws.specs.Restorable.{AreWithinEntries}
-use Rattle.strm_laws.specs.State.{State}
-use Rattle.strm_laws.specs.Step.{replay, IsLegal}
-use Rattle.strm_blocks.specs.Blocks.{StoreValue}
+use Rattle.strm_pair.specs.Prelude.{Config, Fates, plain, IsBase, told_by, FewBooked, PairState, AreWithinEntries, State, replay, IsLegal, StoreValue}
 use Rattle.strm_pair.specs.declared.streams.Streams.{Streams}
 use Rattle.strm_pair.specs.declared.base.Base.{Base}
 use Rattle.strm_pair.specs.declared.journal.Journal.{Journal}

@@ -1,12 +1,6 @@
 -- What a pair over a store stands for.
 use Rattle.std.specs.Prelude.{ℕ, ◌≡◌, ◌<◌, ◌+◌, List, []}
-use Rattle.strm_types.specs.declared.names.Side.{Side}
-use Rattle.strm_types.specs.declared.names.Side.TheVariants.{Master, Slave}
-use Rattle.strm_types.specs.Both.{get, set, map_both}
-use Rattle.strm_laws.specs.State.{State}
-use Rattle.strm_laws.specs.Refusals.{Free}
-use Rattle.strm_types.specs.Journal.{PlainEntry, entries_in}
-use Rattle.strm_blocks.specs.Blocks.{StoreValue, free_m, free_d, in_hand}
+use Rattle.strm_pair.specs.Prelude.{Side, Master, Slave, get, set, map_both, State, Free, PlainEntry, entries_in, StoreValue, free_m, free_d, in_hand}
 use Rattle.strm_pair.specs.declared.streams.Streams.{Streams}
 use Rattle.strm_pair.specs.declared.ends.StreamEnd.{StreamEnd}
 use Rattle.strm_pair.specs.declared.journal.Journal.{Journal}

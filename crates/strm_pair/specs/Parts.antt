@@ -1,10 +1,7 @@
 -- How long the parts of an answer are, and what holds a message of a priority back.
 use Rattle.std.specs.Prelude.{ℕ, Bool, false, max}
-use Rattle.strm_types.specs.declared.answers.Answer.{Answer}
-use Rattle.strm_types.specs.declared.answers.Answer.TheVariants.{Bytes, Msg, Signals}
-use Rattle.strm_types.specs.declared.modes.Prio.{Prio}
-use Rattle.strm_types.specs.declared.modes.Prio.TheVariants.{High, Band}
-use Rattle.strm_types.specs.Journal.{part_len}
+use Rattle.strm_pair.specs.Prelude.{Answer, Bytes, Msg, Prio, High, Band, part_len}
+use Rattle.strm_types.specs.declared.answers.Answer.TheVariants.{Signals}
 
 -- how many bytes the longest part of an answer has: what a read gives is one part, what a getmsg gives two
 abbrev pub longest_part : Answer ℕ → ℕ

@@ -1,17 +1,10 @@
 -- Modules of a text in a store.
 use Rattle.std.specs.Prelude.{ℕ, ◌≡◌, ◌≤◌, ◌+◌, true, List, [], Option, is_some, length, map, sum_by}
 use Rattle.std.specs.List.{AllByRecursion}
-use Rattle.strm_types.specs.declared.limits.TheConstants.{MODULES}
-use Rattle.strm_laws.specs.StackCosts.{EachOnce}
-use Rattle.strm_blocks.specs.Blocks.{StoreValue, list_at}
-use Rattle.strm_frame.specs.Hands.{once}
-use Rattle.strm_frame.specs.Stacks.{all_of, AreHeld}
-use Rattle.strm_image.specs.declared.modules.ModuleText.{ModuleText}
+use Rattle.strm_pair.specs.Prelude.{MODULES, EachOnce, StoreValue, list_at, once, all_of, AreHeld, ModuleText, module_now, modules_now, names_now}
+use Rattle.strm_pair.specs.Prelude.{Tables, owns}
 use Rattle.strm_image.specs.declared.modules.ModuleText.TheVariants as texts
-use Rattle.strm_image.specs.ModuleTexts.{module_now, modules_now, names_now}
-use Rattle.strm_frame.specs.declared.queue_pair.Tables.{Tables}
 use Rattle.strm_pair.specs.AnyModules.{AnyStanding, IsHeld, keeps, module_in}
-use Rattle.strm_frame.specs.Standings.{owns}
 use Rattle.strm_pair.specs.Runs.{Spent}
 use Rattle.strm_pair.specs.Standing.{FillsTwo, IsLdtermText, ldterm_blocks}
 

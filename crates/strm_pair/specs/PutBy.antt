@@ -1,26 +1,12 @@
 -- What a put at a spot of a pair did to the store and the streams.
 use Rattle.std.specs.Prelude.{ℕ, ◌≡◌, ◌-◌, true, List}
-use Rattle.strm_types.specs.declared.rules.Fates.{Fates}
-use Rattle.strm_types.specs.declared.spots.Spot.{Spot}
-use Rattle.strm_types.specs.Cells.{plain}
-use Rattle.strm_types.specs.Deliver.{Acted, Parcel, Took, tallied}
-use Rattle.strm_types.specs.Message.{Message, is_held}
-use Rattle.strm_types.specs.ModuleQueues.{at_place}
+use Rattle.strm_pair.specs.Prelude.{Fates, Spot, plain, Acted, Parcel, Took, tallied, Message, is_held, at_place, module_takes, Standing, module_puts}
+use Rattle.strm_pair.specs.Prelude.{State, StoreValue, FreesNone, Sent, Acts, Puts, once, Handles, SamePool, Shifts, Spends, message_in, times_sent}
+use Rattle.strm_pair.specs.Prelude.{parcels_in, AreChains, all_of, AreHeld, owns}
 use Rattle.strm_types.specs.Modules.{put_among}
-use Rattle.strm_laws.specs.StackCosts.{module_takes}
-use Rattle.strm_laws.specs.Stacked.{Standing, module_puts}
-use Rattle.strm_laws.specs.State.{State}
-use Rattle.strm_blocks.specs.Blocks.{StoreValue}
-use Rattle.strm_queue.specs.Stored.{FreesNone}
-use Rattle.strm_frame.specs.declared.parcels.Sent.{Sent}
-use Rattle.strm_frame.specs.declared.modules.Acts.{Acts}
-use Rattle.strm_frame.specs.Does.{Puts}
-use Rattle.strm_frame.specs.Hands.{once, Handles, SamePool, Shifts, Spends}
-use Rattle.strm_frame.specs.Outboxes.{message_in, times_sent, parcels_in, AreChains}
-use Rattle.strm_frame.specs.Stacks.{all_in, all_of, AreHeld}
+use Rattle.strm_frame.specs.Stacks.{all_in}
 use Rattle.strm_pair.specs.declared.streams.Streams.{Streams}
 use Rattle.strm_pair.specs.AnyModules.{IsHeld, keeps, module_in}
-use Rattle.strm_frame.specs.Standings.{owns}
 use Rattle.strm_pair.specs.Pairs.{state_in, AreBeside, kept_by}
 use Rattle.strm_pair.specs.Stacks.{modules_in, Stack}
 

@@ -1,16 +1,10 @@
 -- What a side of a pair is ready for (poll(2)): what its calls would be told as the state is.
 use Rattle.std.specs.Prelude.{Bool, true, false, not, ◌==◌, List, [], length, Option, None, Some}
-use Rattle.strm_types.specs.declared.events.Event.TheVariants.{Get, Read, Write}
+use Rattle.strm_pair.specs.Prelude.{Write, Side, Refusal, Slot, Answered, is_open, unfit, State, stream}
+use Rattle.strm_types.specs.declared.events.Event.TheVariants.{Get, Read}
 use Rattle.strm_types.specs.declared.modes.Wanted.TheVariants.{Any}
-use Rattle.strm_types.specs.declared.names.Side.{Side}
-use Rattle.strm_types.specs.declared.refusals.Refusal.{Refusal}
 use Rattle.strm_types.specs.declared.refusals.Refusal.TheVariants.{Eagain}
-use Rattle.strm_types.specs.declared.slots.Slot.{Slot}
-use Rattle.strm_types.specs.declared.slots.Slot.TheVariants.{Answered}
 use Rattle.strm_types.specs.JobControl.{caller_of}
-use Rattle.strm_types.specs.Names.{is_open}
-use Rattle.strm_laws.specs.Refusals.{unfit}
-use Rattle.strm_laws.specs.State.{State, stream}
 use Rattle.strm_pair.specs.declared.readiness.Ready.{Ready}
 
 -- a call would have to wait

@@ -1,10 +1,6 @@
 -- A side's stream whose head was made as new (open(2), close(2)).
 use Rattle.std.specs.Prelude.{◌≡◌}
-use Rattle.strm_types.specs.declared.names.Openness.{Openness}
-use Rattle.strm_types.specs.Heads.{new_head}
-use Rattle.strm_blocks.specs.Blocks.{StoreValue}
-use Rattle.strm_queue.specs.Stored.{Keeps}
-use Rattle.strm_head.specs.Heads.{head_in}
+use Rattle.strm_pair.specs.Prelude.{Openness, new_head, StoreValue, Keeps, head_in}
 use Rattle.strm_pair.specs.declared.ends.StreamEnd.{StreamEnd}
 
 -- Its head is as new, with nothing on its queue. It is open or closed as said, and all else of it stays.

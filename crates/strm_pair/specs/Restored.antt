@@ -1,13 +1,6 @@
 -- A pair that is made of an image (docs/IMAGES.md).
 use Rattle.std.specs.Prelude.{ℕ, ◌+◌, ◌-◌, List, [], Option, None, Some, Result, Ok, Err}
-use Rattle.strm_types.specs.declared.limits.Config.{Config}
-use Rattle.strm_types.specs.declared.refusals.Refusal.{Refusal}
-use Rattle.strm_types.specs.declared.rules.Fates.{Fates}
-use Rattle.strm_laws.specs.Pair.{PairState}
-use Rattle.strm_image.specs.declared.versions.Version.{Version}
-use Rattle.strm_image.specs.Counts.{laid_blocks}
-use Rattle.strm_image.specs.Format.{IsTextOf}
-use Rattle.strm_image.specs.Image.{Imaged, image, laid_on}
+use Rattle.strm_pair.specs.Prelude.{Config, Refusal, Fates, PairState, Version, laid_blocks, IsTextOf, Imaged, image, laid_on}
 
 -- bytes are the image of a state and of what has gone, in either version; or that of none
 abbrev pub IsImageOf : List ℕ → Imaged → Type 0

@@ -2,16 +2,10 @@
 -- messages does to a store.
 use Rattle.std.specs.Prelude.{ℕ, ◌≡◌, ◌<◌, ◌+◌, if◌then◌else◌, List, [], ◌∷◌, ◌++◌, take, drop, length, Option, None, Some}
 use Rattle.std.specs.List.{AllByRecursion}
-use Rattle.strm_types.specs.declared.kinds.MsgKind.{MsgKind}
-use Rattle.strm_types.specs.Kinds.{is_control_kind}
-use Rattle.strm_types.specs.Message.{Message}
+use Rattle.strm_pair.specs.Prelude.{MsgKind, is_control_kind, Message, chunk_count, Block, StoreValue, IsFreshName, block_at, held, free_m, free_d}
+use Rattle.strm_pair.specs.Prelude.{message_of, part_of, AreData, IsChain, part_blocks, Parts, bytes_in, is_ioctl_kind}
 use Rattle.strm_types.specs.Queue as plain
-use Rattle.strm_types.specs.Write.{chunk_count}
-use Rattle.strm_blocks.specs.Blocks.{Block, StoreValue, IsFreshName, block_at, held, free_m, free_d}
 use Rattle.strm_msg.specs.Bytes.{bytes_of}
-use Rattle.strm_msg.specs.Messages.{message_of, part_of, AreData, IsChain}
-use Rattle.strm_image.specs.Loads.{part_blocks}
-use Rattle.strm_image.specs.Messages.{Parts, bytes_in, is_ioctl_kind}
 
 -- the bytes that blocks of the message's kind show, and those of the M_DATA blocks behind them, where there are any
 abbrev pub Runs : Type 0

@@ -1,17 +1,10 @@
 -- What a pair shows of its queues.
 use Rattle.std.specs.Prelude.{ℕ, ◌≡◌, ◌+◌, Bool, false, List, []}
-use Rattle.strm_types.specs.Message.{Message}
-use Rattle.strm_types.specs.declared.names.Place.{Place}
-use Rattle.strm_types.specs.declared.names.Place.TheVariants.{Head, Ldterm, Driver}
-use Rattle.strm_types.specs.declared.names.Way.{Way}
-use Rattle.strm_types.specs.declared.names.Way.TheVariants.{Up, Down}
-use Rattle.strm_types.specs.declared.names.QueueName.{QueueName}
-use Rattle.strm_types.specs.Both.{AllSides}
+use Rattle.strm_pair.specs.Prelude.{Message, Place, Ldterm, Driver, Way, Up, Down, QueueName, AllSides, count_of, first_size, State, Stream, stream}
+use Rattle.strm_pair.specs.Prelude.{StoreValue, messages_on}
+use Rattle.strm_types.specs.declared.names.Place.TheVariants.{Head}
 use Rattle.strm_types.specs.ModuleQueues as modules
-use Rattle.strm_types.specs.Queue.{count_of, is_full, first_size}
-use Rattle.strm_laws.specs.State.{State, Stream, stream}
-use Rattle.strm_blocks.specs.Blocks.{StoreValue}
-use Rattle.strm_queue.specs.Stored.{messages_on}
+use Rattle.strm_types.specs.Queue.{is_full}
 use Rattle.strm_pair.specs.Lists.{first_list}
 use Rattle.strm_pair.specs.Named.{at_named, messages_named, messages_queued}
 

@@ -1,11 +1,9 @@
 -- Stacks of modules beside a store, the module on top first.
 use Rattle.std.specs.Prelude.{ℕ, List, map}
 use Rattle.strm_laws.specs.Stacked as plain
-use Rattle.strm_blocks.specs.Blocks.{StoreValue}
-use Rattle.strm_frame.specs.Stacks.{all_of, AreHeld}
+use Rattle.strm_pair.specs.Prelude.{StoreValue, all_of, AreHeld, owns}
 use Rattle.strm_frame.specs.declared.stack.Stack as frame
 use Rattle.strm_pair.specs.declared.modules.AnyModule.{AnyModule}
-use Rattle.strm_frame.specs.Standings.{owns}
 use Rattle.strm_pair.specs.AnyModules.{IsHeld, keeps, module_in}
 
 abbrev pub Stack : Type 0

@@ -1,14 +1,10 @@
 -- Queues of a text in a store.
 use Rattle.std.specs.Prelude.{ℕ, ◌≡◌, ◌≢◌, ◌≤◌, ◌+◌, Bool, false, List, length, slice_index_or, sum_by}
+use Rattle.strm_pair.specs.Prelude.{StoreValue, list_at, IsReady, LdtermText, blocks_of, messages_now}
 use Rattle.strm_types.specs.declared.keys.TheConstants.{LINE_MAX}
 use Rattle.strm_types.specs.declared.output.TheConstants.{COLUMN_MAX}
 use Rattle.strm_types.specs.Queue as plain
-use Rattle.strm_blocks.specs.Blocks.{StoreValue, list_at}
 use Rattle.strm_queue.specs.declared.queue.Queue.{Queue}
-use Rattle.strm_queue.specs.Stored.{IsReady}
-use Rattle.strm_image.specs.declared.modules.LdtermText.{LdtermText}
-use Rattle.strm_image.specs.Loads.{blocks_of}
-use Rattle.strm_image.specs.Texts.{messages_now}
 
 -- the flow control of a band that there isn't
 abbrev pub no_flow : plain.Flow

@@ -1,12 +1,6 @@
 -- Where a pair's journal begins: a state, how many bytes had gone by each rule there, and the entries that led there from where the pair began.
 use Rattle.std.specs.Prelude.{ℕ, List, [], ◌++◌}
-use Rattle.strm_types.specs.declared.rules.Fates.{Fates}
-use Rattle.strm_types.specs.Cells.{plain}
-use Rattle.strm_types.specs.Journal.{PlainEntry}
-use Rattle.strm_types.specs.Rules.{no_fates}
-use Rattle.strm_laws.specs.Kept.{told_by}
-use Rattle.strm_laws.specs.State.{State, opening}
-use Rattle.strm_laws.specs.Step.{replay}
+use Rattle.strm_pair.specs.Prelude.{Fates, plain, PlainEntry, no_fates, told_by, State, opening, replay}
 
 pub record Start : Type 0 where
   pub state : State ℕ

@@ -1,21 +1,9 @@
 -- Messages that come to stand on a queue of a pair with their blocks, so that none becomes free (put(9E), putq(9F)).
 use Rattle.std.specs.Prelude.{ℕ, ◌≡◌, ◌<◌, true, List, [], ◌∷◌}
 use Rattle.std.proofs.Common.{sym, subst}
-use Rattle.strm_types.specs.declared.names.Side.{Side}
-use Rattle.strm_types.specs.declared.names.Way.{Way}
-use Rattle.strm_types.specs.declared.names.Way.TheVariants.{Down}
-use Rattle.strm_types.specs.declared.spots.Spot.{Spot}
-use Rattle.strm_types.specs.Cells.{plain}
-use Rattle.strm_types.specs.Deliver.{Parcel}
-use Rattle.strm_types.specs.Message.{Message, is_held}
-use Rattle.strm_laws.specs.Pair.{IsKeptAhead}
-use Rattle.strm_laws.specs.Puts.{put_in}
-use Rattle.strm_laws.specs.State.{State}
+use Rattle.strm_pair.specs.Prelude.{Side, Way, Down, Spot, plain, Parcel, Message, is_held, IsKeptAhead, put_in, State, StoreValue, FreesNone}
+use Rattle.strm_pair.specs.Prelude.{StaysAlone, message_in}
 use Rattle.strm_laws.proofs.Staying.{SentOn, kept-ahead, puts-go, puts-same}
-use Rattle.strm_blocks.specs.Blocks.{StoreValue}
-use Rattle.strm_queue.specs.Stored.{FreesNone}
-use Rattle.strm_frame.specs.Does.{StaysAlone}
-use Rattle.strm_frame.specs.Outboxes.{message_in}
 use Rattle.strm_pair.specs.declared.streams.Streams.{Streams}
 use Rattle.strm_pair.specs.Pairs.{state_in}
 

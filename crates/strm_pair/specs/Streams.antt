@@ -1,17 +1,10 @@
 -- What the two streams stand for, beside their store.
 use Rattle.std.specs.Prelude.{ℕ, ◌≡◌, ◌+◌, ◌≤◌, ◌<◌, true, is_some, List, [], length, map, sum_by}
 use Rattle.std.specs.List.{AllByRecursion}
-use Rattle.strm_types.specs.declared.both.Both.{Both}
-use Rattle.strm_types.specs.declared.names.Way.TheVariants.{Up, Down}
-use Rattle.strm_types.specs.Both.{AllSides}
-use Rattle.strm_types.specs.Queue.{IsOrdered}
-use Rattle.strm_laws.specs.StackCosts.{EachOnce}
+use Rattle.strm_pair.specs.Prelude.{Both, Up, Down, AllSides, IsOrdered, EachOnce, Stream, StoreValue, list_at, head_in, messages_on, queue_in}
+use Rattle.strm_pair.specs.Prelude.{IsReady, IsHeadQueue}
 use Rattle.strm_laws.specs.Stacked as plain
-use Rattle.strm_laws.specs.State.{Stream}
-use Rattle.strm_blocks.specs.Blocks.{StoreValue, list_at}
 use Rattle.strm_pair.specs.declared.ends.StreamEnd.{StreamEnd}
-use Rattle.strm_head.specs.Heads.{head_in}
-use Rattle.strm_queue.specs.Stored.{messages_on, queue_in, IsReady, IsHeadQueue}
 use Rattle.strm_pair.specs.Lists.{first_list}
 use Rattle.strm_pair.specs.Named.{messages_queued}
 use Rattle.strm_pair.specs.Stacks.{modules_in, IsStackHeld, stack_owns}

@@ -1,17 +1,8 @@
 -- The module on top of a stack, taken off it with all that stood on its queues and in its line (streamio(7I): I_POP; close(2)).
 use Rattle.std.specs.Prelude.{ℕ, ◌≡◌, ◌≤◌, ◌<◌, List, [], ◌∷◌, Option}
-use Rattle.strm_types.specs.declared.names.Side.{Side}
-use Rattle.strm_types.specs.declared.rules.Fates.{Fates}
-use Rattle.strm_types.specs.declared.rules.Rule.{Rule}
-use Rattle.strm_types.specs.declared.names.ModuleName.{ModuleName}
-use Rattle.strm_types.specs.Deliver.{Acted, tallied}
-use Rattle.strm_laws.specs.Pushes.{top_on, top_taken}
+use Rattle.strm_pair.specs.Prelude.{Side, Fates, Rule, ModuleName, Acted, tallied, top_on, top_taken, Standing, module_name, without_kind_line}
+use Rattle.strm_pair.specs.Prelude.{kind_line, stream, StoreValue, list_at, FreesBlocks, SameHand}
 use Rattle.strm_types.specs.Service.{cleared}
-use Rattle.strm_laws.specs.Stacked.{Standing, module_name, without_kind_line, kind_line}
-use Rattle.strm_laws.specs.State.{stream}
-use Rattle.strm_blocks.specs.Blocks.{StoreValue, list_at}
-use Rattle.strm_queue.specs.Stored.{FreesBlocks}
-use Rattle.strm_frame.specs.Serves.{SameHand}
 use Rattle.strm_pair.specs.declared.stacks.Taken.{Taken}
 use Rattle.strm_pair.specs.declared.streams.Streams.{Streams}
 use Rattle.strm_pair.specs.Effects.{Leads}

@@ -1,16 +1,9 @@
 -- The first message of a driver's queue, taken off it, and a turn that moves it.
 use Rattle.std.specs.Prelude.{ℕ, ◌≡◌, Bool, not, ◌&&◌, ◌==◌, if◌then◌else◌, List, ◌∷◌}
-use Rattle.strm_types.specs.declared.answers.Turn.{Turn}
-use Rattle.strm_types.specs.declared.names.Side.{Side}
-use Rattle.strm_types.specs.declared.rules.Fates.{Fates}
-use Rattle.strm_types.specs.Cells.{plain}
-use Rattle.strm_types.specs.Message.{Message}
-use Rattle.strm_types.specs.Queue.{Queue, left_with, relieved, relieves}
-use Rattle.strm_laws.specs.State.{stream}
-use Rattle.strm_laws.specs.Turns.{turned_queue, with_driver, moved_across}
-use Rattle.strm_blocks.specs.Blocks.{StoreValue, in_hand}
-use Rattle.strm_msg.specs.Messages.{message_of, IsChain}
-use Rattle.strm_queue.specs.Stored.{FreesBlocks}
+use Rattle.strm_pair.specs.Prelude.{Turn, Side, Fates, plain, Message, Queue, left_with, stream, with_driver, moved_across, StoreValue, in_hand}
+use Rattle.strm_pair.specs.Prelude.{message_of, IsChain, FreesBlocks}
+use Rattle.strm_types.specs.Queue.{relieved, relieves}
+use Rattle.strm_laws.specs.Turns.{turned_queue}
 use Rattle.strm_pair.specs.declared.streams.Streams.{Streams}
 use Rattle.strm_pair.specs.Effects.{Delivers}
 use Rattle.strm_pair.specs.Pairs.{state_in, AreBeside}

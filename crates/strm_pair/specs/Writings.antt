@@ -2,13 +2,7 @@
 use Rattle.std.specs.Prelude.{ℕ, true, false, ◌&&◌, ◌+◌, min, if◌then◌else◌, List, [], ◌∷◌, length}
 use Rattle.std.specs.Int.{to_be_bytes, w32}
 use Rattle.std.specs.List.{flat_map}
-use Rattle.strm_types.specs.declared.kinds.MsgKind.{MsgKind}
-use Rattle.strm_types.specs.Kinds.{kind_number, is_body_kind, is_control_kind}
-use Rattle.strm_types.specs.Message.{Message}
-use Rattle.strm_blocks.specs.Outcomes.{SeenBlock}
-use Rattle.strm_image.specs.declared.versions.Version.TheVariants.{Second}
-use Rattle.strm_image.specs.Messages.{message}
-use Rattle.strm_image.specs.Sinks.{patch, place_in, put}
+use Rattle.strm_pair.specs.Prelude.{MsgKind, kind_number, is_body_kind, is_control_kind, Message, SeenBlock, Second, message, patch, place_in, put}
 use Rattle.strm_pair.specs.declared.images.texts.Writing.{Writing}
 
 -- the text of a part that is absent

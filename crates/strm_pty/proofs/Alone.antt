@@ -1,10 +1,9 @@
 -- A module without queues, where it stands.
-use Rattle.std.proofs.Common.{◌≡◌, ap, sym, subst, ◌∙◌}
-use Rattle.std.specs.Prelude.{Option, None, IfSome}
+use Rattle.strm_pty.proofs.Prelude.{◌≡◌, ap, sym, subst, ◌∙◌, Option, None}
+use Rattle.strm_pty.specs.Prelude.{StoreValue, QueuePair, queues_in}
+use Rattle.std.specs.Prelude.{IfSome}
 use Rattle.strm_types.specs.Standings.{stood}
-use Rattle.strm_blocks.specs.Blocks.{StoreValue}
-use Rattle.strm_frame.specs.declared.queue_pair.QueuePair.{QueuePair}
-use Rattle.strm_frame.specs.Standings.{IsPairReady, queues_in}
+use Rattle.strm_frame.specs.Standings.{IsPairReady}
 
 module _ (s t : StoreValue) (queues : Option QueuePair) (none : queues ≡ None) where
   -- no queue stands for anything, whatever the store holds

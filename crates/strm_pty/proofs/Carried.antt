@@ -1,10 +1,6 @@
 -- Two messages that have blocks behind their first ones.
-use Rattle.std.proofs.Common.{ℕ, ◌≡◌, ◌<◌, List, [], ◌∷◌, ap, ◌∙◌, drop, length, arith}
-use Rattle.strm_types.specs.Deliver.{Parcel}
-use Rattle.strm_blocks.specs.Blocks.{Block, StoreValue, in_hand, token}
-use Rattle.strm_frame.specs.declared.parcels.Sent.{Sent}
-use Rattle.strm_frame.specs.Outboxes.{times_sent, parcels_in}
-use Rattle.strm_frame.proofs.Handing.{once-self}
+use Rattle.strm_pty.proofs.Prelude.{ℕ, ◌≡◌, ◌<◌, List, [], ◌∷◌, ap, ◌∙◌, drop, length, arith, once-self}
+use Rattle.strm_pty.specs.Prelude.{Parcel, Block, StoreValue, in_hand, token, Sent, times_sent, parcels_in}
 use Rattle.strm_pty.specs.Shares.{BothCarry}
 
 -- others may be sent behind them, where they stay

@@ -1,13 +1,7 @@
 -- How many blocks ptem may take of an M_IOCTL that may be answered, by the way that it goes.
-use Rattle.std.proofs.Common.{ℕ, ◌≡◌, true, ap, ◌∙◌}
-use Rattle.strm_types.specs.declared.names.Way.{Way}
-use Rattle.strm_types.specs.declared.names.Way.TheVariants.{Up, Down}
-use Rattle.strm_types.specs.declared.spots.Spot.{Spot}
-use Rattle.strm_types.specs.Budgets.{own_at}
-use Rattle.strm_types.specs.Commands.{is_asked}
-use Rattle.strm_types.specs.Message.{Message}
+use Rattle.strm_pty.proofs.Prelude.{ℕ, ◌≡◌, true, ap, ◌∙◌}
+use Rattle.strm_pty.specs.Prelude.{Way, Up, Down, Spot, own_at, is_asked, Message, ptem_does}
 use Rattle.strm_types.specs.Shapes.{Shape, shape_of}
-use Rattle.strm_types.specs.Tables.{ptem_does}
 use Rattle.strm_types.proofs.ShapesOf.{asked-shape}
 
 module _ (here : Spot) (m : Message ℕ) (asked : is_asked m ≡ true) where

@@ -1,26 +1,19 @@
 -- Puts at drivers, step by step.
-use Rattle.std.proofs.Common.{ℕ, ◌≡◌, ◌≢◌, ◌≤◌, ◌<◌, ◌+◌, cond, eqb, List, [], ◌∷◌, ◌++◌, refl, sym, ap, subst, ◌∙◌, arith, inl, inr}
-use Rattle.std.specs.Prelude.{slice_index_or, None}
-use Rattle.std.proofs.lemmas.Bool.{cases_eq}
-use Rattle.std.proofs.lemmas.List.Sums.{sum_by-cons}
-use Rattle.strm_types.specs.declared.kinds.MsgKind.{MsgKind}
-use Rattle.strm_types.specs.declared.rules.Fates.{Fates}
-use Rattle.strm_types.specs.declared.spots.Note.{Note}
-use Rattle.strm_types.specs.Deliver.{Acted, Parcel, tallied}
-use Rattle.strm_types.specs.Message.{Message}
+use Rattle.strm_pty.proofs.Prelude.{ℕ, ◌≡◌, ◌≢◌, ◌≤◌, ◌<◌, ◌+◌, cond, eqb, List, [], ◌∷◌, ◌++◌, refl, sym, ap, subst, ◌∙◌, arith, inl, inr, None}
+use Rattle.strm_pty.proofs.Prelude.{cases_eq, sum_by-cons, stays-chain, once-self, parcels-same, chains-same, one-parts, one-chains, no-parts}
+use Rattle.strm_pty.proofs.Prelude.{none-chains, shifts-both, shifts-as, shifts-freed}
+use Rattle.strm_pty.specs.Prelude.{MsgKind, Fates, Note, Acted, Parcel, tallied, Message, Block, StoreValue, IsStore, IsInHand, in_hand, held}
+use Rattle.strm_pty.specs.Prelude.{dropped, times_in, token, Queue, queue_in, IsReady, Acts, Sent, once, Shifts, HasRoom, sent_of, times_sent}
+use Rattle.strm_pty.specs.Prelude.{parcels_in, AreChains}
+use Rattle.std.specs.Prelude.{slice_index_or}
 use Rattle.strm_types.specs.Queue as plain
-use Rattle.strm_blocks.specs.Blocks.{Block, Held, StoreValue, IsStore, IsInHand, in_hand, held, dropped, times_in, token}
+use Rattle.strm_blocks.specs.Blocks.{Held}
 use Rattle.strm_msg.specs.Messages.{AreMessages}
-use Rattle.strm_msg.proofs.Hands.{other-name, stays-chain}
-use Rattle.strm_queue.specs.declared.queue.Queue.{Queue}
+use Rattle.strm_msg.proofs.Hands.{other-name}
 use Rattle.strm_queue.specs.Kept.{AreCounted}
-use Rattle.strm_queue.specs.Stored.{queue_in, IsReady}
-use Rattle.strm_frame.specs.declared.modules.Acts.{Acts}
-use Rattle.strm_frame.specs.declared.parcels.Sent.{Sent}
-use Rattle.strm_frame.specs.Hands.{once, CanPut, Shifts, HasRoom}
-use Rattle.strm_frame.specs.Outboxes.{sent_of, times_sent, parcel_in, parcels_in, AreChains}
-use Rattle.strm_frame.proofs.Handing.{once-self, parcels-same, chains-same, one-parts, one-chains, no-parts, none-chains}
-use Rattle.strm_frame.proofs.Shifting.{shifts-none, shifts-both, shifts-as, shifts-freed}
+use Rattle.strm_frame.specs.Hands.{CanPut}
+use Rattle.strm_frame.specs.Outboxes.{parcel_in}
+use Rattle.strm_frame.proofs.Shifting.{shifts-none}
 use Rattle.strm_pty.specs.Does.{OnlyQueue, Does, Alters, Makes, Swaps, MadeOne}
 
 -- where no list changed

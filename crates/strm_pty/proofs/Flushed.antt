@@ -1,20 +1,9 @@
 -- What a driver does with an M_FLUSH, step by step.
-use Rattle.std.proofs.Common.{ℕ, ◌≡◌, true, false, cond, List, [], ◌++◌, refl, sym, ap, subst, append-nil}
-use Rattle.std.specs.Prelude.{◌&&◌}
-use Rattle.strm_types.specs.declared.flushing.FlushAsked.{FlushAsked}
-use Rattle.strm_types.specs.declared.names.Side.{Side}
-use Rattle.strm_types.specs.declared.rules.Fates.{Fates}
-use Rattle.strm_types.specs.declared.spots.Across.{Across}
-use Rattle.strm_types.specs.declared.spots.Note.{Note}
-use Rattle.strm_types.specs.declared.spots.Spot.{Spot}
-use Rattle.strm_types.specs.Drivers.{own_flushed, freed, flush_down, flush_across, reader_flush, bottom_across, driver_across}
+use Rattle.strm_pty.proofs.Prelude.{ℕ, ◌≡◌, true, false, cond, List, [], ◌++◌, refl, sym, ap, subst, append-nil, ◌&&◌}
+use Rattle.strm_pty.specs.Prelude.{FlushAsked, Side, Fates, Across, Note, Spot, reader_flush, bottom_across, StoreValue, Queue, queue_in, IsReady}
+use Rattle.strm_pty.specs.Prelude.{Acts, Sent, sent_of}
+use Rattle.strm_types.specs.Drivers.{own_flushed, freed, flush_down, flush_across, driver_across}
 use Rattle.strm_types.specs.Queue as plain
-use Rattle.strm_blocks.specs.Blocks.{StoreValue}
-use Rattle.strm_queue.specs.declared.queue.Queue.{Queue}
-use Rattle.strm_queue.specs.Stored.{queue_in, IsReady}
-use Rattle.strm_frame.specs.declared.modules.Acts.{Acts}
-use Rattle.strm_frame.specs.declared.parcels.Sent.{Sent}
-use Rattle.strm_frame.specs.Outboxes.{sent_of}
 use Rattle.strm_pty.specs.Does.{Does, Alters, Makes, Swaps}
 use Rattle.strm_pty.proofs.Doing.{makes-both, flush-does}
 

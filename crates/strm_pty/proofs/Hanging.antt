@@ -1,25 +1,11 @@
 -- A message in hand is sent on behind a header, and two of one payload are, one after the other.
-use Rattle.std.proofs.Common.{ℕ, ◌≡◌, ◌≢◌, ◌≤◌, ◌<◌, ◌+◌, false, true, cond, eqb, List, [], ◌∷◌, ◌++◌, refl, sym, ap, subst, ◌∙◌, drop, length, arith, inl, inr}
-use Rattle.std.proofs.lemmas.Bool.{cases_eq}
-use Rattle.strm_types.specs.declared.kinds.MsgKind.{MsgKind}
+use Rattle.strm_pty.proofs.Prelude.{ℕ, ◌≡◌, ◌≢◌, ◌≤◌, ◌<◌, ◌+◌, false, true, cond, eqb, List, [], ◌∷◌, ◌++◌, refl, sym, ap, subst, ◌∙◌, drop, length}
+use Rattle.strm_pty.proofs.Prelude.{arith, inl, inr, cases_eq, plain-is, chains-same, once-self, parcels-same, shifts-as, shifts-both}
+use Rattle.strm_pty.specs.Prelude.{MsgKind, payload, Parcel, is_data_kind, is_control_kind, Message, bare, Block, StoreValue, IsStore, IsInHand}
+use Rattle.strm_pty.specs.Prelude.{block_at, changed, copy_of, dropped, filled_block, in_hand, times_in, token, Copied, bytes_of, message_of, IsChain}
+use Rattle.strm_pty.specs.Prelude.{Sent, once, message_in, times_sent, parcels_in}
 use Rattle.strm_types.specs.declared.kinds.MsgKind.TheVariants as kinds
-use Rattle.strm_types.specs.Acks.{payload}
-use Rattle.strm_types.specs.Deliver.{Parcel}
-use Rattle.strm_types.specs.Flush.{is_data_kind}
-use Rattle.strm_types.specs.Kinds.{is_control_kind}
-use Rattle.strm_types.specs.Message.{Message}
-use Rattle.strm_types.specs.Typing.{bare}
-use Rattle.strm_blocks.specs.Blocks.{Block, StoreValue, IsStore, IsInHand, block_at, changed, copy_of, dropped, filled_block, in_hand, times_in, token}
-use Rattle.strm_blocks.specs.Outcomes.{Copied}
-use Rattle.strm_msg.specs.Bytes.{bytes_of}
-use Rattle.strm_msg.specs.Messages.{message_of, IsChain}
 use Rattle.strm_msg.proofs.Hands.{changed-same}
-use Rattle.strm_msg.proofs.MadePlain.{plain-is}
-use Rattle.strm_frame.specs.declared.parcels.Sent.{Sent}
-use Rattle.strm_frame.specs.Hands.{once}
-use Rattle.strm_frame.specs.Outboxes.{message_in, times_sent, parcels_in}
-use Rattle.strm_frame.proofs.Handing.{chains-same, once-self, parcels-same}
-use Rattle.strm_frame.proofs.Shifting.{shifts-as, shifts-both}
 use Rattle.strm_pty.specs.Does.{Swaps}
 use Rattle.strm_pty.specs.Packs.{Becomes}
 use Rattle.strm_pty.specs.Shares.{AreShared, BothCarry, Parts, SendsBoth}

@@ -1,3 +1,4 @@
+pub mod Prelude
 pub mod Replied
 pub mod Carried
 pub mod Costing

@@ -1,27 +1,17 @@
 -- A message that a driver made, and that it sends where a condition holds.
-use Rattle.std.proofs.Common.{ℕ, ◌≡◌, ◌≤◌, ◌+◌, Bool, true, false, List, [], ◌∷◌, length, refl, sym, ap, ◌∙◌, arith, inl, inr}
-use Rattle.std.specs.Prelude.{◌&&◌, Option, None, Some}
-use Rattle.strm_types.specs.declared.flushing.FlushAsked.{FlushAsked}
+use Rattle.strm_pty.proofs.Prelude.{ℕ, ◌≡◌, ◌≤◌, ◌+◌, Bool, true, false, List, [], ◌∷◌, length, refl, sym, ap, ◌∙◌, arith, inl, inr, ◌&&◌, Option}
+use Rattle.strm_pty.proofs.Prelude.{None, Some}
+use Rattle.strm_pty.specs.Prelude.{FlushAsked, MsgKind, Flush, Iocnak, Ioc, Up, Spot, Parcel, toward, reader_flush, is_data_kind, ioc_bytes}
+use Rattle.strm_pty.specs.Prelude.{nak_message, StoreValue, in_hand, held, free_m, free_d, token, Sent, HasRoom}
 use Rattle.strm_types.specs.declared.kinds.Band.{Band}
-use Rattle.strm_types.specs.declared.kinds.MsgKind.{MsgKind}
-use Rattle.strm_types.specs.declared.kinds.MsgKind.TheVariants.{Flush, Iocnak}
-use Rattle.strm_types.specs.declared.ioctls.Ioc.{Ioc}
-use Rattle.strm_types.specs.declared.names.Way.TheVariants.{Up}
-use Rattle.strm_types.specs.declared.spots.Spot.{Spot}
-use Rattle.strm_types.specs.Deliver.{Parcel, toward}
-use Rattle.strm_types.specs.Drivers.{reader_flush}
-use Rattle.strm_types.specs.Flush.{is_data_kind}
 use Rattle.strm_types.specs.Flushing.{read_flush}
-use Rattle.strm_types.specs.Ioctls.{ioc_bytes, refused, nak_message}
+use Rattle.strm_types.specs.Ioctls.{refused}
 use Rattle.strm_types.specs.Write.{chunk_count}
-use Rattle.strm_blocks.specs.Blocks.{StoreValue, in_hand, held, free_m, free_d, token}
 use Rattle.strm_blocks.proofs.Laws.{in_hand-held}
 use Rattle.strm_msg.specs.Made.{MadeOf, TooFew, copies_of, pieces}
 use Rattle.strm_msg.proofs.MadePlain.{made-plain}
 use Rattle.strm_msg.proofs.Pieces.{length-pieces}
 use Rattle.strm_queue.proofs.OneMade.{chunk-one}
-use Rattle.strm_frame.specs.declared.parcels.Sent.{Sent}
-use Rattle.strm_frame.specs.Hands.{HasRoom}
 use Rattle.strm_pty.specs.Does.{Makes, MadeOne}
 use Rattle.strm_pty.proofs.Doing.{makes-none, makes-one}
 

@@ -1,23 +1,19 @@
 -- The chain of a packet: an M_PROTO block with the number of a kind, and behind it the blocks of a message, which are M_DATA then.
-use Rattle.std.proofs.Common.{ℕ, ◌≡◌, ◌<◌, Bool, true, false, cond, List, [], ◌∷◌, ◌++◌, length, refl, sym, ap, ◌∙◌, arith, append-nil}
-use Rattle.std.specs.Prelude.{◌&&◌, not, Option, None, Some}
+use Rattle.strm_pty.proofs.Prelude.{ℕ, ◌≡◌, ◌<◌, Bool, true, false, cond, List, [], ◌∷◌, ◌++◌, length, refl, sym, ap, ◌∙◌, arith, append-nil, ◌&&◌}
+use Rattle.strm_pty.proofs.Prelude.{Option, None, Some, kind-is, parts-same, plain-is, retyped-length}
+use Rattle.strm_pty.specs.Prelude.{MsgKind, Spot, cells_made, plain, is_data_kind, is_control_kind, kind_number, Message, cells_of, has_parts}
+use Rattle.strm_pty.specs.Prelude.{is_stop_or_start, plain_packed, Block, block_at, copy_of, filled_block, bytes_of, message_of, IsChain, retyped}
+use Rattle.std.specs.Prelude.{not}
 use Rattle.std.proofs.lemmas.List.{nil_from_length}
-use Rattle.strm_types.specs.declared.kinds.MsgKind.{MsgKind}
 use Rattle.strm_types.specs.declared.kinds.MsgKind.TheVariants as kinds
-use Rattle.strm_types.specs.declared.spots.Spot.{Spot}
-use Rattle.strm_types.specs.Cells.{cells_made, plain}
-use Rattle.strm_types.specs.Flush.{is_data_kind}
-use Rattle.strm_types.specs.Kinds.{is_control_kind, kind_number}
-use Rattle.strm_types.specs.Message.{Message, band_of, cells_of, has_parts, is_high_priority}
-use Rattle.strm_types.specs.Pckts.{is_bare_packet, is_stop_or_start, pckt_dir, plain_packed}
+use Rattle.strm_types.specs.Message.{band_of, is_high_priority}
+use Rattle.strm_types.specs.Pckts.{is_bare_packet, pckt_dir}
 use Rattle.strm_types.proofs.MadeCells.{made-plain}
-use Rattle.strm_blocks.specs.Blocks.{Block, block_at, copy_of, filled_block}
-use Rattle.strm_msg.specs.Bytes.{bytes_of, data_blocks}
-use Rattle.strm_msg.specs.Messages.{message_of, part_of, AreData, IsChain}
-use Rattle.strm_msg.specs.Retyped.{retyped}
-use Rattle.strm_msg.proofs.Chains.{band-is, cells-shown, control-front, data-behind, kind-is}
-use Rattle.strm_msg.proofs.MadePlain.{parts-same, plain-is, plain-none}
-use Rattle.strm_msg.proofs.Retyping.{all-data, retyped-bytes, retyped-length}
+use Rattle.strm_msg.specs.Bytes.{data_blocks}
+use Rattle.strm_msg.specs.Messages.{part_of, AreData}
+use Rattle.strm_msg.proofs.Chains.{band-is, cells-shown, control-front, data-behind}
+use Rattle.strm_msg.proofs.MadePlain.{plain-none}
+use Rattle.strm_msg.proofs.Retyping.{all-data, retyped-bytes}
 use Rattle.strm_pty.specs.Packs.{packet_of}
 
 proto-control : is_control_kind kinds.Proto ≡ true

@@ -1,13 +1,7 @@
 -- What a stack of modules wants of a put at pckt: the blocks that it takes are those of the packet, and of what is passed of an M_FLUSH.
-use Rattle.std.proofs.Common.{ℕ, arith}
-use Rattle.strm_types.specs.declared.rules.Fates.{Fates}
-use Rattle.strm_types.specs.declared.spots.Spot.{Spot}
+use Rattle.strm_pty.proofs.Prelude.{ℕ, arith}
+use Rattle.strm_pty.specs.Prelude.{Fates, Spot, Message, StoreValue, Acts, Hands, Spends, message_in, sent_of, times_sent}
 use Rattle.strm_types.specs.Costs.{pckt_takes}
-use Rattle.strm_types.specs.Message.{Message}
-use Rattle.strm_blocks.specs.Blocks.{StoreValue}
-use Rattle.strm_frame.specs.declared.modules.Acts.{Acts}
-use Rattle.strm_frame.specs.Hands.{Hands, Spends}
-use Rattle.strm_frame.specs.Outboxes.{message_in, sent_of, times_sent}
 use Rattle.strm_pty.specs.Packs.{Packs, pckt_in, puts}
 
 module _ (s t : StoreValue) (i : ℕ) (here : Spot) (acts : Acts) (f f' : Fates)

@@ -1,39 +1,24 @@
 -- Puts at pckt, step by step.
-use Rattle.std.proofs.Common.{ℕ, zero, suc, ◌≡◌, ◌≢◌, ◌≤◌, ◌+◌, ◌==◌, Bool, true, false, cond, List, [], ◌∷◌, ◌++◌, length, refl, sym, ap, subst, ◌∙◌, arith}
-use Rattle.std.proofs.lemmas.Bool.{false≢true}
-use Rattle.std.proofs.lemmas.List.Sums.{sum_by-cons}
-use Rattle.strm_types.specs.declared.kinds.MsgKind.{MsgKind}
+use Rattle.strm_pty.proofs.Prelude.{ℕ, suc, ◌≡◌, ◌≢◌, ◌≤◌, ◌+◌, Bool, true, false, cond, List, [], ◌∷◌, ◌++◌, length, refl, sym, ap, subst, ◌∙◌}
+use Rattle.strm_pty.proofs.Prelude.{arith, false≢true, sum_by-cons, IsInHand-dropped, in_hand-changed, in_hand-changed_other, in_hand-dropped}
+use Rattle.strm_pty.proofs.Prelude.{total-changed, total-dropped, used-is, free_m-is, references-is, kind-is, changed-in_hand, held-apart, held-chain}
+use Rattle.strm_pty.proofs.Prelude.{held-is, stays, stays-chain, times-replaced, retyped-length, one-chains, one-parts, shifts-as, shifts-both}
+use Rattle.strm_pty.proofs.Prelude.{shifts-freed}
+use Rattle.strm_pty.specs.Prelude.{MsgKind, Up, Fates, Spot, cells_made, plain, Acted, Parcel, tallied, toward, onward, is_data_kind, asked_by}
+use Rattle.strm_pty.specs.Prelude.{is_flush, kind_number, Message, is_held, is_packed, is_stop_or_start, pckt_packs, writers_flush, Block, StoreValue}
+use Rattle.strm_pty.specs.Prelude.{IsStore, IsInHand, block_at, in_hand, dropped, changed, times_in, copy_of, filled_block, names_of, references}
+use Rattle.strm_pty.specs.Prelude.{total, used, token, Copied, message_of, IsChain, retyped, FreesNone, Acts, Sent, once, Shifts, message_in, sent_of}
+use Rattle.strm_pty.specs.Prelude.{times_sent}
+use Rattle.std.proofs.Common.{zero, ◌==◌}
 use Rattle.strm_types.specs.declared.kinds.MsgKind.TheVariants as kinds
 use Rattle.strm_types.specs.declared.names.Dir.{Dir}
-use Rattle.strm_types.specs.declared.names.Way.TheVariants.{Up}
-use Rattle.strm_types.specs.declared.rules.Fates.{Fates}
-use Rattle.strm_types.specs.declared.spots.Spot.{Spot}
-use Rattle.strm_types.specs.Cells.{cells_made, plain}
 use Rattle.strm_types.specs.Costs.{packet_blocks}
-use Rattle.strm_types.specs.Deliver.{Acted, Parcel, tallied, toward, onward}
-use Rattle.strm_types.specs.Flush.{is_data_kind}
-use Rattle.strm_types.specs.Flushing.{asked_by, is_flush}
-use Rattle.strm_types.specs.Kinds.{kind_number}
-use Rattle.strm_types.specs.Message.{Message, is_held}
-use Rattle.strm_types.specs.Pckts.{Pckt, flush_passed, is_flush_passed, is_packed, is_stop_or_start, pckt_packs, writers_flush}
+use Rattle.strm_types.specs.Pckts.{Pckt, flush_passed, is_flush_passed}
 use Rattle.strm_types.specs.Rules.{made_more}
 use Rattle.strm_types.proofs.MadeCells.{made-long}
-use Rattle.strm_blocks.specs.Blocks.{Block, StoreValue, IsStore, IsInHand, block_at, in_hand, dropped, changed, times_in, copy_of, filled_block, names_of, references, total, used, token}
-use Rattle.strm_blocks.specs.Outcomes.{Copied}
-use Rattle.strm_blocks.proofs.Laws.{IsInHand-dropped, in_hand-changed, in_hand-changed_other, in_hand-dropped, total-changed, total-dropped, used-is, free_m-is, free_d-same, references-is}
-use Rattle.strm_msg.specs.Messages.{message_of, IsChain}
-use Rattle.strm_msg.specs.Retyped.{retyped}
-use Rattle.strm_msg.proofs.Chains.{kind-is}
-use Rattle.strm_msg.proofs.Hands.{changed-in_hand, held-apart, held-chain, held-is, stays, stays-chain, times-replaced, dropped-changed}
+use Rattle.strm_blocks.proofs.Laws.{free_d-same}
+use Rattle.strm_msg.proofs.Hands.{dropped-changed}
 use Rattle.strm_msg.proofs.Making.{Made-one}
-use Rattle.strm_msg.proofs.Retyping.{retyped-length}
-use Rattle.strm_queue.specs.Stored.{FreesNone}
-use Rattle.strm_frame.specs.declared.modules.Acts.{Acts}
-use Rattle.strm_frame.specs.declared.parcels.Sent.{Sent}
-use Rattle.strm_frame.specs.Hands.{once, Shifts}
-use Rattle.strm_frame.specs.Outboxes.{message_in, sent_of, times_sent}
-use Rattle.strm_frame.proofs.Handing.{one-chains, one-parts}
-use Rattle.strm_frame.proofs.Shifting.{shifts-as, shifts-both, shifts-freed}
 use Rattle.strm_pty.specs.Does.{Makes, Swaps}
 use Rattle.strm_pty.specs.Packs.{Becomes, Packs, packet_of}
 use Rattle.strm_pty.proofs.Doing.{can-of, swaps-both, times-held, times-one}

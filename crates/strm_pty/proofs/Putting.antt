@@ -1,26 +1,11 @@
 -- A put at a driver, by the kind of its message and the way that it goes.
-use Rattle.std.proofs.Common.{ℕ, ◌≡◌, true, false, refl, sym, ap, subst, ◌∙◌, arith}
-use Rattle.strm_types.specs.declared.kinds.MsgKind.{MsgKind}
+use Rattle.strm_pty.proofs.Prelude.{ℕ, ◌≡◌, true, false, refl, sym, ap, subst, ◌∙◌, arith, kind-is, parts-same}
+use Rattle.strm_pty.specs.Prelude.{MsgKind, Side, Up, Down, Fates, Across, Spot, taken_in, is_data_kind, Message, has_parts, is_held, StoreValue}
+use Rattle.strm_pty.specs.Prelude.{in_hand, block_at, IsChain, Queue, queue_in, Acts, Shifts, Spends, message_in}
 use Rattle.strm_types.specs.declared.kinds.MsgKind.TheVariants.{Data, Proto}
-use Rattle.strm_types.specs.declared.names.Side.{Side}
-use Rattle.strm_types.specs.declared.names.Way.TheVariants.{Up, Down}
-use Rattle.strm_types.specs.declared.rules.Fates.{Fates}
-use Rattle.strm_types.specs.declared.spots.Across.{Across}
-use Rattle.strm_types.specs.declared.spots.Spot.{Spot}
 use Rattle.strm_types.specs.Commands.{is_ioctl}
-use Rattle.strm_types.specs.Drivers.{taken_in, put_down, put_across, driver_put}
-use Rattle.strm_types.specs.Flush.{is_data_kind}
-use Rattle.strm_types.specs.Message.{Message, has_parts, is_held}
+use Rattle.strm_types.specs.Drivers.{put_down, put_across, driver_put}
 use Rattle.strm_types.specs.Queue as plain
-use Rattle.strm_blocks.specs.Blocks.{StoreValue, in_hand, block_at}
-use Rattle.strm_msg.specs.Messages.{IsChain}
-use Rattle.strm_msg.proofs.Chains.{kind-is}
-use Rattle.strm_msg.proofs.MadePlain.{parts-same}
-use Rattle.strm_queue.specs.declared.queue.Queue.{Queue}
-use Rattle.strm_queue.specs.Stored.{queue_in}
-use Rattle.strm_frame.specs.declared.modules.Acts.{Acts}
-use Rattle.strm_frame.specs.Hands.{Shifts, Spends}
-use Rattle.strm_frame.specs.Outboxes.{message_in}
 use Rattle.strm_pty.specs.Does.{Does, driver_cost}
 use Rattle.strm_pty.proofs.Doing.{does-more}
 

@@ -1,31 +1,16 @@
 -- Puts at ptem, step by step.
-use Rattle.std.proofs.Common.{ℕ, ◌≡◌, ◌<◌, ◌≤◌, Bool, true, false, cond, List, [], ◌∷◌, refl, sym, ap, subst, ◌∙◌, take, arith}
-use Rattle.std.specs.Prelude.{Option, Some}
-use Rattle.strm_types.specs.declared.kinds.MsgKind.TheVariants.{Ioctl, Iocack, Pcsig}
-use Rattle.strm_types.specs.declared.ioctls.Ioc.{Ioc}
-use Rattle.strm_types.specs.declared.limits.TheConstants.{MODULES}
-use Rattle.strm_types.specs.declared.names.Way.TheVariants.{Up, Down}
-use Rattle.strm_types.specs.declared.spots.Spot.{Spot}
+use Rattle.strm_pty.proofs.Prelude.{ℕ, ◌≡◌, ◌<◌, ◌≤◌, Bool, true, false, cond, List, [], ◌∷◌, refl, sym, ap, subst, ◌∙◌, take, arith, Option, Some}
+use Rattle.strm_pty.proofs.Prelude.{one-chains, one-parts}
+use Rattle.strm_pty.specs.Prelude.{Ioctl, Iocack, Ioc, MODULES, Up, Down, Spot, ack_message, payload, telling_message, is_asked, Acted, Parcel}
+use Rattle.strm_pty.specs.Prelude.{toward, onward, is_data_kind, nak_message, read_ioc, Message, own_at, ptem_does, window_signal, StoreValue}
+use Rattle.strm_pty.specs.Prelude.{in_hand, token, IsChain, Acts, Sent, HasRoom, message_in, sent_of}
+use Rattle.strm_types.specs.declared.kinds.MsgKind.TheVariants.{Pcsig}
 use Rattle.strm_types.specs.declared.winsize.Winsize.{Winsize}
-use Rattle.strm_types.specs.Acks.{ack_message, payload, telling_message}
-use Rattle.strm_types.specs.Commands.{is_asked}
-use Rattle.strm_types.specs.Deliver.{Acted, Parcel, toward, onward}
-use Rattle.strm_types.specs.Flush.{is_data_kind}
-use Rattle.strm_types.specs.Ioctls.{nak_message, read_ioc}
-use Rattle.strm_types.specs.Message.{Message}
 use Rattle.strm_types.specs.Ptems as plain
-use Rattle.strm_types.specs.Budgets.{own_at}
-use Rattle.strm_types.specs.Tables.{ptem_does}
-use Rattle.strm_types.specs.Ptems.{acks, asked_above, asked_below, asked_by_header, asked_on_way, naks, ptem_passes, ptem_puts, ptem_sends, set_above, window_signal}
+use Rattle.strm_types.specs.Ptems.{acks, asked_above, asked_below, asked_by_header, asked_on_way, naks, ptem_passes, ptem_puts, ptem_sends, set_above}
 use Rattle.strm_types.specs.Winsizes.{same_winsize}
-use Rattle.strm_blocks.specs.Blocks.{StoreValue, in_hand, token}
-use Rattle.strm_msg.specs.Messages.{IsChain}
-use Rattle.strm_frame.specs.declared.modules.Acts.{Acts}
-use Rattle.strm_frame.specs.declared.parcels.Sent.{Sent}
-use Rattle.strm_frame.specs.Hands.{HasRoom}
-use Rattle.strm_frame.specs.Outboxes.{message_in, sent_of}
 use Rattle.strm_frame.proofs.Behind.{all-said, first-tell, read_of}
-use Rattle.strm_frame.proofs.Handing.{one-chains, one-hands, one-parts}
+use Rattle.strm_frame.proofs.Handing.{one-hands}
 use Rattle.strm_pty.specs.declared.ptem.Ptem.{Ptem}
 use Rattle.strm_pty.specs.Beside.{Answers, MayAnswer, MayPass, ptem_in}
 use Rattle.strm_pty.specs.Does.{Makes, Swaps}

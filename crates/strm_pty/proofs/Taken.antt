@@ -1,25 +1,14 @@
 -- A message that a driver keeps for the other side.
-use Rattle.std.proofs.Common.{ℕ, ◌≡◌, Bool, false, cond, List, [], ◌∷◌, refl, sym, ap, ◌∙◌, arith}
-use Rattle.strm_types.specs.declared.names.Side.{Side}
-use Rattle.strm_types.specs.declared.rules.Fates.{Fates}
+use Rattle.strm_pty.proofs.Prelude.{ℕ, ◌≡◌, Bool, false, cond, List, [], ◌∷◌, refl, sym, ap, ◌∙◌, arith, no-parts, none-chains, shifts-as}
+use Rattle.strm_pty.specs.Prelude.{Side, Fates, Across, Note, Down, Acted, taken_in, Message, cells_of, StoreValue, IsStore, IsInHand, dropped, Queue}
+use Rattle.strm_pty.specs.Prelude.{queue_in, Acts, once, message_in, sent_of, times_sent}
 use Rattle.strm_types.specs.declared.rules.Rule.TheVariants.{EndClosed}
-use Rattle.strm_types.specs.declared.spots.Across.{Across}
-use Rattle.strm_types.specs.declared.spots.Note.{Note}
 use Rattle.strm_types.specs.declared.spots.Note.TheVariants.{Enable}
-use Rattle.strm_types.specs.declared.names.Way.TheVariants.{Down}
-use Rattle.strm_types.specs.Deliver.{Acted, Goes}
-use Rattle.strm_types.specs.Drivers.{taken_in}
-use Rattle.strm_types.specs.Message.{Message, cells_of}
+use Rattle.strm_types.specs.Deliver.{Goes}
 use Rattle.strm_types.specs.Names.{direction_from}
 use Rattle.strm_types.specs.Queue as plain
-use Rattle.strm_blocks.specs.Blocks.{StoreValue, IsStore, IsInHand, dropped}
-use Rattle.strm_queue.specs.declared.queue.Queue.{Queue}
-use Rattle.strm_queue.specs.Stored.{queue_in, Changes, FreesBlocks}
-use Rattle.strm_frame.specs.declared.modules.Acts.{Acts}
-use Rattle.strm_frame.specs.Hands.{once}
-use Rattle.strm_frame.specs.Outboxes.{message_in, sent_of, times_sent}
-use Rattle.strm_frame.proofs.Handing.{no-parts, none-chains}
-use Rattle.strm_frame.proofs.Shifting.{shifts-as, shifts-joined}
+use Rattle.strm_queue.specs.Stored.{Changes, FreesBlocks}
+use Rattle.strm_frame.proofs.Shifting.{shifts-joined}
 use Rattle.strm_pty.specs.Does.{Does}
 use Rattle.strm_pty.proofs.Doing.{can-of, times-none}
 

@@ -1,20 +1,9 @@
 -- The module ptem beside a store: what it stands for, and what a put at it did (ptem(7M)).
 use Rattle.std.specs.Prelude.{ℕ, ◌≡◌, ◌<◌, ◌≤◌, true}
-use Rattle.strm_types.specs.declared.limits.TheConstants.{MODULES}
-use Rattle.strm_types.specs.declared.names.Way.{Way}
-use Rattle.strm_types.specs.declared.names.Way.TheVariants.{Up, Down}
-use Rattle.strm_types.specs.declared.spots.Spot.{Spot}
-use Rattle.strm_types.specs.Commands.{is_asked}
-use Rattle.strm_types.specs.Deliver.{Acted}
-use Rattle.strm_types.specs.Message.{Message}
+use Rattle.strm_pty.specs.Prelude.{MODULES, Way, Up, Down, Spot, is_asked, Acted, Message, own_at, ptem_does, StoreValue, IsInHand, in_hand, IsChain}
+use Rattle.strm_pty.specs.Prelude.{Acts, Hands, HasRoom, Spends, message_in, sent_of, times_sent, parcels_in, AreChains}
 use Rattle.strm_types.specs.Ptems as plain
-use Rattle.strm_types.specs.Budgets.{own_at}
-use Rattle.strm_types.specs.Tables.{ptem_does}
-use Rattle.strm_blocks.specs.Blocks.{StoreValue, IsInHand, in_hand}
-use Rattle.strm_msg.specs.Messages.{IsChain}
-use Rattle.strm_frame.specs.declared.modules.Acts.{Acts}
-use Rattle.strm_frame.specs.Hands.{Hands, HasRoom, SamePool, Spends}
-use Rattle.strm_frame.specs.Outboxes.{message_in, sent_of, times_sent, parcels_in, AreChains}
+use Rattle.strm_frame.specs.Hands.{SamePool}
 use Rattle.strm_pty.specs.declared.ptem.Ptem.{Ptem}
 
 -- what it stands for, whatever the store holds

@@ -1,21 +1,10 @@
 -- What a put at a driver did to a store, a queue beside it and what has gone.
 use Rattle.std.specs.Prelude.{ℕ, ◌≡◌, ◌≢◌, ◌+◌, List, None}
-use Rattle.strm_types.specs.declared.kinds.MsgKind.{MsgKind}
-use Rattle.strm_types.specs.declared.kinds.MsgKind.TheVariants.{Flush, Ioctl}
-use Rattle.strm_types.specs.declared.names.Way.{Way}
-use Rattle.strm_types.specs.declared.names.Way.TheVariants.{Up, Down}
-use Rattle.strm_types.specs.declared.rules.Fates.{Fates}
-use Rattle.strm_types.specs.declared.spots.Note.{Note}
-use Rattle.strm_types.specs.Deliver.{Acted, Parcel, tallied}
+use Rattle.strm_pty.specs.Prelude.{MsgKind, Flush, Ioctl, Way, Up, Down, Fates, Note, Acted, Parcel, tallied, StoreValue, IsFreshName, in_hand, held}
+use Rattle.strm_pty.specs.Prelude.{free_m, free_d, message_of, IsChain, Queue, queue_in, IsReady, Acts, Sent, once, Shifts, sent_of, times_sent}
+use Rattle.strm_pty.specs.Prelude.{parcels_in, AreChains}
 use Rattle.strm_types.specs.Queue as plain
-use Rattle.strm_blocks.specs.Blocks.{StoreValue, IsFreshName, list_at, in_hand, held, free_m, free_d}
-use Rattle.strm_msg.specs.Messages.{message_of, IsChain}
-use Rattle.strm_queue.specs.declared.queue.Queue.{Queue}
-use Rattle.strm_queue.specs.Stored.{queue_in, IsReady}
-use Rattle.strm_frame.specs.declared.modules.Acts.{Acts}
-use Rattle.strm_frame.specs.declared.parcels.Sent.{Sent}
-use Rattle.strm_frame.specs.Hands.{once, Shifts}
-use Rattle.strm_frame.specs.Outboxes.{sent_of, times_sent, parcels_in, AreChains}
+use Rattle.strm_blocks.specs.Blocks.{list_at}
 
 -- How many blocks of each kind a message takes at most that is put at a driver: one for each M_FLUSH or M_IOCNAK that it
 -- gives rise to.

@@ -1,3 +1,4 @@
+pub mod Prelude
 pub mod Does
 pub mod Beside
 pub mod Packs

@@ -1,17 +1,9 @@
 -- The module pckt beside a store: what it stands for, and what a put at it did (pckt(7M)).
 use Rattle.std.specs.Prelude.{ℕ, ◌≡◌, true}
-use Rattle.strm_types.specs.declared.rules.Fates.{Fates}
-use Rattle.strm_types.specs.declared.spots.Spot.{Spot}
+use Rattle.strm_pty.specs.Prelude.{Fates, Spot, Acted, tallied, Message, is_held, StoreValue, in_hand, message_of, IsChain, FreesNone, Acts, once}
+use Rattle.strm_pty.specs.Prelude.{Shifts, sent_of}
 use Rattle.strm_types.specs.Cells as cells
-use Rattle.strm_types.specs.Deliver.{Acted, tallied}
-use Rattle.strm_types.specs.Message.{Message, is_held}
 use Rattle.strm_types.specs.Pckts as plain
-use Rattle.strm_blocks.specs.Blocks.{StoreValue, in_hand}
-use Rattle.strm_msg.specs.Messages.{message_of, IsChain}
-use Rattle.strm_queue.specs.Stored.{FreesNone}
-use Rattle.strm_frame.specs.declared.modules.Acts.{Acts}
-use Rattle.strm_frame.specs.Hands.{once, Shifts}
-use Rattle.strm_frame.specs.Outboxes.{sent_of}
 use Rattle.strm_pty.specs.Does.{Swaps}
 
 -- it stands for one that is set to nothing, whatever the store holds

@@ -1,10 +1,7 @@
 -- A payload that two messages show over one data block (dupb(9F)).
 use Rattle.std.specs.Prelude.{ℕ, ◌≡◌, ◌≢◌, ◌<◌, ◌+◌, List, [], ◌∷◌, length, drop}
-use Rattle.strm_types.specs.Deliver.{Parcel}
-use Rattle.strm_blocks.specs.Blocks.{Block, StoreValue, IsInHand, block_at, free_m, in_hand, references, token}
-use Rattle.strm_frame.specs.declared.parcels.Sent.{Sent}
-use Rattle.strm_frame.specs.Hands.{once, Shifts}
-use Rattle.strm_frame.specs.Outboxes.{times_sent, parcels_in, AreChains}
+use Rattle.strm_pty.specs.Prelude.{Parcel, Block, StoreValue, IsInHand, block_at, free_m, in_hand, references, token, Sent, once, Shifts, times_sent}
+use Rattle.strm_pty.specs.Prelude.{parcels_in, AreChains}
 
 -- A message may be parted: its payload is one block behind a header of 16 bytes, another message block may name the payload's data block (datab(9S):
 -- db_ref is a byte), and one is free for it.

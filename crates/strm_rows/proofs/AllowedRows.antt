@@ -1,45 +1,21 @@
 -- What refuses flushes, closes and turns, and where input ends, case by case.
-use Rattle.std.proofs.Common.{ℕ, ◌≡◌, ◌-◌, Bool, true, false, List, [], ◌∷◌, map, refl, replicate}
-use Rattle.std.specs.Prelude.{Option, None, Some}
-use Rattle.strm_types.specs.declared.limits.Config.{Config}
-use Rattle.strm_types.specs.declared.answers.Answer.{Answer}
-use Rattle.strm_types.specs.declared.answers.Answer.TheVariants.{Done, Name, Bytes}
-use Rattle.strm_types.specs.declared.books.Book.{Book}
-use Rattle.strm_types.specs.declared.entries.Entry.TheVariants.{Called, Turned}
-use Rattle.strm_types.specs.declared.answers.Turn.TheVariants.{Idle}
-use Rattle.strm_types.specs.declared.events.Caller.{Caller}
-use Rattle.strm_types.specs.declared.events.Event.TheVariants.{OpenMaster, Unlock, OpenSlave, Shut, Push, Pop, Look, Flush, Write, Read}
+use Rattle.strm_rows.proofs.Prelude.{ℕ, ◌≡◌, ◌-◌, Bool, true, false, List, [], ◌∷◌, map, refl, replicate, Option, None, Some, Config, Answer, Done}
+use Rattle.strm_rows.proofs.Prelude.{Name, Bytes, Book, Called, Turned, Idle, Caller, OpenMaster, Unlock, OpenSlave, Shut, Pop, Look, Write, Band}
+use Rattle.strm_rows.proofs.Prelude.{Dir, MasterToSlave, SlaveToMaster, Ptem, Pckt, Openness, Never, Open, Closed, Side, Master, Slave, Refusal}
+use Rattle.strm_rows.proofs.Prelude.{Einval, Eagain, Ebadmsg, Enxio, Enosr, Erange, JournalFull, Request, map_event, map_answer, plain, is_data_kind}
+use Rattle.strm_rows.proofs.Prelude.{caller_of, content_max, entries_in, came, gone, Fate, Goes, carried, Discard, MessageDiscard, chunk_count}
+use Rattle.strm_rows.proofs.Prelude.{Message, cells_of, size_of, is_held, is_high_priority, rank_of, band_of, data_message, driver_of, blocks_asked}
+use Rattle.strm_rows.proofs.Prelude.{blocks_taken, at_end, refused, turn_refused, State, Stream, with_stream, module_named, head_with, flow, queue}
+use Rattle.strm_rows.proofs.Prelude.{ordinary, proto, urgent, options}
+use Rattle.strm_types.specs.declared.events.Event.TheVariants.{Push, Flush, Read}
 use Rattle.strm_types.specs.declared.events.FlushQueues.TheVariants as flushes
-use Rattle.strm_types.specs.declared.kinds.Band.{Band}
-use Rattle.strm_types.specs.declared.names.Dir.{Dir}
-use Rattle.strm_types.specs.declared.names.Dir.TheVariants.{MasterToSlave, SlaveToMaster}
-use Rattle.strm_types.specs.declared.names.ModuleName.TheVariants.{Ldterm, Ptem, Pckt}
-use Rattle.strm_types.specs.declared.names.Openness.{Openness}
-use Rattle.strm_types.specs.declared.names.Openness.TheVariants.{Never, Open, Closed}
-use Rattle.strm_types.specs.declared.names.Side.{Side}
-use Rattle.strm_types.specs.declared.names.Side.TheVariants.{Master, Slave}
-use Rattle.strm_types.specs.declared.refusals.Refusal.{Refusal}
-use Rattle.strm_types.specs.declared.refusals.Refusal.TheVariants.{Einval, Eagain, Ebadmsg, Enxio, Enosr, Erange, JournalFull}
+use Rattle.strm_types.specs.declared.names.ModuleName.TheVariants.{Ldterm}
 use Rattle.strm_types.specs.declared.rules.Rule.TheVariants as rules
 use Rattle.strm_types.specs.Books.{has_room}
-use Rattle.strm_types.specs.Events.{Request, map_event, map_answer}
-use Rattle.strm_types.specs.Cells.{plain}
-use Rattle.strm_types.specs.Flush.{is_data_kind}
-use Rattle.strm_types.specs.JobControl.{caller_of}
-use Rattle.strm_types.specs.Journal.{content_max, entries_in}
-use Rattle.strm_laws.specs.Kept.{came, gone}
-use Rattle.strm_types.specs.Deliver.{Fate, Goes, carried}
-use Rattle.strm_types.specs.declared.modes.ControlMode.TheVariants.{Discard}
-use Rattle.strm_types.specs.declared.modes.ReadMode.TheVariants.{MessageDiscard}
-use Rattle.strm_types.specs.Write.{chunk_count}
-use Rattle.strm_types.specs.Message.{Message, cells_of, size_of, is_held, is_high_priority, rank_of, band_of, data_message}
-use Rattle.strm_types.specs.Names.{driver_of, is_closed}
-use Rattle.strm_laws.specs.Refusals.{blocks_asked, blocks_taken, at_end, in_range, refused, turn_refused}
+use Rattle.strm_types.specs.Names.{is_closed}
+use Rattle.strm_laws.specs.Refusals.{in_range}
 use Rattle.strm_types.specs.Needs.{needs}
 use Rattle.strm_types.specs.Refused.{has_no_data}
-use Rattle.strm_laws.specs.State.{State, Stream, with_stream}
-use Rattle.strm_laws.specs.Pushes.{module_named}
-use Rattle.strm_laws.proofs.Samples.{head_with, flow, queue, ordinary, proto, urgent, options}
 
 abbrev caller : Side → Caller
 caller side = caller_of side

@@ -1,21 +1,11 @@
 -- Which numbers the bytes of a base have, counted by hand in the order of an image.
-use Rattle.std.proofs.Common.{ℕ, ◌≡◌, true, false, List, [], ◌∷◌, map, refl}
+use Rattle.strm_rows.proofs.Prelude.{ℕ, ◌≡◌, true, false, List, [], ◌∷◌, map, refl, Dir, MasterToSlave, SlaveToMaster, Open, new_book, Base, Made}
+use Rattle.strm_rows.proofs.Prelude.{Tagged, Written, Message, cells_of, weight_of, no_fates, Up, Down, Standing, module_line, ldterm_stands, State}
+use Rattle.strm_rows.proofs.Prelude.{Stream, opening, module_named, head_with, options, ordinary, proto, queue, urgent, fresh}
 use Rattle.strm_types.specs.declared.names.ModuleName.TheVariants as names
-use Rattle.strm_types.specs.declared.names.Dir.{Dir}
-use Rattle.strm_types.specs.declared.names.Dir.TheVariants.{MasterToSlave, SlaveToMaster}
-use Rattle.strm_types.specs.declared.names.Openness.TheVariants.{Open}
-use Rattle.strm_types.specs.Books.{new_book}
-use Rattle.strm_types.specs.Cells.{Base, Made, Tagged, Written}
-use Rattle.strm_types.specs.Message.{Message, cells_of, weight_of}
-use Rattle.strm_types.specs.Rules.{no_fates}
 use Rattle.strm_types.specs.Standings.{messages_at}
-use Rattle.strm_types.specs.declared.names.Way.TheVariants.{Up, Down}
 use Rattle.strm_laws.specs.Based.{based}
 use Rattle.strm_laws.specs.Ledgers.{Balanced, base_count, is_booked}
-use Rattle.strm_laws.specs.Stacked.{Standing, module_line, ldterm_stands}
-use Rattle.strm_laws.specs.State.{State, Stream, opening}
-use Rattle.strm_laws.specs.Pushes.{module_named}
-use Rattle.strm_laws.proofs.Samples.{head_with, options, ordinary, proto, queue, urgent, fresh}
 
 -- On the master's side a message waits at the head and one at the driver. On the slave's an ldterm below a ptem has the line "ab", on its read queue
 -- "c", and on its write queue an M_SETOPTS and "d"; there one waits at the head and one at the driver too.

@@ -1,34 +1,15 @@
 -- What the definitions of flushes and closes compute, case by case, as worked out by hand from the manual pages.
-use Rattle.std.proofs.Common.{ℕ, ◌≡◌, Bool, true, false, List, [], ◌∷◌, map, refl, replicate}
-use Rattle.std.specs.Prelude.{Option, None, Some}
-use Rattle.strm_types.specs.declared.answers.Answer.TheVariants.{Done, Bytes}
-use Rattle.strm_types.specs.declared.events.Caller.{Caller}
+use Rattle.strm_rows.proofs.Prelude.{ℕ, ◌≡◌, Bool, true, false, List, [], ◌∷◌, map, refl, replicate, Option, None, Some, Done, Bytes, Caller, Both}
+use Rattle.strm_rows.proofs.Prelude.{Band, Dir, MasterToSlave, SlaveToMaster, Openness, Never, Open, Closed, QueueName, Side, Master, Slave, Rule}
+use Rattle.strm_rows.proofs.Prelude.{new_book, called, plain, Fate, Goes, Carried, carried, closed_at, is_data_kind, caller_of, Message}
+use Rattle.strm_rows.proofs.Prelude.{is_high_priority, band_of, size_of, cells_of, driver_of, Queue, Flow, new_queue, State, Stream, head_with, flow}
+use Rattle.strm_rows.proofs.Prelude.{queue, ordinary, proto, urgent, options}
 use Rattle.strm_types.specs.declared.events.Event.TheVariants as events
-use Rattle.strm_types.specs.declared.events.FlushQueues.TheVariants.{Read, Write, Both}
-use Rattle.strm_types.specs.declared.kinds.Band.{Band}
-use Rattle.strm_types.specs.declared.names.Dir.{Dir}
-use Rattle.strm_types.specs.declared.names.Dir.TheVariants.{MasterToSlave, SlaveToMaster}
-use Rattle.strm_types.specs.declared.names.Openness.{Openness}
-use Rattle.strm_types.specs.declared.names.Openness.TheVariants.{Never, Open, Closed}
-use Rattle.strm_types.specs.declared.names.QueueName.{QueueName}
-use Rattle.strm_types.specs.declared.names.Side.{Side}
-use Rattle.strm_types.specs.declared.names.Side.TheVariants.{Master, Slave}
-use Rattle.strm_types.specs.declared.rules.Rule.{Rule}
+use Rattle.strm_types.specs.declared.events.FlushQueues.TheVariants.{Read, Write}
 use Rattle.strm_types.specs.declared.rules.Rule.TheVariants as rules
-use Rattle.strm_types.specs.Books.{new_book}
-use Rattle.strm_laws.specs.Calls.{called}
-use Rattle.strm_types.specs.Cells.{plain}
-use Rattle.strm_types.specs.Deliver.{Fate, Goes, Carried, carried}
-use Rattle.strm_laws.specs.Closes.{head_emptied, driver_emptied, closed_at, hung_up_at, ended}
+use Rattle.strm_laws.specs.Closes.{head_emptied, driver_emptied, hung_up_at, ended}
 use Rattle.strm_types.specs.Emptied.{of_data, of_all, stayed, cells_gone, emptied, queue_behind, writer_goes}
-use Rattle.strm_types.specs.Flush.{is_data_kind}
 use Rattle.strm_laws.specs.Puts.{flushed_on}
-use Rattle.strm_types.specs.JobControl.{caller_of}
-use Rattle.strm_types.specs.Message.{Message, is_high_priority, band_of, size_of, cells_of}
-use Rattle.strm_types.specs.Names.{driver_of}
-use Rattle.strm_types.specs.Queue.{Queue, Flow, new_queue}
-use Rattle.strm_laws.specs.State.{State, Stream}
-use Rattle.strm_laws.proofs.Samples.{head_with, flow, queue, ordinary, proto, urgent, options}
 
 abbrev band : ℕ → Option Band
 band n = Some (record { 0 = n })

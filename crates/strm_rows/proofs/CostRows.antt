@@ -1,21 +1,13 @@
 -- What puts do at most by their tables, how many blocks a delivery takes by them, and a put at pckt itself, case by case.
-use Rattle.std.proofs.Common.{ℕ, ◌≡◌, List, [], ◌∷◌, map, refl}
-use Rattle.std.specs.Prelude.{Some}
-use Rattle.strm_types.specs.declared.kinds.MsgKind.TheVariants.{Flush, Ioctl, Iocack, Iocnak, Sig}
+use Rattle.strm_rows.proofs.Prelude.{ℕ, ◌≡◌, List, [], ◌∷◌, map, refl, Some, Flush, Ioctl, Iocack, Iocnak, Sig, Side, Master, Slave, Way, Up, Down}
+use Rattle.strm_rows.proofs.Prelude.{Spot, Message, header, options, ordinary, proto, urgent, without_parts}
 use Rattle.strm_types.specs.declared.names.ModuleName.TheVariants as names
-use Rattle.strm_types.specs.declared.names.Side.{Side}
-use Rattle.strm_types.specs.declared.names.Side.TheVariants.{Master, Slave}
-use Rattle.strm_types.specs.declared.names.Way.{Way}
-use Rattle.strm_types.specs.declared.names.Way.TheVariants.{Up, Down}
-use Rattle.strm_types.specs.declared.spots.Spot.{Spot}
 use Rattle.strm_types.specs.Budgets.{Table, budget, most, own_at}
 use Rattle.strm_types.specs.Costs.{head_takes, pckt_takes, up_takes}
-use Rattle.strm_types.specs.Message.{Message}
 use Rattle.strm_types.specs.Shapes.{Shape, Held, Asking, Acking, FlushR, FlushW, FlushRW, FlushMixed, Packed, Passing, shape_of}
 use Rattle.strm_types.specs.Tables.{ToDriver, ToReaders, driver_does, head_does, ldterm_does, name_does, pckt_does, ptem_does}
 use Rattle.strm_laws.specs.SideCosts.{costs}
 use Rattle.strm_laws.specs.StackCosts.{Stands}
-use Rattle.strm_laws.proofs.Samples.{header, options, ordinary, proto, urgent, without_parts}
 
 -- at the head, at each of three modules, and behind them
 abbrev at_each : (Spot → ℕ) → Way → List ℕ

@@ -1,19 +1,15 @@
 -- What the definitions of delivery, of modules and of rules compute, on small cases.
-use Rattle.std.proofs.Common.{ℕ, ◌≡◌, true, false, List, [], ◌∷◌, ◌++◌, map, refl}
-use Rattle.std.specs.Prelude.{None, Some, ◌+◌, ◌-◌, ◌^◌, take, ◌==◌, if◌then◌else◌}
-use Rattle.strm_types.specs.declared.names.Side.TheVariants.{Slave}
-use Rattle.strm_types.specs.declared.names.Dir.TheVariants.{MasterToSlave, SlaveToMaster}
-use Rattle.strm_types.specs.declared.names.Way.TheVariants.{Up, Down}
+use Rattle.strm_rows.proofs.Prelude.{ℕ, ◌≡◌, true, false, List, [], ◌∷◌, ◌++◌, map, refl, None, Some, ◌==◌, Slave, MasterToSlave, SlaveToMaster, Up}
+use Rattle.strm_rows.proofs.Prelude.{Down, Ptem, Pckt, Spot, Enable, Room, Message, data_message, no_fates, Parcel, Took, Acted, carried, Fate, Goes}
+use Rattle.strm_rows.proofs.Prelude.{Comes}
+use Rattle.std.specs.Prelude.{◌+◌, ◌-◌, ◌^◌, take, if◌then◌else◌}
 use Rattle.strm_types.specs.declared.names.Place.TheVariants as places
 use Rattle.strm_types.specs.declared.names.ModuleName.{ModuleName}
-use Rattle.strm_types.specs.declared.names.ModuleName.TheVariants.{Ldterm, Ptem, Pckt}
+use Rattle.strm_types.specs.declared.names.ModuleName.TheVariants.{Ldterm}
 use Rattle.strm_types.specs.declared.rules.Rule.TheVariants as rules
-use Rattle.strm_types.specs.declared.spots.Spot.{Spot}
-use Rattle.strm_types.specs.declared.spots.Note.TheVariants.{Enable, Room}
-use Rattle.strm_types.specs.Message.{Message, data_message}
 use Rattle.strm_types.specs.Names.{place_of, same_module, direction_at}
-use Rattle.strm_types.specs.Rules.{number_of, no_fates, told_more, made_more}
-use Rattle.strm_types.specs.Deliver.{Parcel, Took, Acted, toward, carried, tallied, Fate, Goes, Comes}
+use Rattle.strm_types.specs.Rules.{number_of, told_more, made_more}
+use Rattle.strm_types.specs.Deliver.{toward, tallied}
 use Rattle.strm_types.specs.Origins.{map_fate}
 use Rattle.strm_laws.specs.Places.{weight_gone, weight_made}
 use Rattle.strm_types.specs.Modules.{may_push, top_name, put_among}

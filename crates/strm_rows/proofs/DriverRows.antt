@@ -1,27 +1,15 @@
 -- What an M_FLUSH asks for, the headers of ioctls, and what a driver does with a message that is put at it, case by case.
-use Rattle.std.proofs.Common.{ℕ, ◌≡◌, Bool, true, false, List, [], ◌∷◌, ◌++◌, map, take, refl, replicate}
-use Rattle.std.specs.Prelude.{not, Option, None, Some}
-use Rattle.strm_types.specs.declared.flushing.FlushAsked.{FlushAsked}
+use Rattle.strm_rows.proofs.Prelude.{ℕ, ◌≡◌, Bool, true, false, List, [], ◌∷◌, ◌++◌, map, take, refl, replicate, Option, None, Some, FlushAsked, Band}
+use Rattle.strm_rows.proofs.Prelude.{Data, Proto, Pcproto, Sig, Ctl, Ioctl, Setopts, Iocack, Iocnak, Pcsig, Stop, Start, Hangup, Flush, MasterToSlave}
+use Rattle.strm_rows.proofs.Prelude.{SlaveToMaster, Side, Master, Slave, Way, Up, Down, Flushed, EndClosed, Enable, Room, Spot, Acted, Parcel, Goes}
+use Rattle.strm_rows.proofs.Prelude.{crosses, is_data_kind, flush_message, Message, rank_of, band_of, size_of, cells_of, is_high_priority, Queue}
+use Rattle.strm_rows.proofs.Prelude.{new_queue, flow, header, ordinary, proto, queue}
+use Rattle.std.specs.Prelude.{not}
 use Rattle.strm_types.specs.declared.ioctls.Ioc.{Ioc}
-use Rattle.strm_types.specs.declared.kinds.Band.{Band}
-use Rattle.strm_types.specs.declared.kinds.MsgKind.TheVariants.{Data, Proto, Pcproto, Sig, Ctl, Ioctl, Setopts, Iocack, Iocnak, Pcsig, Stop, Start, Hangup, Flush}
-use Rattle.strm_types.specs.declared.names.Dir.TheVariants.{MasterToSlave, SlaveToMaster}
-use Rattle.strm_types.specs.declared.names.Side.{Side}
-use Rattle.strm_types.specs.declared.names.Side.TheVariants.{Master, Slave}
-use Rattle.strm_types.specs.declared.names.Way.{Way}
-use Rattle.strm_types.specs.declared.names.Way.TheVariants.{Up, Down}
-use Rattle.strm_types.specs.declared.rules.Rule.TheVariants.{Flushed, EndClosed}
 use Rattle.strm_types.specs.declared.spots.Across.{Across}
-use Rattle.strm_types.specs.declared.spots.Note.TheVariants.{Enable, Room}
-use Rattle.strm_types.specs.declared.spots.Spot.{Spot}
-use Rattle.strm_types.specs.Deliver.{Acted, Parcel, Goes}
-use Rattle.strm_types.specs.Drivers.{crosses, driver_put}
-use Rattle.strm_types.specs.Flush.{is_data_kind}
-use Rattle.strm_types.specs.Flushing.{asked_by, read_flush, flush_message}
+use Rattle.strm_types.specs.Drivers.{driver_put}
+use Rattle.strm_types.specs.Flushing.{asked_by, read_flush}
 use Rattle.strm_types.specs.Ioctls.{ioc_bytes, read_ioc}
-use Rattle.strm_types.specs.Message.{Message, rank_of, band_of, size_of, cells_of, is_high_priority}
-use Rattle.strm_types.specs.Queue.{Queue, new_queue}
-use Rattle.strm_laws.proofs.Samples.{flow, header, ordinary, proto, queue}
 
 abbrev asked : Bool → Bool → Option Band → FlushAsked
 asked for_read for_write band = record { for_read = for_read; for_write = for_write; band = band }

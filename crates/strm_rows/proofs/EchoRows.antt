@@ -1,11 +1,9 @@
 -- What is echoed, as worked out by hand from termio(7I).
-use Rattle.std.proofs.Common.{ℕ, ◌≡◌, List, [], ◌∷◌, ◌++◌, map, refl, replicate, true, false}
+use Rattle.strm_rows.proofs.Prelude.{ℕ, ◌≡◌, List, [], ◌∷◌, ◌++◌, map, refl, replicate, true, false, Key, Intr, Quit, Susp, Ignored, Eof, Erase, Kill}
+use Rattle.strm_rows.proofs.Prelude.{Werase, Reprint, Lnext, Delimiter, Ordinary, Termios, first_termios}
 use Rattle.std.specs.Prelude.{zero, suc}
-use Rattle.strm_types.specs.declared.keys.Key.{Key}
-use Rattle.strm_types.specs.declared.keys.Key.TheVariants.{Stop, Start, Intr, Quit, Susp, Ignored, Eof, Erase, Kill, Werase, Reprint, Lnext, Delimiter, Ordinary}
-use Rattle.strm_types.specs.declared.termios.Termios.{Termios}
+use Rattle.strm_types.specs.declared.keys.Key.TheVariants.{Stop, Start}
 use Rattle.strm_types.specs.Echo.{columns, echo_byte, echo_of, width_at}
-use Rattle.strm_types.specs.Termios.{first_termios}
 use Rattle.strm_rows.proofs.KeyRows.{with_input, with_local}
 
 -- local modes: ECHO is 8, ICANON 2, ECHOE 0x10, ECHOK 0x20, ECHONL 0x40, ECHOCTL 0x200, ECHOKE 0x800

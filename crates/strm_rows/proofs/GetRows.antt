@@ -1,12 +1,9 @@
 -- What gets give, worked out by hand from getmsg(2).
-use Rattle.std.proofs.Common.{ℕ, ◌≡◌, Bool, true, false, List, [], ◌∷◌, refl}
-use Rattle.std.specs.Prelude.{Option, None, Some}
+use Rattle.strm_rows.proofs.Prelude.{ℕ, ◌≡◌, Bool, true, false, List, [], ◌∷◌, refl, Option, None, Some, Any, High, Eagain, Message, cells_of}
+use Rattle.strm_rows.proofs.Prelude.{rank_of, band_of, is_high_priority, proto, urgent, ordinary}
 use Rattle.strm_types.specs.declared.kinds.MsgKind.TheVariants as kinds
-use Rattle.strm_types.specs.declared.modes.Wanted.TheVariants.{Any, High, Band}
-use Rattle.strm_types.specs.declared.refusals.Refusal.TheVariants.{Eagain}
-use Rattle.strm_types.specs.Message.{Message, cells_of, rank_of, band_of, is_high_priority}
+use Rattle.strm_types.specs.declared.modes.Wanted.TheVariants.{Band}
 use Rattle.strm_types.specs.Gets.{Got, head_get, get_refusal}
-use Rattle.strm_laws.proofs.Samples.{proto, urgent, ordinary}
 
 abbrev gives : Option (List ℕ) → Option (List ℕ) → ℕ → Bool → Bool → List (Message ℕ) → Got ℕ
 gives control body band more_control more_data left = record { control = control; body = body; high = false; band = band; more_control = more_control; more_data = more_data; left = left }

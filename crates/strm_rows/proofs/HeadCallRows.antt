@@ -1,44 +1,19 @@
 -- What getmsg(2), I_SRDOPT and I_NREAD do as calls of a pair, as worked out by hand from the manual pages.
-use Rattle.std.proofs.Common.{ℕ, ◌≡◌, Bool, true, false, List, [], ◌∷◌, length, map, refl, replicate}
-use Rattle.std.specs.Prelude.{Option, None, Some}
-use Rattle.strm_types.specs.declared.slots.Slot.TheVariants.{Free}
-use Rattle.strm_types.specs.declared.answers.Answer.{Answer}
-use Rattle.strm_types.specs.declared.answers.Answer.TheVariants.{Done, Msg, Sizes}
-use Rattle.strm_types.specs.declared.entries.Entry.TheVariants.{Called}
-use Rattle.strm_types.specs.declared.events.Caller.{Caller}
-use Rattle.strm_types.specs.declared.events.Event.TheVariants.{Get, Mode, Nread}
+use Rattle.strm_rows.proofs.Prelude.{ℕ, ◌≡◌, Bool, true, false, List, [], ◌∷◌, length, map, refl, replicate, Option, None, Some, Free, Answer, Done}
+use Rattle.strm_rows.proofs.Prelude.{Called, Caller, Get, Mode, Nread, Prio, ReadMode, ByteStream, MessageKeep, MessageDiscard, Any, High}
+use Rattle.strm_rows.proofs.Prelude.{MasterToSlave, Open, Closed, QueueName, Side, Master, Slave, Refusal, Eagain, Enxio, new_book, Request}
+use Rattle.strm_rows.proofs.Prelude.{content_of, called, plain, Goes, caller_of, content_max, entries_in, room_of, came, gone, Message, rank_of}
+use Rattle.strm_rows.proofs.Prelude.{band_of, size_of, cells_of, is_held, is_high_priority, driver_of, Queue, Flow, blocks_asked, refused_at_once}
+use Rattle.strm_rows.proofs.Prelude.{refused_by_state, Head, State, Stream, with_stream, flow, queue, ordinary, proto, urgent}
+use Rattle.strm_types.specs.declared.answers.Answer.TheVariants.{Msg, Sizes}
 use Rattle.strm_types.specs.declared.modes.ControlMode.{ControlMode}
 use Rattle.strm_types.specs.declared.modes.ControlMode.TheVariants as controls
 use Rattle.strm_types.specs.declared.modes.Mode.TheVariants as modes
-use Rattle.strm_types.specs.declared.modes.Prio.{Prio}
 use Rattle.strm_types.specs.declared.modes.Prio.TheVariants as prios
-use Rattle.strm_types.specs.declared.modes.ReadMode.{ReadMode}
-use Rattle.strm_types.specs.declared.modes.ReadMode.TheVariants.{ByteStream, MessageKeep, MessageDiscard}
 use Rattle.strm_types.specs.declared.modes.Wanted.{Wanted}
-use Rattle.strm_types.specs.declared.modes.Wanted.TheVariants.{Any, High, Band}
-use Rattle.strm_types.specs.declared.names.Dir.TheVariants.{MasterToSlave}
-use Rattle.strm_types.specs.declared.names.Openness.TheVariants.{Open, Closed}
-use Rattle.strm_types.specs.declared.names.QueueName.{QueueName}
-use Rattle.strm_types.specs.declared.names.Side.{Side}
-use Rattle.strm_types.specs.declared.names.Side.TheVariants.{Master, Slave}
-use Rattle.strm_types.specs.declared.refusals.Refusal.{Refusal}
-use Rattle.strm_types.specs.declared.refusals.Refusal.TheVariants.{Eagain, Enxio}
+use Rattle.strm_types.specs.declared.modes.Wanted.TheVariants.{Band}
 use Rattle.strm_types.specs.declared.rules.Rule.TheVariants as rules
-use Rattle.strm_types.specs.Books.{new_book}
-use Rattle.strm_types.specs.Events.{Request, content_of}
-use Rattle.strm_laws.specs.Calls.{called}
-use Rattle.strm_types.specs.Cells.{plain}
-use Rattle.strm_types.specs.Deliver.{Goes}
-use Rattle.strm_types.specs.JobControl.{caller_of}
-use Rattle.strm_types.specs.Journal.{content_max, entries_in, answer_len, room_of}
-use Rattle.strm_laws.specs.Kept.{came, gone}
-use Rattle.strm_types.specs.Message.{Message, rank_of, band_of, size_of, cells_of, is_held, is_high_priority}
-use Rattle.strm_types.specs.Names.{driver_of}
-use Rattle.strm_types.specs.Queue.{Queue, Flow}
-use Rattle.strm_laws.specs.Refusals.{blocks_asked, refused_at_once, refused_by_state}
-use Rattle.strm_types.specs.Heads.{Head}
-use Rattle.strm_laws.specs.State.{State, Stream, with_stream}
-use Rattle.strm_laws.proofs.Samples.{flow, queue, ordinary, proto, urgent}
+use Rattle.strm_types.specs.Journal.{answer_len}
 
 abbrev caller : Side → Caller
 caller side = caller_of side

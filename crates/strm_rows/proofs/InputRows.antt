@@ -1,26 +1,16 @@
 -- Turns of ldterm's queues, as worked out by hand from ldterm(7M), termio(7I) and the STREAMS Programming Guide.
-use Rattle.std.proofs.Common.{ℕ, ◌≡◌, if◌then◌else◌, Bool, true, false, List, [], ◌∷◌, ◌++◌, map, refl, replicate}
-use Rattle.std.specs.Prelude.{Option, None, Some}
-use Rattle.strm_types.specs.declared.kinds.MsgKind.TheVariants.{Data, Proto, Sig, Ctl, Ioctl, Setopts, Iocack, Iocnak, Pcproto, Pcsig, Read, Flush, Stop, Start, Hangup, Error}
-use Rattle.strm_types.specs.declared.names.Dir.TheVariants.{MasterToSlave, SlaveToMaster}
-use Rattle.strm_types.specs.declared.names.Side.TheVariants.{Slave}
-use Rattle.strm_types.specs.declared.names.Way.TheVariants.{Up, Down}
+use Rattle.strm_rows.proofs.Prelude.{ℕ, ◌≡◌, if◌then◌else◌, Bool, true, false, List, [], ◌∷◌, ◌++◌, map, refl, replicate, Option, None, Some, Data}
+use Rattle.strm_rows.proofs.Prelude.{Proto, Sig, Ctl, Ioctl, Setopts, Iocack, Iocnak, Pcproto, Pcsig, Read, Flush, Stop, Start, Hangup, Error}
+use Rattle.strm_rows.proofs.Prelude.{MasterToSlave, SlaveToMaster, Slave, Up, Down, Enable, Room, Spot, Tagged, Written, Made, plain, tagged, Acted}
+use Rattle.strm_rows.proofs.Prelude.{Fate, Goes, Comes, Parcel, is_data_kind, ldterm_puts, Discipline, Between, Begun, Message, data_message}
+use Rattle.strm_rows.proofs.Prelude.{cells_of, band_of, size_of, rank_of, is_high_priority, Queue, Flow, Serving, flow, fresh, ordinary}
+use Rattle.strm_rows.proofs.Prelude.{without_parts}
 use Rattle.strm_types.specs.declared.rules.Rule.TheVariants as rules
-use Rattle.strm_types.specs.declared.spots.Note.TheVariants.{Enable, Room}
-use Rattle.strm_types.specs.declared.spots.Spot.{Spot}
-use Rattle.strm_types.specs.Cells.{Tagged, Written, Made, plain, tagged}
-use Rattle.strm_types.specs.Deliver.{Acted, Fate, Goes, Comes, Parcel}
-use Rattle.strm_types.specs.Flush.{is_data_kind}
 use Rattle.strm_types.specs.Input.{back_on, begins_next, finished, is_data, left_of, made_of, stages_done, then_on, to_treat, with_left}
-use Rattle.strm_types.specs.LdtermPuts.{ldterm_puts}
 use Rattle.strm_types.specs.LdtermServes.{ldterm_serves}
-use Rattle.strm_types.specs.Ldterms.{Discipline, Stage, Between, Begun, Answered}
-use Rattle.strm_types.specs.Message.{Message, data_message, cells_of, band_of, size_of, rank_of, is_high_priority}
-use Rattle.strm_types.specs.Queue.{Queue, Flow}
-use Rattle.strm_types.specs.Service.{Serving}
+use Rattle.strm_types.specs.Ldterms.{Stage, Answered}
 use Rattle.strm_rows.proofs.EchoRows.{rubbed}
 use Rattle.strm_rows.proofs.LdtermRows.{at, down, flushing, protocol, queue_with, to_write, up, waiting}
-use Rattle.strm_laws.proofs.Samples.{flow, fresh, ordinary, without_parts}
 use Rattle.strm_rows.proofs.TypingRows.{lined, with_modes}
 
 abbrev here : Spot

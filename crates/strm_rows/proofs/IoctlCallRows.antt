@@ -1,41 +1,14 @@
 -- Ioctls as calls of a pair, from the call to its answer, as worked out by hand from streamio(7I) (I_STR).
-use Rattle.std.proofs.Common.{ℕ, ◌≡◌, Bool, true, false, List, [], ◌∷◌, ◌++◌, length, map, refl, replicate}
-use Rattle.std.specs.Prelude.{Option, None, Some}
-use Rattle.strm_types.specs.declared.answers.Answer.TheVariants.{Done, Bytes, Pending, Nak}
-use Rattle.strm_types.specs.declared.answers.Turn.TheVariants.{Moved}
-use Rattle.strm_types.specs.declared.books.Book.{Book}
-use Rattle.strm_types.specs.declared.entries.Entry.TheVariants.{Called, Turned}
-use Rattle.strm_types.specs.declared.events.Caller.{Caller}
+use Rattle.strm_rows.proofs.Prelude.{ℕ, ◌≡◌, Bool, true, false, List, [], ◌∷◌, ◌++◌, length, map, refl, replicate, Option, None, Some, Done, Bytes}
+use Rattle.strm_rows.proofs.Prelude.{Pending, Nak, Moved, Book, Called, Turned, Caller, TIOCGWINSZ, Config, Openness, Never, Open, Closed, QueueName}
+use Rattle.strm_rows.proofs.Prelude.{Side, Master, Slave, Refusal, Einval, Eagain, Enxio, Enosr, Erange, JournalFull, Free, Waiting, Answered}
+use Rattle.strm_rows.proofs.Prelude.{new_book, Request, content_of, map_answer, map_event, payload_of, called, plain, carried, crosses, caller_of}
+use Rattle.strm_rows.proofs.Prelude.{PlainEntry, content_max, entries_in, room_of, came, gone, Message, band_of, cells_of, is_high_priority, is_held}
+use Rattle.strm_rows.proofs.Prelude.{rank_of, size_of, driver_of, blocks_asked, blocks_taken, refused, refused_at_once, refused_by_state, PlainSlot}
+use Rattle.strm_rows.proofs.Prelude.{State, Stream, with_book, IsLegal, replay, turned, whole_turn, head_with, header, ordinary, queue, without_parts}
+use Rattle.strm_rows.proofs.Prelude.{MasterToSlave}
 use Rattle.strm_types.specs.declared.events.Event.TheVariants.{Ioctl, IoctlResult}
-use Rattle.strm_types.specs.declared.ioctls.TheConstants.{TIOCGWINSZ}
 use Rattle.strm_types.specs.declared.kinds.MsgKind.TheVariants as kinds
-use Rattle.strm_types.specs.declared.limits.Config.{Config}
-use Rattle.strm_types.specs.declared.names.Openness.{Openness}
-use Rattle.strm_types.specs.declared.names.Openness.TheVariants.{Never, Open, Closed}
-use Rattle.strm_types.specs.declared.names.QueueName.{QueueName}
-use Rattle.strm_types.specs.declared.names.Side.{Side}
-use Rattle.strm_types.specs.declared.names.Side.TheVariants.{Master, Slave}
-use Rattle.strm_types.specs.declared.refusals.Refusal.{Refusal}
-use Rattle.strm_types.specs.declared.refusals.Refusal.TheVariants.{Einval, Eagain, Enxio, Enosr, Erange, JournalFull}
-use Rattle.strm_types.specs.declared.slots.Slot.TheVariants.{Free, Waiting, Answered}
-use Rattle.strm_types.specs.Books.{new_book}
-use Rattle.strm_types.specs.Events.{Request, content_of, map_answer, map_event, payload_of}
-use Rattle.strm_laws.specs.Calls.{called}
-use Rattle.strm_types.specs.Cells.{plain}
-use Rattle.strm_types.specs.Deliver.{carried}
-use Rattle.strm_types.specs.Drivers.{crosses}
-use Rattle.strm_types.specs.JobControl.{caller_of}
-use Rattle.strm_types.specs.Journal.{PlainEntry, content_max, entries_in, room_of}
-use Rattle.strm_laws.specs.Kept.{came, gone}
-use Rattle.strm_types.specs.Message.{Message, band_of, cells_of, is_high_priority, is_held, rank_of, size_of}
-use Rattle.strm_types.specs.Names.{driver_of}
-use Rattle.strm_laws.specs.Refusals.{blocks_asked, blocks_taken, refused, refused_at_once, refused_by_state}
-use Rattle.strm_types.specs.Slots.{PlainSlot}
-use Rattle.strm_laws.specs.State.{State, Stream, with_book}
-use Rattle.strm_laws.specs.Step.{IsLegal, replay}
-use Rattle.strm_laws.specs.Turns.{turned, whole_turn}
-use Rattle.strm_laws.proofs.Samples.{head_with, header, ordinary, queue, without_parts}
-use Rattle.strm_types.specs.declared.names.Dir.TheVariants.{MasterToSlave}
 
 -- In a pair, whose sides have these ioctls under way, and whose drivers these messages.
 

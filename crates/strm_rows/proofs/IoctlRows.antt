@@ -1,26 +1,15 @@
 -- What answers an ioctl at a stream head, and what its caller is told, as worked out by hand from streamio(7I) (I_STR) and the
 -- STREAMS Programming Guide ("Stream Head": M_IOCTL, M_IOCACK, M_IOCNAK).
-use Rattle.std.proofs.Common.{ℕ, ◌≡◌, true, false, List, [], ◌∷◌, ◌++◌, length, map, take, refl, replicate}
-use Rattle.std.specs.Prelude.{None, Some}
-use Rattle.strm_types.specs.declared.answers.Answer.TheVariants.{Done, Bytes, Pending, Nak}
-use Rattle.strm_types.specs.declared.ioctls.TheConstants.{TCGETS, TCSETS, TCSETSW, TCSETSF, TIOCGWINSZ, TIOCSWINSZ, TIOCSIGNAL, TIOCGPGRP, TIOCSPGRP}
-use Rattle.strm_types.specs.declared.kinds.MsgKind.{MsgKind}
+use Rattle.strm_rows.proofs.Prelude.{ℕ, ◌≡◌, true, false, List, [], ◌∷◌, ◌++◌, length, map, take, refl, replicate, None, Some, Done, Bytes, Pending}
+use Rattle.strm_rows.proofs.Prelude.{Nak, TCSETSW, TIOCGWINSZ, TIOCGPGRP, TIOCSPGRP, MsgKind, Side, Slave, Way, Up, Down, Refusal, Einval, Eagain}
+use Rattle.strm_rows.proofs.Prelude.{Enxio, Ebadmsg, Enosr, Erange, JournalFull, NoMinor, NoMemory, StillShared, Eio, Free, Waiting, Answered, Spot}
+use Rattle.strm_rows.proofs.Prelude.{Acted, head_put, Head, number_of, PlainSlot, flow, head_with, header, proto, queue, without_parts}
+use Rattle.strm_types.specs.declared.ioctls.TheConstants.{TCGETS, TCSETS, TCSETSF, TIOCSWINSZ, TIOCSIGNAL}
 use Rattle.strm_types.specs.declared.kinds.MsgKind.TheVariants as kinds
-use Rattle.strm_types.specs.declared.names.Side.{Side}
-use Rattle.strm_types.specs.declared.names.Side.TheVariants.{Slave}
-use Rattle.strm_types.specs.declared.names.Way.{Way}
-use Rattle.strm_types.specs.declared.names.Way.TheVariants.{Up, Down}
-use Rattle.strm_types.specs.declared.refusals.Refusal.{Refusal}
-use Rattle.strm_types.specs.declared.refusals.Refusal.TheVariants.{Einval, Eagain, Enxio, Ebadmsg, Enosr, Erange, JournalFull, NoMinor, NoMemory, StillShared, Eio}
-use Rattle.strm_types.specs.declared.slots.Slot.TheVariants.{Free, Waiting, Answered}
-use Rattle.strm_types.specs.declared.spots.Spot.{Spot}
 use Rattle.strm_types.specs.Costs.{turns_round}
-use Rattle.strm_types.specs.Deliver.{Acted}
-use Rattle.strm_types.specs.Heads.{head_put, Head}
 use Rattle.strm_types.specs.Ioctls.{asking, ioctl_message, nak_message}
-use Rattle.strm_types.specs.Numbers.{number_of, refusal_numbered}
-use Rattle.strm_types.specs.Slots.{PlainSlot, answer_bytes, is_free, map_slot, result_refusal, slot_answered, slot_behind, told_of}
-use Rattle.strm_laws.proofs.Samples.{flow, head_with, header, proto, queue, without_parts}
+use Rattle.strm_types.specs.Numbers.{refusal_numbered}
+use Rattle.strm_types.specs.Slots.{answer_bytes, is_free, map_slot, result_refusal, slot_answered, slot_behind, told_of}
 
 -- the numbers of commands
 

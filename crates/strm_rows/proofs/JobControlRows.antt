@@ -1,28 +1,20 @@
 -- Job control at a slave whose foreground group is 5 (POSIX, General Terminal Interface, "Terminal Access Control"): who is in the background,
 -- and what becomes of reads, gets, writes and puts from there.
-use Rattle.std.proofs.Common.{ℕ, ◌≡◌, Bool, true, false, List, [], ◌∷◌, map, replicate, refl}
-use Rattle.std.specs.Prelude.{None, Some}
-use Rattle.strm_types.specs.declared.answers.Answer.TheVariants.{Done, Bytes, Nak, Stop}
-use Rattle.strm_types.specs.declared.events.Caller.{Caller}
-use Rattle.strm_types.specs.declared.events.Event.TheVariants.{Shut, Look, Flush, Write, Read, Put, Get, Nread, Ioctl, Pop}
+use Rattle.strm_rows.proofs.Prelude.{ℕ, ◌≡◌, Bool, true, false, List, [], ◌∷◌, map, replicate, refl, None, Some, Done, Bytes, Nak, Caller, Shut, Look}
+use Rattle.strm_rows.proofs.Prelude.{Write, Put, Get, Nread, Pop, TIOCGPGRP, TIOCSPGRP, Any, Open, Master, Slave, Einval, Eagain, Eio, Enosr}
+use Rattle.strm_rows.proofs.Prelude.{JournalFull, plain, Request, Head, new_head, caller_of, called, refused, refused_by_state, State, new_stream}
+use Rattle.strm_rows.proofs.Prelude.{opening, with_stream, Config}
+use Rattle.strm_types.specs.declared.answers.Answer.TheVariants.{Stop}
+use Rattle.strm_types.specs.declared.events.Event.TheVariants.{Flush, Read, Ioctl}
 use Rattle.strm_types.specs.declared.events.FlushQueues.TheVariants as flushes
-use Rattle.strm_types.specs.declared.ioctls.TheConstants.{TIOCGPGRP, TIOCSPGRP}
 use Rattle.strm_types.specs.declared.job_control.Verdict.{Verdict}
 use Rattle.strm_types.specs.declared.job_control.Verdict.TheVariants.{Refused, Stopped, Allowed}
 use Rattle.strm_types.specs.declared.modes.Prio.TheVariants as prios
-use Rattle.strm_types.specs.declared.modes.Wanted.TheVariants.{Any}
-use Rattle.strm_types.specs.declared.names.Openness.TheVariants.{Open}
-use Rattle.strm_types.specs.declared.names.Side.TheVariants.{Master, Slave}
-use Rattle.strm_types.specs.declared.refusals.Refusal.TheVariants.{Einval, Eagain, Eio, Enosr, JournalFull}
 use Rattle.strm_types.specs.declared.signals.StopSignal.TheVariants.{Ttin, Ttou}
-use Rattle.strm_types.specs.Cells.{plain}
-use Rattle.strm_types.specs.Events.{Request}
-use Rattle.strm_types.specs.Heads.{Head, new_head}
-use Rattle.strm_types.specs.JobControl.{caller_of, judged}
-use Rattle.strm_laws.specs.Calls.{called, tells}
-use Rattle.strm_laws.specs.Refusals.{hold, refused, refused_by_state, stop_of}
-use Rattle.strm_laws.specs.State.{State, new_stream, opening, stream, with_stream}
-use Rattle.strm_types.specs.declared.limits.Config.{Config}
+use Rattle.strm_types.specs.JobControl.{judged}
+use Rattle.strm_laws.specs.Calls.{tells}
+use Rattle.strm_laws.specs.Refusals.{hold, stop_of}
+use Rattle.strm_laws.specs.State.{stream}
 
 -- a caller on the slave in this group
 abbrev in_group : ℕ → Caller

@@ -1,11 +1,10 @@
 -- Which keys bytes are, as worked out by hand from termio(7I).
-use Rattle.std.proofs.Common.{ℕ, ◌≡◌, ◌==◌, ◌||◌, if◌then◌else◌, true, false, List, [], ◌∷◌, map, refl, replicate}
-use Rattle.strm_types.specs.declared.keys.Key.{Key}
-use Rattle.strm_types.specs.declared.keys.Key.TheVariants.{Stop, Start, Intr, Quit, Susp, Ignored, Eof, Erase, Kill, Werase, Reprint, Lnext, Delimiter, Ordinary}
+use Rattle.strm_rows.proofs.Prelude.{ℕ, ◌≡◌, if◌then◌else◌, true, false, List, [], ◌∷◌, map, refl, replicate, Key, Intr, Quit, Susp, Ignored, Eof}
+use Rattle.strm_rows.proofs.Prelude.{Erase, Kill, Werase, Reprint, Lnext, Delimiter, Ordinary, Termios, first_termios}
+use Rattle.std.proofs.Common.{◌==◌, ◌||◌}
+use Rattle.strm_types.specs.declared.keys.Key.TheVariants.{Stop, Start}
 use Rattle.strm_types.specs.declared.keys.Stroke.{Stroke}
-use Rattle.strm_types.specs.declared.termios.Termios.{Termios}
 use Rattle.strm_types.specs.Keys.{key_of, stroke_of, stripped, lowered, ended, restarts}
-use Rattle.strm_types.specs.Termios.{first_termios}
 
 -- a terminal with other modes of input, and one with other local modes
 abbrev pub with_input : ℕ → Termios → Termios

@@ -1,24 +1,10 @@
 -- What ldterm does with what is put at it, as worked out by hand from ldterm(7M) and the STREAMS Programming Guide.
-use Rattle.std.proofs.Common.{ℕ, ◌≡◌, Bool, true, false, List, [], ◌∷◌, map, refl, replicate}
-use Rattle.std.specs.Prelude.{None, Some}
-use Rattle.strm_types.specs.declared.kinds.MsgKind.{MsgKind}
-use Rattle.strm_types.specs.declared.kinds.MsgKind.TheVariants.{Proto, Sig, Ctl, Ioctl, Setopts, Iocack, Iocnak, Pcproto, Pcsig, Read, Flush, Stop, Start, Hangup, Error}
-use Rattle.strm_types.specs.declared.names.Side.{Side}
-use Rattle.strm_types.specs.declared.names.Side.TheVariants.{Master, Slave}
-use Rattle.strm_types.specs.declared.names.Way.{Way}
-use Rattle.strm_types.specs.declared.names.Way.TheVariants.{Up, Down}
-use Rattle.strm_types.specs.declared.names.Dir.TheVariants.{MasterToSlave, SlaveToMaster}
-use Rattle.strm_types.specs.declared.rules.Rule.TheVariants.{Flushed}
-use Rattle.strm_types.specs.declared.spots.Note.TheVariants.{Enable, Room}
-use Rattle.strm_types.specs.declared.spots.Spot.{Spot}
-use Rattle.strm_types.specs.Deliver.{Acted, Parcel, Goes}
-use Rattle.strm_types.specs.Flush.{is_data_kind}
-use Rattle.strm_types.specs.LdtermPuts.{ldterm_puts}
-use Rattle.strm_types.specs.Ldterms.{Discipline, Between, Answered, both}
-use Rattle.strm_types.specs.Message.{Message, band_of, cells_of, is_high_priority, rank_of, size_of}
-use Rattle.strm_types.specs.Queue.{Queue, Flow}
-use Rattle.strm_types.specs.Termios.{first_termios}
-use Rattle.strm_laws.proofs.Samples.{flow, ordinary, without_parts, fresh}
+use Rattle.strm_rows.proofs.Prelude.{ℕ, ◌≡◌, Bool, true, false, List, [], ◌∷◌, map, refl, replicate, None, Some, MsgKind, Proto, Sig, Ctl, Ioctl}
+use Rattle.strm_rows.proofs.Prelude.{Setopts, Iocack, Iocnak, Pcproto, Pcsig, Read, Flush, Stop, Start, Hangup, Error, Side, Master, Slave, Way, Up}
+use Rattle.strm_rows.proofs.Prelude.{Down, MasterToSlave, SlaveToMaster, Flushed, Enable, Room, Spot, Acted, Parcel, Goes, is_data_kind, ldterm_puts}
+use Rattle.strm_rows.proofs.Prelude.{Discipline, Between, Message, band_of, cells_of, is_high_priority, rank_of, size_of, Queue, Flow, first_termios}
+use Rattle.strm_rows.proofs.Prelude.{flow, ordinary, without_parts, fresh}
+use Rattle.strm_types.specs.Ldterms.{Answered, both}
 
 -- one as it is pushed: it runs, and its queues are empty, with the marks 512 and 128
 abbrev new_one : Queue ℕ

@@ -1,3 +1,4 @@
+pub mod Prelude
 pub mod JobControlRows
 pub mod RestRows
 pub mod ReadRows

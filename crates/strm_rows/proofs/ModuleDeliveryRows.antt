@@ -1,24 +1,10 @@
 -- What deliveries over the modules of a pair's streams compute, as worked out by hand.
-use Rattle.std.proofs.Common.{ℕ, ◌≡◌, false, ◌∷◌, [], refl}
+use Rattle.strm_rows.proofs.Prelude.{ℕ, ◌≡◌, false, ◌∷◌, [], refl, MasterToSlave, SlaveToMaster, Master, Slave, Up, Down, Flushed, Waiting, Answered}
+use Rattle.strm_rows.proofs.Prelude.{plain, Goes, carried, crosses, is_data_kind, flush_message, Message, band_of, cells_of, is_held}
+use Rattle.strm_rows.proofs.Prelude.{is_high_priority, rank_of, size_of, driver_of, delivered, PlainSlot, State, Stream, driver_serves, header}
+use Rattle.strm_rows.proofs.Prelude.{ordinary, without_parts}
 use Rattle.strm_types.specs.declared.kinds.MsgKind.TheVariants as kinds
-use Rattle.strm_types.specs.declared.names.Dir.TheVariants.{MasterToSlave, SlaveToMaster}
-use Rattle.strm_types.specs.declared.names.Side.TheVariants.{Master, Slave}
-use Rattle.strm_types.specs.declared.names.Way.TheVariants.{Up, Down}
-use Rattle.strm_types.specs.declared.rules.Rule.TheVariants.{Flushed}
-use Rattle.strm_types.specs.declared.slots.Slot.TheVariants.{Waiting, Answered}
-use Rattle.strm_types.specs.Cells.{plain}
-use Rattle.strm_types.specs.Deliver.{Goes, carried}
-use Rattle.strm_types.specs.Drivers.{crosses}
-use Rattle.strm_types.specs.Flush.{is_data_kind}
-use Rattle.strm_types.specs.Flushing.{flush_message}
-use Rattle.strm_types.specs.Message.{Message, band_of, cells_of, is_held, is_high_priority, rank_of, size_of}
-use Rattle.strm_types.specs.Names.{driver_of}
-use Rattle.strm_laws.specs.Puts.{delivered}
-use Rattle.strm_types.specs.Slots.{PlainSlot}
-use Rattle.strm_laws.specs.State.{State, Stream}
-use Rattle.strm_laws.specs.Turns.{driver_serves}
 use Rattle.strm_rows.proofs.PutAmongRows.{bare, end, ldterm, one, pair, spot, with_these}
-use Rattle.strm_laws.proofs.Samples.{header, ordinary, without_parts}
 
 -- M_DATA that goes down from the head waits at the first module, whose write queue is enabled
 pub data-waits-at-the-first : delivered plain (spot Master 1 Down) (ordinary (7 ∷ [])) (pair (end [] (bare ∷ bare ∷ []) []) (end [] [] []) [])

@@ -1,22 +1,11 @@
 -- What the definitions of modules' queues compute, on small stacks.
-use Rattle.std.proofs.Common.{ℕ, ◌≡◌, true, false, List, [], ◌∷◌, map, refl}
-use Rattle.std.specs.Prelude.{None, Some}
-use Rattle.strm_types.specs.declared.names.Way.{Way}
-use Rattle.strm_types.specs.declared.names.Way.TheVariants.{Up, Down}
-use Rattle.strm_types.specs.declared.names.Side.{Side}
-use Rattle.strm_types.specs.declared.names.Side.TheVariants.{Master, Slave}
-use Rattle.strm_types.specs.declared.names.Dir.TheVariants.{MasterToSlave, SlaveToMaster}
+use Rattle.strm_rows.proofs.Prelude.{ℕ, ◌≡◌, true, false, List, [], ◌∷◌, map, refl, None, Some, Way, Up, Down, Side, Master, Slave, MasterToSlave}
+use Rattle.strm_rows.proofs.Prelude.{SlaveToMaster, QueueName, Ptem, ModulePopped, Room, Goes, driver_of, data_message, band_of, is_high_priority}
+use Rattle.strm_rows.proofs.Prelude.{size_of, cells_of, Queue}
 use Rattle.strm_types.specs.declared.names.Place.TheVariants as places
-use Rattle.strm_types.specs.declared.names.QueueName.{QueueName}
-use Rattle.strm_types.specs.declared.names.ModuleName.TheVariants.{Ldterm, Ptem}
-use Rattle.strm_types.specs.declared.rules.Rule.TheVariants.{ModulePopped}
-use Rattle.strm_types.specs.declared.spots.Note.TheVariants.{Room}
-use Rattle.strm_types.specs.Deliver.{Goes}
+use Rattle.strm_types.specs.declared.names.ModuleName.TheVariants.{Ldterm}
 use Rattle.strm_types.specs.Modules.{without_module}
-use Rattle.strm_types.specs.Names.{driver_of}
 use Rattle.strm_types.specs.Service.{cleared, turn_ended}
-use Rattle.strm_types.specs.Message.{data_message, band_of, is_high_priority, size_of, cells_of}
-use Rattle.strm_types.specs.Queue.{Queue}
 use Rattle.strm_types.specs.Standings.{Standing, stood}
 use Rattle.strm_types.specs.ModuleQueues.{place_past, place_before, can_pass, waits_past}
 

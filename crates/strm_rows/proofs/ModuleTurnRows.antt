@@ -1,30 +1,13 @@
 -- Turns of modules' queues, as worked out by hand from the STREAMS Programming Guide, ldterm(7M) and termio(7I).
-use Rattle.std.proofs.Common.{ℕ, ◌≡◌, Bool, true, false, List, [], ◌∷◌, ◌++◌, map, refl}
-use Rattle.std.specs.Prelude.{None, Some}
+use Rattle.strm_rows.proofs.Prelude.{ℕ, ◌≡◌, Bool, true, false, List, [], ◌∷◌, ◌++◌, map, refl, None, Some, Turn, Moved, Blocked, Idle, Turned, Open}
+use Rattle.strm_rows.proofs.Prelude.{Driver, Ldterm, QueueName, Master, Slave, Up, Down, new_book, plain, carried, Message, band_of, cells_of}
+use Rattle.strm_rows.proofs.Prelude.{data_message, is_high_priority, rank_of, size_of, driver_of, Flow, Queue, Standing, ldterm_stands, State, Stream}
+use Rattle.strm_rows.proofs.Prelude.{new_stream, TurnOutcome, turned, whole_turn, head_with, ordinary, fresh, module_named}
 use Rattle.strm_types.specs.declared.names.ModuleName.TheVariants as names
-use Rattle.strm_types.specs.declared.answers.Turn.{Turn}
-use Rattle.strm_types.specs.declared.answers.Turn.TheVariants.{Moved, Blocked, Idle}
-use Rattle.strm_types.specs.declared.entries.Entry.TheVariants.{Turned}
-use Rattle.strm_types.specs.declared.names.Openness.TheVariants.{Open}
-use Rattle.strm_types.specs.declared.names.Place.TheVariants.{Driver, Ldterm}
-use Rattle.strm_types.specs.declared.names.QueueName.{QueueName}
-use Rattle.strm_types.specs.declared.names.Side.TheVariants.{Master, Slave}
-use Rattle.strm_types.specs.declared.names.Way.TheVariants.{Up, Down}
-use Rattle.strm_types.specs.Books.{new_book}
-use Rattle.strm_types.specs.Cells.{plain}
-use Rattle.strm_types.specs.Deliver.{carried}
-use Rattle.strm_types.specs.Message.{Message, band_of, cells_of, data_message, is_high_priority, rank_of, size_of}
 use Rattle.strm_laws.specs.ModuleTurns.{calls, module_turned, place_named, whole_module}
-use Rattle.strm_types.specs.Names.{driver_of}
-use Rattle.strm_types.specs.Queue.{Flow, Queue}
-use Rattle.strm_laws.specs.Stacked.{Standing, module_queues, ldterm_stands}
-use Rattle.strm_laws.specs.State.{State, Stream, new_stream}
+use Rattle.strm_laws.specs.Stacked.{module_queues}
 use Rattle.strm_laws.specs.Step.{IsTurn, after}
-use Rattle.strm_laws.specs.TurnOutcomes.{TurnOutcome}
-use Rattle.strm_laws.specs.Turns.{turned, whole_turn}
-use Rattle.strm_laws.proofs.Samples.{head_with, ordinary, fresh}
 use Rattle.strm_laws.specs.Past.{may_pass}
-use Rattle.strm_laws.specs.Pushes.{module_named}
 
 -- a queue of one band that is full from three bytes on, whose last turn left messages there
 abbrev busy : List (Message ℕ) → Bool → Queue ℕ

@@ -1,18 +1,10 @@
 -- What the definitions of names and of refusals' numbers compute, case by case.
-use Rattle.std.proofs.Common.{◌≡◌, true, false, List, [], ◌∷◌, map, refl, replicate}
-use Rattle.std.specs.Prelude.{filter, None, Some}
-use Rattle.strm_types.specs.declared.names.Side.{Side}
-use Rattle.strm_types.specs.declared.names.Side.TheVariants.{Master, Slave}
-use Rattle.strm_types.specs.declared.names.Way.{Way}
-use Rattle.strm_types.specs.declared.names.Way.TheVariants.{Up, Down}
+use Rattle.strm_rows.proofs.Prelude.{◌≡◌, true, false, List, [], ◌∷◌, map, refl, replicate, filter, None, Some, Side, Master, Slave, Way, Up, Down}
+use Rattle.strm_rows.proofs.Prelude.{Ldterm, Driver, QueueName, MasterToSlave, SlaveToMaster, Never, Open, Closed, Einval, Eagain, Enxio, Ebadmsg}
+use Rattle.strm_rows.proofs.Prelude.{Enosr, Erange, JournalFull, NoMinor, NoMemory, StillShared, Eio, number_of, driver_of, head_of}
 use Rattle.strm_types.specs.declared.names.Place.{Place}
-use Rattle.strm_types.specs.declared.names.Place.TheVariants.{Head, Ldterm, Driver}
-use Rattle.strm_types.specs.declared.names.QueueName.{QueueName}
-use Rattle.strm_types.specs.declared.names.Dir.TheVariants.{MasterToSlave, SlaveToMaster}
-use Rattle.strm_types.specs.declared.names.Openness.TheVariants.{Never, Open, Closed}
-use Rattle.strm_types.specs.declared.refusals.Refusal.TheVariants.{Einval, Eagain, Enxio, Ebadmsg, Enosr, Erange, JournalFull, NoMinor, NoMemory, StillShared, Eio}
-use Rattle.strm_types.specs.Numbers.{number_of}
-use Rattle.strm_types.specs.Names.{other, is_master, direction_from, side_from, is_open, is_never, driver_of, head_of, has_service, direction_of, is_enabled, enable, enable_if, enable_some, without, times}
+use Rattle.strm_types.specs.declared.names.Place.TheVariants.{Head}
+use Rattle.strm_types.specs.Names.{other, is_master, direction_from, side_from, is_open, is_never, has_service, direction_of, is_enabled, enable, enable_if, enable_some, without, times}
 
 pub refusals-have-numbers : map number_of (Einval ∷ Eagain ∷ Enxio ∷ Ebadmsg ∷ Enosr ∷ Erange ∷ JournalFull ∷ NoMinor ∷ NoMemory ∷ StillShared ∷ Eio ∷ []) ≡ 1 ∷ 2 ∷ 3 ∷ 4 ∷ 5 ∷ 6 ∷ 7 ∷ 8 ∷ 9 ∷ 10 ∷ 11 ∷ []
 refusals-have-numbers = refl

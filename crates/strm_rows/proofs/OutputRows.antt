@@ -1,27 +1,17 @@
 -- What becomes of bytes that go out, as worked out by hand from termio(7I) and ldterm(7M).
-use Rattle.std.proofs.Common.{ℕ, ◌≡◌, Bool, true, false, List, [], ◌∷◌, ◌++◌, map, refl, replicate}
-use Rattle.std.specs.Prelude.{None, Some}
-use Rattle.strm_types.specs.declared.kinds.MsgKind.TheVariants.{Data, Sig, Ctl, Ioctl, Setopts, Iocack, Iocnak, Pcproto, Pcsig, Read, Flush, Stop, Start, Hangup, Error}
-use Rattle.strm_types.specs.declared.names.Dir.TheVariants.{MasterToSlave, SlaveToMaster}
-use Rattle.strm_types.specs.declared.names.Side.TheVariants.{Slave, Master}
-use Rattle.strm_types.specs.declared.names.Way.TheVariants.{Down}
+use Rattle.strm_rows.proofs.Prelude.{ℕ, ◌≡◌, Bool, true, false, List, [], ◌∷◌, ◌++◌, map, refl, replicate, None, Some, Data, Sig, Ctl, Ioctl, Setopts}
+use Rattle.strm_rows.proofs.Prelude.{Iocack, Iocnak, Pcproto, Pcsig, Read, Flush, Stop, Start, Hangup, Error, MasterToSlave, SlaveToMaster, Slave}
+use Rattle.strm_rows.proofs.Prelude.{Master, Down, Termios, Tagged, Written, Made, plain, tagged, Fate, Goes, Comes, Parcel, Discipline, Message}
+use Rattle.strm_rows.proofs.Prelude.{cells_of, is_high_priority, rank_of, size_of, Serving, first_termios, ordinary, without_parts}
 use Rattle.strm_types.specs.declared.output.Given.{Given}
 use Rattle.strm_types.specs.declared.output.Given.TheVariants.{Byte, Ended, Spaces, Nothing}
 use Rattle.strm_types.specs.declared.output.Posted.{Posted}
 use Rattle.strm_types.specs.declared.rules.Rule.TheVariants.{Replaced, Onocr}
 use Rattle.strm_types.specs.declared.spots.Asks.TheVariants as asked
-use Rattle.strm_types.specs.declared.termios.Termios.{Termios}
 use Rattle.strm_types.specs.Asking.{ldterm_asks}
-use Rattle.strm_types.specs.Cells.{Tagged, Written, Made, plain, tagged}
-use Rattle.strm_types.specs.Deliver.{Fate, Goes, Comes, Parcel}
-use Rattle.strm_types.specs.Ldterms.{Discipline}
-use Rattle.strm_types.specs.Message.{Message, cells_of, is_high_priority, rank_of, size_of}
 use Rattle.strm_types.specs.Output.{Output, made_for, post, posts, raised}
 use Rattle.strm_types.specs.OutputTurns.{output_serves}
-use Rattle.strm_types.specs.Service.{Serving}
-use Rattle.strm_types.specs.Termios.{first_termios}
 use Rattle.strm_rows.proofs.LdtermRows.{at, down, protocol, queue_with, to_write, waiting}
-use Rattle.strm_laws.proofs.Samples.{ordinary, without_parts}
 use Rattle.strm_rows.proofs.TypingRows.{lined}
 
 -- output modes: OPOST is 1, OLCUC 2, ONLCR 4, OCRNL 8, ONOCR 0x10, ONLRET 0x20, XTABS 0x1800

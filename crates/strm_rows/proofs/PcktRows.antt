@@ -1,22 +1,12 @@
 -- What pckt does with what is put at it, as worked out by hand from pckt(7M) and sys/stream.h.
-use Rattle.std.proofs.Common.{ℕ, ◌≡◌, true, false, List, [], ◌∷◌, ◌++◌, map, refl, replicate}
-use Rattle.std.specs.Prelude.{Option, None, Some}
+use Rattle.strm_rows.proofs.Prelude.{ℕ, ◌≡◌, true, false, List, [], ◌∷◌, ◌++◌, map, refl, replicate, Option, None, Some, Data, Proto, Sig, Ctl, Ioctl}
+use Rattle.strm_rows.proofs.Prelude.{Setopts, Iocack, Iocnak, Pcproto, Pcsig, Read, Flush, Stop, Start, Hangup, Error, MasterToSlave, SlaveToMaster}
+use Rattle.strm_rows.proofs.Prelude.{Master, Slave, Way, Up, Down, Spot, Tagged, Base, Made, Written, plain, tagged, Acted, Comes, Parcel}
+use Rattle.strm_rows.proofs.Prelude.{kind_number, Message, band_of, cells_of, is_high_priority, put_in, State, new_stream, opening, with_book}
+use Rattle.strm_rows.proofs.Prelude.{with_stream, module_named, header, ordinary, proto, urgent, without_parts}
 use Rattle.strm_types.specs.declared.names.ModuleName.TheVariants as names
-use Rattle.strm_types.specs.declared.kinds.MsgKind.TheVariants.{Data, Proto, Sig, Ctl, Ioctl, Setopts, Iocack, Iocnak, Pcproto, Pcsig, Read, Flush, Stop, Start, Hangup, Error}
-use Rattle.strm_types.specs.declared.names.Dir.TheVariants.{MasterToSlave, SlaveToMaster}
-use Rattle.strm_types.specs.declared.names.Side.TheVariants.{Master, Slave}
-use Rattle.strm_types.specs.declared.names.Way.{Way}
-use Rattle.strm_types.specs.declared.names.Way.TheVariants.{Up, Down}
-use Rattle.strm_types.specs.declared.spots.Spot.{Spot}
-use Rattle.strm_types.specs.Cells.{Tagged, Base, Made, Written, plain, tagged}
-use Rattle.strm_types.specs.Deliver.{Acted, Comes, Parcel}
-use Rattle.strm_types.specs.Kinds.{kind_number}
-use Rattle.strm_types.specs.Message.{Message, band_of, cells_of, is_high_priority}
 use Rattle.strm_types.specs.Pckts.{Pckt, is_packed, pckt_puts}
-use Rattle.strm_laws.specs.Puts.{booked, put_in}
-use Rattle.strm_laws.specs.State.{State, new_stream, opening, with_book, with_stream}
-use Rattle.strm_laws.specs.Pushes.{module_named}
-use Rattle.strm_laws.proofs.Samples.{header, ordinary, proto, urgent, without_parts}
+use Rattle.strm_laws.specs.Puts.{booked}
 
 pub kinds-that-are-packed :
     map is_packed (Data ∷ Proto ∷ Pcproto ∷ Ioctl ∷ Stop ∷ Start ∷ Flush ∷ Read ∷ []) ∷ map is_packed (Sig ∷ Ctl ∷ Setopts ∷ Iocack ∷ Iocnak ∷ Pcsig ∷ Hangup ∷ Error ∷ []) ∷ []

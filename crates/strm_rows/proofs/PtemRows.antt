@@ -1,20 +1,11 @@
 -- What ptem does with what is put at it, as worked out by hand from ptem(7M), termio(7I) and ptm(7D).
-use Rattle.std.proofs.Common.{ℕ, ◌≡◌, true, false, List, [], ◌∷◌, ◌++◌, map, refl, replicate, take}
-use Rattle.std.specs.Prelude.{Some}
-use Rattle.strm_types.specs.declared.kinds.MsgKind.TheVariants.{Sig, Ctl, Ioctl, Setopts, Iocack, Iocnak, Pcsig, Read, Flush, Stop, Start, Hangup, Error}
-use Rattle.strm_types.specs.declared.names.Side.TheVariants.{Master, Slave}
-use Rattle.strm_types.specs.declared.names.Way.{Way}
-use Rattle.strm_types.specs.declared.names.Way.TheVariants.{Up, Down}
-use Rattle.strm_types.specs.declared.spots.Spot.{Spot}
-use Rattle.strm_types.specs.declared.termios.Termios.{Termios}
+use Rattle.strm_rows.proofs.Prelude.{ℕ, ◌≡◌, true, false, List, [], ◌∷◌, ◌++◌, map, refl, replicate, take, Some, Sig, Ctl, Ioctl, Setopts, Iocack}
+use Rattle.strm_rows.proofs.Prelude.{Iocnak, Pcsig, Read, Flush, Stop, Start, Hangup, Error, Master, Slave, Way, Up, Down, Spot, Termios, Acted}
+use Rattle.strm_rows.proofs.Prelude.{Parcel, Message, first_termios, termios_bytes, header, ordinary, without_parts}
 use Rattle.strm_types.specs.Acks.{ack_message, payload, telling_message}
 use Rattle.strm_types.specs.Commands.{sets_termios}
-use Rattle.strm_types.specs.Deliver.{Acted, Parcel}
-use Rattle.strm_types.specs.Message.{Message}
 use Rattle.strm_types.specs.Ptems.{Ptem, new_ptem, ptem_puts}
-use Rattle.strm_types.specs.Termios.{first_termios, termios_bytes}
 use Rattle.strm_rows.proofs.LdtermRows.{protocol}
-use Rattle.strm_laws.proofs.Samples.{header, ordinary, without_parts}
 use Rattle.strm_rows.proofs.WinsizeRows.{window}
 
 -- what answers and tells

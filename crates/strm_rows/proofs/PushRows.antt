@@ -1,35 +1,17 @@
 -- Pushes, pops and closes of streams with modules, worked out by hand (streamio(7I): I_PUSH, I_POP, I_LOOK; ldterm(7M); close(2)).
-use Rattle.std.proofs.Common.{ℕ, ◌≡◌, true, false, List, [], ◌∷◌, map, refl, replicate}
-use Rattle.std.specs.Prelude.{None, Some, Option}
-use Rattle.strm_types.specs.declared.answers.Answer.TheVariants.{Done, Name}
-use Rattle.strm_types.specs.declared.modes.ReadMode.TheVariants.{ByteStream, MessageDiscard, MessageKeep}
+use Rattle.strm_rows.proofs.Prelude.{ℕ, ◌≡◌, true, false, List, [], ◌∷◌, map, refl, replicate, None, Some, Option, Done, Name, ByteStream}
+use Rattle.strm_rows.proofs.Prelude.{MessageDiscard, MessageKeep, Open, Closed, Ldterm, QueueName, Master, Slave, Up, Down, MasterToSlave}
+use Rattle.strm_rows.proofs.Prelude.{SlaveToMaster, EndClosed, ModulePopped, new_book, closed_at, Carried, Goes, carried, Message, cells_of, size_of}
+use Rattle.strm_rows.proofs.Prelude.{is_held, band_of, is_high_priority, driver_of, module_named, Flow, at_end, Standing, module_line, module_name}
+use Rattle.strm_rows.proofs.Prelude.{ldterm_stands, State, Stream, with_stream, flow, head_with, ordinary, proto, queue, header, without_parts, fresh}
+use Rattle.strm_rows.proofs.Prelude.{PlainSlot, TCSETSW, Ioctl, Iocack, Free, Waiting, Answered}
 use Rattle.strm_types.specs.declared.names.ModuleName.TheVariants as names
-use Rattle.strm_types.specs.declared.names.Openness.TheVariants.{Open, Closed}
-use Rattle.strm_types.specs.declared.names.Place.TheVariants.{Ldterm}
-use Rattle.strm_types.specs.declared.names.QueueName.{QueueName}
-use Rattle.strm_types.specs.declared.names.Side.TheVariants.{Master, Slave}
-use Rattle.strm_types.specs.declared.names.Way.TheVariants.{Up, Down}
-use Rattle.strm_types.specs.declared.names.Dir.TheVariants.{MasterToSlave, SlaveToMaster}
-use Rattle.strm_types.specs.declared.rules.Rule.TheVariants.{EndClosed, ModulePopped}
-use Rattle.strm_types.specs.Books.{new_book}
 use Rattle.strm_laws.specs.Calls.{name_told}
-use Rattle.strm_laws.specs.Closes.{closed_at}
-use Rattle.strm_types.specs.Deliver.{Carried, Goes, carried}
 use Rattle.strm_types.specs.Heads as heads
-use Rattle.strm_types.specs.Message.{Message, cells_of, size_of, is_held, band_of, is_high_priority}
-use Rattle.strm_types.specs.Names.{driver_of}
 use Rattle.strm_types.specs.Options.{mode_number}
-use Rattle.strm_laws.specs.Pushes.{may_stand, named_by, popped, pushed, pushed_named, top_on, module_named}
-use Rattle.strm_types.specs.Queue.{Flow}
-use Rattle.strm_laws.specs.Refusals.{none_waits_up, at_end}
+use Rattle.strm_laws.specs.Pushes.{may_stand, named_by, popped, pushed, pushed_named, top_on}
+use Rattle.strm_laws.specs.Refusals.{none_waits_up}
 use Rattle.strm_laws.specs.Past.{has_room_past, writer_waits}
-use Rattle.strm_laws.specs.Stacked.{Standing, module_line, module_name, ldterm_stands}
-use Rattle.strm_laws.specs.State.{State, Stream, with_stream}
-use Rattle.strm_laws.proofs.Samples.{flow, head_with, ordinary, proto, queue, header, without_parts, fresh}
-use Rattle.strm_types.specs.Slots.{PlainSlot}
-use Rattle.strm_types.specs.declared.ioctls.TheConstants.{TCSETSW}
-use Rattle.strm_types.specs.declared.kinds.MsgKind.TheVariants.{Ioctl, Iocack}
-use Rattle.strm_types.specs.declared.slots.Slot.TheVariants.{Free, Waiting, Answered}
 use Rattle.strm_types.specs.Standings.{QueuePair}
 
 -- a module with these messages on its read queue, whose bands are so, and on its write queue, and this unfinished line

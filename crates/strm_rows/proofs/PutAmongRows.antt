@@ -1,30 +1,12 @@
 -- What puts at the modules of a pair's streams compute, and the nearest earlier queues there, as worked out by hand.
-use Rattle.std.proofs.Common.{ℕ, ◌≡◌, ◌∷◌, List, [], map, refl, true, false}
-use Rattle.std.specs.Prelude.{None, Some}
+use Rattle.strm_rows.proofs.Prelude.{ℕ, ◌≡◌, ◌∷◌, List, [], map, refl, true, false, None, Some, MasterToSlave, SlaveToMaster, Open, QueueName, Side}
+use Rattle.strm_rows.proofs.Prelude.{Master, Slave, Way, Up, Down, Flushed, Spot, plain, new_book, Fate, Goes, Parcel, Took, is_data_kind}
+use Rattle.strm_rows.proofs.Prelude.{flush_message, Message, band_of, cells_of, is_high_priority, rank_of, size_of, driver_of, put_in, Flow, Standing}
+use Rattle.strm_rows.proofs.Prelude.{ldterm_stands, State, Stream, flow, head_with, header, ordinary, queue, without_parts, fresh}
 use Rattle.strm_types.specs.declared.kinds.MsgKind.TheVariants as kinds
-use Rattle.strm_types.specs.declared.names.Dir.TheVariants.{MasterToSlave, SlaveToMaster}
-use Rattle.strm_types.specs.declared.names.Openness.TheVariants.{Open}
 use Rattle.strm_types.specs.declared.names.Place.TheVariants as places
-use Rattle.strm_types.specs.declared.names.QueueName.{QueueName}
-use Rattle.strm_types.specs.declared.names.Side.{Side}
-use Rattle.strm_types.specs.declared.names.Side.TheVariants.{Master, Slave}
-use Rattle.strm_types.specs.declared.names.Way.{Way}
-use Rattle.strm_types.specs.declared.names.Way.TheVariants.{Up, Down}
-use Rattle.strm_types.specs.declared.rules.Rule.TheVariants.{Flushed}
-use Rattle.strm_types.specs.declared.spots.Spot.{Spot}
-use Rattle.strm_types.specs.Cells.{plain}
-use Rattle.strm_types.specs.Books.{new_book}
-use Rattle.strm_types.specs.Deliver.{Fate, Goes, Parcel, Took}
 use Rattle.strm_laws.specs.Earlier.{before_at, before_by, before_driver, before_head, driver_place, modules_on}
-use Rattle.strm_types.specs.Flush.{is_data_kind}
-use Rattle.strm_types.specs.Flushing.{flush_message}
-use Rattle.strm_types.specs.Message.{Message, band_of, cells_of, is_high_priority, rank_of, size_of}
-use Rattle.strm_types.specs.Names.{driver_of}
-use Rattle.strm_laws.specs.Puts.{across_of, put_in}
-use Rattle.strm_types.specs.Queue.{Flow}
-use Rattle.strm_laws.specs.Stacked.{Standing, ldterm_stands}
-use Rattle.strm_laws.specs.State.{State, Stream}
-use Rattle.strm_laws.proofs.Samples.{flow, head_with, header, ordinary, queue, without_parts, fresh}
+use Rattle.strm_laws.specs.Puts.{across_of}
 
 abbrev pub spot : Side → ℕ → Way → Spot
 spot side at way = record { side = side; at = at; way = way }

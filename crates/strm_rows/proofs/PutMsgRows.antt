@@ -1,42 +1,14 @@
 -- What putmsg(2) and putpmsg(2) send and are refused for, as worked out by hand from the manual pages.
-use Rattle.std.proofs.Common.{ℕ, ◌≡◌, Bool, true, false, List, [], ◌∷◌, map, refl, replicate}
-use Rattle.std.specs.Prelude.{Option, None, Some}
-use Rattle.strm_types.specs.declared.answers.Answer.TheVariants.{Done}
-use Rattle.strm_types.specs.declared.books.Book.{Book}
-use Rattle.strm_types.specs.declared.entries.Entry.TheVariants.{Called}
-use Rattle.strm_types.specs.declared.events.Caller.{Caller}
-use Rattle.strm_types.specs.declared.events.Event.TheVariants.{Put, Get, Mode, Nread}
-use Rattle.strm_types.specs.declared.kinds.MsgKind.{MsgKind}
-use Rattle.strm_types.specs.declared.kinds.MsgKind.TheVariants.{Data, Proto, Pcproto}
-use Rattle.strm_types.specs.declared.modes.ControlMode.TheVariants.{Discard}
+use Rattle.strm_rows.proofs.Prelude.{ℕ, ◌≡◌, Bool, true, false, List, [], ◌∷◌, map, refl, replicate, Option, None, Some, Done, Book, Called, Caller}
+use Rattle.strm_rows.proofs.Prelude.{Put, Get, Mode, Nread, MsgKind, Data, Proto, Pcproto, Discard, Prio, Any, SlaveToMaster, Openness, Never, Open}
+use Rattle.strm_rows.proofs.Prelude.{Closed, QueueName, Side, Master, Slave, Refusal, Einval, Eagain, Enxio, Erange, new_book, Request, payload_of}
+use Rattle.strm_rows.proofs.Prelude.{called, Tagged, plain, tagged, cells_written, carried, Goes, caller_of, content_max, entries_in, room_of, came}
+use Rattle.strm_rows.proofs.Prelude.{gone, Message, rank_of, band_of, size_of, cells_of, is_high_priority, driver_of, Queue, Flow, blocks_asked}
+use Rattle.strm_rows.proofs.Prelude.{blocks_taken, refused_at_once, refused_by_state, State, Stream, opening, head_with, flow, queue, ordinary}
 use Rattle.strm_types.specs.declared.modes.Mode.TheVariants.{Control}
-use Rattle.strm_types.specs.declared.modes.Prio.{Prio}
 use Rattle.strm_types.specs.declared.modes.Prio.TheVariants.{High, Band}
-use Rattle.strm_types.specs.declared.modes.Wanted.TheVariants.{Any}
-use Rattle.strm_types.specs.declared.names.Dir.TheVariants.{SlaveToMaster}
-use Rattle.strm_types.specs.declared.names.Openness.{Openness}
-use Rattle.strm_types.specs.declared.names.Openness.TheVariants.{Never, Open, Closed}
-use Rattle.strm_types.specs.declared.names.QueueName.{QueueName}
-use Rattle.strm_types.specs.declared.names.Side.{Side}
-use Rattle.strm_types.specs.declared.names.Side.TheVariants.{Master, Slave}
-use Rattle.strm_types.specs.declared.refusals.Refusal.{Refusal}
-use Rattle.strm_types.specs.declared.refusals.Refusal.TheVariants.{Einval, Eagain, Enxio, Erange}
 use Rattle.strm_types.specs.declared.rules.Rule.TheVariants as rules
-use Rattle.strm_types.specs.Books.{new_book}
-use Rattle.strm_types.specs.Events.{Request, payload_of}
-use Rattle.strm_laws.specs.Calls.{called}
-use Rattle.strm_types.specs.Cells.{Tagged, plain, tagged, cells_written}
-use Rattle.strm_types.specs.Deliver.{carried, Goes}
-use Rattle.strm_types.specs.JobControl.{caller_of}
-use Rattle.strm_types.specs.Journal.{content_max, entries_in, room_of}
-use Rattle.strm_laws.specs.Kept.{came, gone}
-use Rattle.strm_types.specs.Message.{Message, rank_of, band_of, size_of, cells_of, is_high_priority}
-use Rattle.strm_types.specs.Names.{driver_of}
 use Rattle.strm_types.specs.PutMsg.{put_message, put_refusal}
-use Rattle.strm_types.specs.Queue.{Queue, Flow}
-use Rattle.strm_laws.specs.Refusals.{blocks_asked, blocks_taken, refused_at_once, refused_by_state}
-use Rattle.strm_laws.specs.State.{State, Stream, opening}
-use Rattle.strm_laws.proofs.Samples.{head_with, flow, queue, ordinary}
 
 abbrev caller : Side → Caller
 caller side = caller_of side

@@ -1,38 +1,14 @@
 -- What puts at a head and in a pair compute, case by case, as worked out by hand from the manual pages.
-use Rattle.std.proofs.Common.{ℕ, ◌≡◌, Bool, true, false, List, [], ◌∷◌, map, refl}
-use Rattle.std.specs.Prelude.{Option, None, Some}
-use Rattle.strm_types.specs.declared.answers.Turn.TheVariants.{Moved}
-use Rattle.strm_types.specs.declared.events.FlushQueues.TheVariants.{Read, Write, Both}
-use Rattle.strm_types.specs.declared.flushing.FlushAsked.{FlushAsked}
-use Rattle.strm_types.specs.declared.kinds.Band.{Band}
-use Rattle.strm_types.specs.declared.kinds.MsgKind.{MsgKind}
+use Rattle.strm_rows.proofs.Prelude.{ℕ, ◌≡◌, Bool, true, false, List, [], ◌∷◌, map, refl, Option, None, Some, Moved, Both, FlushAsked, Band, MsgKind}
+use Rattle.strm_rows.proofs.Prelude.{Dir, MasterToSlave, SlaveToMaster, Openness, Never, Open, Closed, QueueName, Side, Master, Slave, Way, Up, Down}
+use Rattle.strm_rows.proofs.Prelude.{Rule, Room, Spot, plain, new_book, Acted, Fate, Goes, Parcel, Took, carried, is_data_kind, flush_message}
+use Rattle.strm_rows.proofs.Prelude.{head_put, Head, Message, band_of, cells_of, is_held, is_high_priority, rank_of, size_of, driver_of, delivered}
+use Rattle.strm_rows.proofs.Prelude.{put_in, State, Stream, driver_serves, flow, head_with, ordinary, proto, queue, urgent}
+use Rattle.strm_types.specs.declared.events.FlushQueues.TheVariants.{Read, Write}
 use Rattle.strm_types.specs.declared.kinds.MsgKind.TheVariants as kinds
-use Rattle.strm_types.specs.declared.names.Dir.{Dir}
-use Rattle.strm_types.specs.declared.names.Dir.TheVariants.{MasterToSlave, SlaveToMaster}
-use Rattle.strm_types.specs.declared.names.Openness.{Openness}
-use Rattle.strm_types.specs.declared.names.Openness.TheVariants.{Never, Open, Closed}
-use Rattle.strm_types.specs.declared.names.QueueName.{QueueName}
-use Rattle.strm_types.specs.declared.names.Side.{Side}
-use Rattle.strm_types.specs.declared.names.Side.TheVariants.{Master, Slave}
-use Rattle.strm_types.specs.declared.names.Way.{Way}
-use Rattle.strm_types.specs.declared.names.Way.TheVariants.{Up, Down}
-use Rattle.strm_types.specs.declared.rules.Rule.{Rule}
 use Rattle.strm_types.specs.declared.rules.Rule.TheVariants as rules
 use Rattle.strm_types.specs.declared.spots.Note.{Note}
-use Rattle.strm_types.specs.declared.spots.Note.TheVariants.{Room}
-use Rattle.strm_types.specs.declared.spots.Spot.{Spot}
-use Rattle.strm_types.specs.Cells.{plain}
-use Rattle.strm_types.specs.Books.{new_book}
-use Rattle.strm_types.specs.Deliver.{Acted, Fate, Goes, Parcel, Took, carried}
-use Rattle.strm_types.specs.Flush.{is_data_kind}
-use Rattle.strm_types.specs.Flushing.{asked_of, flush_bytes, flush_message}
-use Rattle.strm_types.specs.Heads.{head_put, Head}
-use Rattle.strm_types.specs.Message.{Message, band_of, cells_of, is_held, is_high_priority, rank_of, size_of}
-use Rattle.strm_types.specs.Names.{driver_of}
-use Rattle.strm_laws.specs.Puts.{delivered, put_in}
-use Rattle.strm_laws.specs.State.{State, Stream}
-use Rattle.strm_laws.specs.Turns.{driver_serves}
-use Rattle.strm_laws.proofs.Samples.{flow, head_with, ordinary, proto, queue, urgent}
+use Rattle.strm_types.specs.Flushing.{asked_of, flush_bytes}
 
 abbrev spot : Side → ℕ → Way → Spot
 spot side at way = record { side = side; at = at; way = way }

@@ -1,15 +1,14 @@
 -- What the definitions of kinds, messages and queues compute, case by case, as worked out by hand from the manual pages.
-use Rattle.std.proofs.Common.{ℕ, suc, ◌≡◌, Bool, true, false, List, [], ◌∷◌, length, map, refl, replicate}
-use Rattle.std.specs.Prelude.{filter, nat_lt, None, Some}
-use Rattle.strm_types.specs.declared.kinds.MsgKind.{MsgKind}
-use Rattle.strm_types.specs.declared.kinds.MsgKind.TheVariants.{Data, Proto, Sig, Ctl, Ioctl, Setopts, Iocack, Iocnak, Pcproto, Pcsig, Read, Flush, Stop, Start, Hangup, Error}
-use Rattle.strm_types.specs.Kinds.{kind_number, is_control_kind, is_body_kind}
-use Rattle.strm_types.specs.Flush.{is_data_kind, is_flushed}
-use Rattle.strm_types.specs.Message.{Message, is_high_priority, is_held, cells_of, size_of, rank_of, band_of, data_message, weight_of, map_message}
-use Rattle.strm_types.specs.Queue.{Queue, count_of, bytes_of, flow_of, is_full, put_enables, left_with, relieved, relieves, with_writer_at, new_queue, map_queue}
-use Rattle.strm_types.specs.Write.{chunk_count, chunks_of}
+use Rattle.strm_rows.proofs.Prelude.{ℕ, suc, ◌≡◌, Bool, true, false, List, [], ◌∷◌, length, map, refl, replicate, filter, None, Some, MsgKind, Data}
+use Rattle.strm_rows.proofs.Prelude.{Proto, Sig, Ctl, Ioctl, Setopts, Iocack, Iocnak, Pcproto, Pcsig, Read, Flush, Stop, Start, Hangup, Error}
+use Rattle.strm_rows.proofs.Prelude.{kind_number, is_data_kind, Message, is_high_priority, is_held, cells_of, size_of, rank_of, band_of, data_message}
+use Rattle.strm_rows.proofs.Prelude.{weight_of, map_message, Queue, new_queue, chunk_count, proto, urgent, options, ordinary, flow, queue}
+use Rattle.std.specs.Prelude.{nat_lt}
+use Rattle.strm_types.specs.Kinds.{is_control_kind, is_body_kind}
+use Rattle.strm_types.specs.Flush.{is_flushed}
+use Rattle.strm_types.specs.Queue.{count_of, bytes_of, flow_of, is_full, put_enables, left_with, relieved, relieves, with_writer_at, map_queue}
+use Rattle.strm_types.specs.Write.{chunks_of}
 use Rattle.strm_types.specs.Head.{head_read}
-use Rattle.strm_laws.proofs.Samples.{proto, urgent, options, ordinary, flow, queue}
 
 -- kinds
 

@@ -1,13 +1,9 @@
 -- What reads give in each read mode and control mode, worked out by hand from read(2) and streamio(7I).
-use Rattle.std.proofs.Common.{ℕ, ◌≡◌, true, false, List, [], ◌∷◌, refl}
-use Rattle.std.specs.Prelude.{None, Some}
+use Rattle.strm_rows.proofs.Prelude.{ℕ, ◌≡◌, true, false, List, [], ◌∷◌, refl, None, Some, ByteStream, MessageKeep, MessageDiscard, Refuse, Discard}
+use Rattle.strm_rows.proofs.Prelude.{Eagain, Ebadmsg, Message, cells_of, rank_of, band_of, is_high_priority, urgent, ordinary}
 use Rattle.strm_types.specs.declared.kinds.MsgKind.TheVariants as kinds
-use Rattle.strm_types.specs.declared.modes.ReadMode.TheVariants.{ByteStream, MessageKeep, MessageDiscard}
-use Rattle.strm_types.specs.declared.modes.ControlMode.TheVariants.{Refuse, Data, Discard}
-use Rattle.strm_types.specs.declared.refusals.Refusal.TheVariants.{Eagain, Ebadmsg}
-use Rattle.strm_types.specs.Message.{Message, cells_of, rank_of, band_of, is_high_priority}
+use Rattle.strm_types.specs.declared.modes.ControlMode.TheVariants.{Data}
 use Rattle.strm_types.specs.Reads.{Drawn, head_draw, read_refusal}
-use Rattle.strm_laws.proofs.Samples.{urgent, ordinary}
 
 abbrev taken : List ℕ → List ℕ → List ℕ → List (Message ℕ) → Drawn ℕ
 taken given discarded dropped left = record { given = given; discarded = discarded; dropped = dropped; left = left }

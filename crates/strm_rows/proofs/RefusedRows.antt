@@ -1,35 +1,16 @@
 -- What the definitions of refusals and of the journal compute, case by case.
-use Rattle.std.proofs.Common.{ℕ, ◌≡◌, Bool, true, false, List, [], ◌∷◌, map, refl, replicate}
-use Rattle.std.specs.Prelude.{Option, None, Some}
-use Rattle.strm_types.specs.declared.limits.Config.{Config}
-use Rattle.strm_types.specs.declared.answers.Answer.TheVariants.{Done, Count, Bytes}
-use Rattle.strm_types.specs.declared.answers.Turn.TheVariants.{Moved}
-use Rattle.strm_types.specs.declared.entries.Entry.TheVariants.{Called, Turned}
-use Rattle.strm_types.specs.declared.events.Caller.{Caller}
-use Rattle.strm_types.specs.declared.events.Event.TheVariants.{OpenMaster, Unlock, OpenSlave, Write, Read}
-use Rattle.strm_types.specs.declared.names.Openness.{Openness}
-use Rattle.strm_types.specs.declared.names.Openness.TheVariants.{Never, Open, Closed}
-use Rattle.strm_types.specs.declared.names.Place.TheVariants.{Head, Ldterm, Driver}
-use Rattle.strm_types.specs.declared.names.QueueName.{QueueName}
-use Rattle.strm_types.specs.declared.names.Side.{Side}
-use Rattle.strm_types.specs.declared.names.Side.TheVariants.{Master, Slave}
-use Rattle.strm_types.specs.declared.names.Way.TheVariants.{Up}
-use Rattle.strm_types.specs.declared.refusals.Refusal.{Refusal}
-use Rattle.strm_types.specs.declared.refusals.Refusal.TheVariants.{Einval, Eagain, Enxio, Enosr, JournalFull}
-use Rattle.strm_types.specs.JobControl.{caller_of}
-use Rattle.strm_types.specs.Message.{Message, data_message, band_of, size_of, cells_of, is_high_priority}
-use Rattle.strm_types.specs.Names.{driver_of}
-use Rattle.strm_types.specs.Queue.{new_queue}
-use Rattle.strm_types.specs.Books.{new_book}
-use Rattle.strm_laws.proofs.Samples.{head_with}
-use Rattle.strm_laws.specs.State.{State, opening, new_driver}
-use Rattle.strm_types.specs.Heads.{new_head}
-use Rattle.strm_types.specs.Write.{chunk_count}
-use Rattle.strm_types.specs.Events.{Request, payload_of, content_of}
-use Rattle.strm_types.specs.Journal.{PlainEntry, content_max, room_of, room_used, entry_len, entries_in}
-use Rattle.strm_laws.specs.Refusals.{Free, free_beside, enough, blocks_taken, blocks_asked, has_room, refused, turn_refused}
+use Rattle.strm_rows.proofs.Prelude.{ℕ, ◌≡◌, Bool, true, false, List, [], ◌∷◌, map, refl, replicate, Option, None, Some, Config, Done, Count, Bytes}
+use Rattle.strm_rows.proofs.Prelude.{Moved, Called, Turned, Caller, OpenMaster, Unlock, OpenSlave, Write, Openness, Never, Open, Closed, Ldterm}
+use Rattle.strm_rows.proofs.Prelude.{Driver, QueueName, Side, Master, Slave, Up, Refusal, Einval, Eagain, Enxio, Enosr, JournalFull, caller_of}
+use Rattle.strm_rows.proofs.Prelude.{Message, data_message, band_of, size_of, cells_of, is_high_priority, driver_of, new_queue, new_book, head_with}
+use Rattle.strm_rows.proofs.Prelude.{State, opening, new_head, chunk_count, Request, payload_of, content_of, PlainEntry, content_max, room_of}
+use Rattle.strm_rows.proofs.Prelude.{entries_in, blocks_taken, blocks_asked, refused, turn_refused, no_fates}
+use Rattle.strm_types.specs.declared.events.Event.TheVariants.{Read}
+use Rattle.strm_types.specs.declared.names.Place.TheVariants.{Head}
+use Rattle.strm_laws.specs.State.{new_driver}
+use Rattle.strm_types.specs.Journal.{room_used, entry_len}
+use Rattle.strm_laws.specs.Refusals.{Free, free_beside, enough, has_room}
 use Rattle.strm_types.specs.Refused.{turn_blocks}
-use Rattle.strm_types.specs.Rules.{no_fates}
 use Rattle.strm_laws.specs.Pair.{PairState, new_pair, call_refused, queue_refused}
 
 -- blocks

@@ -1,25 +1,13 @@
 -- Two ldterms that echo each other don't come to rest: six turns carry a byte round, and leave as much work as there was. A turn of an ldterm's goes
 -- from one byte on.
-use Rattle.std.proofs.Common.{ℕ, zero, suc, ◌≡◌, false, List, [], ◌∷◌, map, refl}
-use Rattle.strm_types.specs.declared.answers.Turn.TheVariants.{Moved}
-use Rattle.strm_types.specs.declared.names.Openness.TheVariants.{Open}
-use Rattle.strm_types.specs.declared.names.Place.TheVariants.{Ldterm}
-use Rattle.strm_types.specs.declared.names.QueueName.{QueueName}
-use Rattle.strm_types.specs.declared.names.Side.TheVariants.{Master, Slave}
-use Rattle.strm_types.specs.declared.names.Way.TheVariants.{Up}
-use Rattle.strm_types.specs.Books.{new_book}
+use Rattle.strm_rows.proofs.Prelude.{ℕ, suc, ◌≡◌, false, List, [], ◌∷◌, map, refl, Moved, Open, Ldterm, QueueName, Master, Slave, Up, new_book, plain}
+use Rattle.strm_rows.proofs.Prelude.{carried, crosses, Message, band_of, cells_of, data_message, is_held, is_high_priority, rank_of, size_of}
+use Rattle.strm_rows.proofs.Prelude.{driver_of, Queue, Standing, ldterm_stands, State, Stream, turned, whole_turn, flow, head_with, ordinary, queue}
+use Rattle.strm_rows.proofs.Prelude.{fresh}
+use Rattle.std.proofs.Common.{zero}
 use Rattle.strm_types.specs.Both.{twice}
-use Rattle.strm_types.specs.Cells.{plain}
-use Rattle.strm_types.specs.Deliver.{carried}
-use Rattle.strm_types.specs.Drivers.{crosses}
-use Rattle.strm_types.specs.Message.{Message, band_of, cells_of, data_message, is_held, is_high_priority, rank_of, size_of}
-use Rattle.strm_types.specs.Names.{driver_of}
-use Rattle.strm_types.specs.Queue.{Queue}
 use Rattle.strm_laws.specs.Rest.{work}
-use Rattle.strm_laws.specs.Stacked.{Standing, ldterm_stands}
-use Rattle.strm_laws.specs.State.{State, Stream, queues_of}
-use Rattle.strm_laws.specs.Turns.{turned, whole_turn}
-use Rattle.strm_laws.proofs.Samples.{flow, head_with, ordinary, queue, fresh}
+use Rattle.strm_laws.specs.State.{queues_of}
 
 abbrev roomy : List (Message ℕ) → Queue ℕ
 roomy messages = queue messages (flow 512 128 false ∷ [])

@@ -1,23 +1,10 @@
 -- What the definitions compute, for a few scripts whose answers were worked out by hand from the manual pages.
-use Rattle.std.proofs.Common.{ℕ, ◌≡◌, [], ◌∷◌, refl, replicate}
-use Rattle.std.specs.Prelude.{None, Some}
-use Rattle.strm_types.specs.declared.kinds.MsgKind.TheVariants.{Data, Pcproto}
-use Rattle.strm_types.specs.declared.names.Side.TheVariants.{Master, Slave}
-use Rattle.strm_types.specs.declared.answers.Turn.TheVariants.{Moved, Idle}
-use Rattle.strm_types.specs.declared.refusals.Refusal.TheVariants.{Eagain, Enxio, Einval}
-use Rattle.strm_types.specs.Message.{Message, data_message, rank_of, band_of, size_of, cells_of, is_high_priority, is_held}
+use Rattle.strm_rows.proofs.Prelude.{ℕ, ◌≡◌, [], ◌∷◌, refl, replicate, None, Some, Data, Pcproto, Master, Slave, Moved, Idle, Eagain, Enxio, Einval}
+use Rattle.strm_rows.proofs.Prelude.{Message, data_message, rank_of, band_of, size_of, cells_of, is_high_priority, is_held, driver_of, State, opening}
+use Rattle.strm_rows.proofs.Prelude.{chunk_count, carried, turned, OpenMaster, Unlock, OpenSlave, Write, Count, Bytes, plain, caller_of, called}
+use Rattle.strm_rows.proofs.Prelude.{refused_by_state, refused_at_once}
 use Rattle.strm_types.specs.Queue.{put, put_back}
-use Rattle.strm_types.specs.Names.{driver_of}
-use Rattle.strm_laws.specs.State.{State, opening}
-use Rattle.strm_types.specs.Write.{chunk_count}
-use Rattle.strm_types.specs.Deliver.{carried}
-use Rattle.strm_laws.specs.Turns.{turned}
-use Rattle.strm_types.specs.declared.events.Event.TheVariants.{OpenMaster, Unlock, OpenSlave, Write, Read}
-use Rattle.strm_types.specs.declared.answers.Answer.TheVariants.{Count, Bytes}
-use Rattle.strm_types.specs.Cells.{plain}
-use Rattle.strm_types.specs.JobControl.{caller_of}
-use Rattle.strm_laws.specs.Calls.{called}
-use Rattle.strm_laws.specs.Refusals.{refused_by_state, refused_at_once}
+use Rattle.strm_types.specs.declared.events.Event.TheVariants.{Read}
 
 -- the state after the master was opened, the slave unlocked and opened
 abbrev opened : State ℕ

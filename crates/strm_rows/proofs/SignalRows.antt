@@ -1,45 +1,19 @@
 -- What signals and options do at a stream head, and how they are handed out, as worked out by hand from streamio(7I) and the
 -- STREAMS Programming Guide ("Stream Head": M_SIG, M_PCSIG, M_SETOPTS).
-use Rattle.std.proofs.Common.{ℕ, ◌≡◌, Bool, true, false, List, [], ◌∷◌, map, refl, replicate}
-use Rattle.std.specs.Prelude.{Option, None, Some}
-use Rattle.strm_types.specs.declared.answers.Answer.TheVariants.{Done}
+use Rattle.strm_rows.proofs.Prelude.{ℕ, ◌≡◌, Bool, true, false, List, [], ◌∷◌, map, refl, replicate, Option, None, Some, Done, Called, Caller}
+use Rattle.strm_rows.proofs.Prelude.{OpenSlave, Shut, MsgKind, Sig, Pcsig, Setopts, Hangup, Ctl, Stop, Start, Refuse, Discard, ReadMode, ByteStream}
+use Rattle.strm_rows.proofs.Prelude.{MessageKeep, MessageDiscard, Openness, Never, Open, Closed, Side, Master, Slave, Up, Enxio, Free, Waiting, Spot}
+use Rattle.strm_rows.proofs.Prelude.{new_book, called, content_of, map_answer, map_event, payload_of, plain, Acted, head_put, Head, caller_of}
+use Rattle.strm_rows.proofs.Prelude.{content_max, entries_in, room_of, came, gone, cells_of, size_of, driver_of, put_in, blocks_asked}
+use Rattle.strm_rows.proofs.Prelude.{refused_at_once, refused_by_state, State, Stream, flow, ordinary, proto, queue, without_parts}
 use Rattle.strm_types.specs.declared.answers.Answer.TheVariants as answers
-use Rattle.strm_types.specs.declared.entries.Entry.TheVariants.{Called}
-use Rattle.strm_types.specs.declared.events.Caller.{Caller}
-use Rattle.strm_types.specs.declared.events.Event.TheVariants.{OpenSlave, Shut, Signals}
-use Rattle.strm_types.specs.declared.kinds.MsgKind.{MsgKind}
-use Rattle.strm_types.specs.declared.kinds.MsgKind.TheVariants.{Sig, Pcsig, Setopts, Hangup, Ctl, Stop, Start}
+use Rattle.strm_types.specs.declared.events.Event.TheVariants.{Signals}
 use Rattle.strm_types.specs.declared.limits.TheConstants.{SIGNAL_LAST, SIGNALS_MAX}
-use Rattle.strm_types.specs.declared.modes.ControlMode.TheVariants.{Refuse, Discard}
-use Rattle.strm_types.specs.declared.modes.ReadMode.{ReadMode}
-use Rattle.strm_types.specs.declared.modes.ReadMode.TheVariants.{ByteStream, MessageKeep, MessageDiscard}
-use Rattle.strm_types.specs.declared.names.Openness.{Openness}
-use Rattle.strm_types.specs.declared.names.Openness.TheVariants.{Never, Open, Closed}
-use Rattle.strm_types.specs.declared.names.Side.{Side}
-use Rattle.strm_types.specs.declared.names.Side.TheVariants.{Master, Slave}
-use Rattle.strm_types.specs.declared.names.Way.TheVariants.{Up}
 use Rattle.strm_types.specs.declared.options.Marks.{Marks}
 use Rattle.strm_types.specs.declared.options.Options.{Options}
-use Rattle.strm_types.specs.declared.refusals.Refusal.TheVariants.{Enxio}
-use Rattle.strm_types.specs.declared.slots.Slot.TheVariants.{Free, Waiting}
-use Rattle.strm_types.specs.declared.spots.Spot.{Spot}
-use Rattle.strm_types.specs.Books.{new_book}
-use Rattle.strm_laws.specs.Calls.{called}
-use Rattle.strm_types.specs.Events.{content_of, map_answer, map_event, payload_of}
-use Rattle.strm_types.specs.Cells.{plain}
-use Rattle.strm_types.specs.Deliver.{Acted}
-use Rattle.strm_types.specs.Heads.{head_put, with_options, Head}
-use Rattle.strm_types.specs.JobControl.{caller_of}
-use Rattle.strm_types.specs.Journal.{content_max, entries_in, room_of}
-use Rattle.strm_laws.specs.Kept.{came, gone}
-use Rattle.strm_types.specs.Message.{cells_of, size_of}
-use Rattle.strm_types.specs.Names.{driver_of}
+use Rattle.strm_types.specs.Heads.{with_options}
 use Rattle.strm_types.specs.Options.{options_in}
-use Rattle.strm_laws.specs.Puts.{put_in}
-use Rattle.strm_laws.specs.Refusals.{blocks_asked, refused_at_once, refused_by_state}
 use Rattle.strm_types.specs.Signals.{has_signal, signal_in, with_signal}
-use Rattle.strm_laws.specs.State.{State, Stream}
-use Rattle.strm_laws.proofs.Samples.{flow, ordinary, proto, queue, without_parts}
 
 -- the signals that bytes name: one byte from 1 to 31
 

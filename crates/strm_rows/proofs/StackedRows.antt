@@ -1,25 +1,16 @@
 -- What a pair's state tells of the modules on its streams, on small stacks.
-use Rattle.std.proofs.Common.{ℕ, ◌≡◌, true, false, List, [], ◌∷◌, map, refl}
-use Rattle.std.specs.Prelude.{◌==◌, None, Some}
-use Rattle.strm_types.specs.declared.names.ModuleName.TheVariants.{Ldterm, Ptem}
-use Rattle.strm_types.specs.declared.names.Openness.TheVariants.{Open}
-use Rattle.strm_types.specs.declared.names.Side.TheVariants.{Slave, Master}
-use Rattle.strm_types.specs.declared.names.Way.TheVariants.{Up, Down}
+use Rattle.strm_rows.proofs.Prelude.{ℕ, ◌≡◌, true, false, List, [], ◌∷◌, map, refl, ◌==◌, None, Some, Ptem, Open, Slave, Master, Up, Down, Enable}
+use Rattle.strm_rows.proofs.Prelude.{Spot, new_book, plain, Message, band_of, cells_of, is_high_priority, map_message, rank_of, size_of, weight_of}
+use Rattle.strm_rows.proofs.Prelude.{Queue, Standing, module_line, module_name, ldterm_stands, State, Stream, messages_in, new_stream, module_named}
+use Rattle.strm_rows.proofs.Prelude.{head_with, ordinary, queue, fresh}
+use Rattle.strm_types.specs.declared.names.ModuleName.TheVariants.{Ldterm}
 use Rattle.strm_types.specs.declared.spots.Asks.TheVariants.{Empty}
-use Rattle.strm_types.specs.declared.spots.Note.TheVariants.{Enable}
-use Rattle.strm_types.specs.declared.spots.Spot.{Spot}
-use Rattle.strm_types.specs.Books.{new_book}
-use Rattle.strm_types.specs.Cells.{plain}
 use Rattle.strm_laws.specs.Kept.{stream_weight}
 use Rattle.strm_types.specs.Deliver.{onward}
-use Rattle.strm_types.specs.Message.{Message, band_of, cells_of, is_high_priority, map_message, rank_of, size_of, weight_of}
-use Rattle.strm_types.specs.Queue.{Queue}
-use Rattle.strm_laws.specs.Stacked.{Standing, module_asks, module_line, module_name, module_puts, module_rests, module_serves, module_weight, without_kind_line, ldterm_stands}
+use Rattle.strm_laws.specs.Stacked.{module_asks, module_puts, module_rests, module_serves, module_weight, without_kind_line}
 use Rattle.strm_types.specs.Service.{unserved}
 use Rattle.strm_types.specs.Standings.{queue_of, queue_changed}
-use Rattle.strm_laws.specs.State.{State, Stream, map_stream, messages_in, new_stream, stream_queues}
-use Rattle.strm_laws.specs.Pushes.{module_named}
-use Rattle.strm_laws.proofs.Samples.{head_with, ordinary, queue, fresh}
+use Rattle.strm_laws.specs.State.{map_stream, stream_queues}
 
 -- a module with these messages on its read queue and on its write queue, and this unfinished line
 abbrev with_these : List (Message ℕ) → List (Message ℕ) → List ℕ → Standing ℕ

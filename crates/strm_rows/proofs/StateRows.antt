@@ -1,34 +1,12 @@
 -- What calls and turns compute, case by case, as worked out by hand from the manual pages.
-use Rattle.std.proofs.Common.{ℕ, ◌≡◌, Bool, true, false, List, [], ◌∷◌, length, map, refl, replicate}
-use Rattle.strm_types.specs.declared.answers.Answer.TheVariants.{Done, Bytes}
-use Rattle.strm_types.specs.declared.answers.Turn.{Turn}
-use Rattle.strm_types.specs.declared.answers.Turn.TheVariants.{Moved, Blocked, Idle}
-use Rattle.strm_types.specs.declared.events.Caller.{Caller}
-use Rattle.strm_types.specs.declared.events.Event.TheVariants.{OpenMaster, Unlock, OpenSlave, Write, Read}
-use Rattle.strm_types.specs.declared.names.Dir.{Dir}
-use Rattle.strm_types.specs.declared.names.Dir.TheVariants.{MasterToSlave, SlaveToMaster}
+use Rattle.strm_rows.proofs.Prelude.{ℕ, ◌≡◌, Bool, true, false, List, [], ◌∷◌, length, map, refl, replicate, Done, Bytes, Turn, Moved, Blocked, Idle}
+use Rattle.strm_rows.proofs.Prelude.{Caller, OpenMaster, Unlock, OpenSlave, Write, Dir, MasterToSlave, SlaveToMaster, Openness, Never, Open, Closed}
+use Rattle.strm_rows.proofs.Prelude.{Ldterm, QueueName, Side, Master, Slave, Down, Tagged, Written, plain, tagged, cells_written, caller_of, Message}
+use Rattle.strm_rows.proofs.Prelude.{data_message, is_held, rank_of, band_of, size_of, cells_of, is_high_priority, driver_of, head_of, Queue, Flow}
+use Rattle.strm_rows.proofs.Prelude.{new_book, State, Stream, opening, new_stream, messages_in, chunk_count, TurnOutcome, driver_serves, turned}
+use Rattle.strm_rows.proofs.Prelude.{whole_turn, Fate, Goes, carried, content_of, called, head_with, flow, queue, ordinary, proto, urgent}
+use Rattle.strm_types.specs.declared.events.Event.TheVariants.{Read}
 use Rattle.strm_types.specs.declared.rules.Rule.TheVariants as rules
-use Rattle.strm_types.specs.declared.names.Openness.{Openness}
-use Rattle.strm_types.specs.declared.names.Openness.TheVariants.{Never, Open, Closed}
-use Rattle.strm_types.specs.declared.names.Place.TheVariants.{Ldterm}
-use Rattle.strm_types.specs.declared.names.QueueName.{QueueName}
-use Rattle.strm_types.specs.declared.names.Side.{Side}
-use Rattle.strm_types.specs.declared.names.Side.TheVariants.{Master, Slave}
-use Rattle.strm_types.specs.declared.names.Way.TheVariants.{Down}
-use Rattle.strm_types.specs.Cells.{Tagged, Written, plain, tagged, cells_written}
-use Rattle.strm_types.specs.JobControl.{caller_of}
-use Rattle.strm_types.specs.Message.{Message, data_message, is_held, rank_of, band_of, size_of, cells_of, is_high_priority}
-use Rattle.strm_types.specs.Names.{driver_of, head_of}
-use Rattle.strm_types.specs.Queue.{Queue, Flow}
-use Rattle.strm_types.specs.Books.{new_book}
-use Rattle.strm_laws.specs.State.{State, Stream, opening, new_stream, messages_in}
-use Rattle.strm_types.specs.Write.{chunk_count}
-use Rattle.strm_laws.specs.TurnOutcomes.{TurnOutcome}
-use Rattle.strm_laws.specs.Turns.{driver_serves, turned, whole_turn}
-use Rattle.strm_types.specs.Deliver.{Fate, Goes, carried}
-use Rattle.strm_types.specs.Events.{content_of}
-use Rattle.strm_laws.specs.Calls.{called}
-use Rattle.strm_laws.proofs.Samples.{head_with, flow, queue, ordinary, proto, urgent}
 
 abbrev caller : Side → Caller
 caller side = caller_of side

@@ -1,27 +1,13 @@
 -- What steps and the replay of a journal are: for a short journal, and for entries that are no steps.
-use Rattle.std.proofs.Common.{ℕ, ◌≡◌, Bool, List, [], ◌∷◌, refl, ap}
-use Rattle.strm_types.specs.declared.answers.Answer.TheVariants.{Done, Count}
-use Rattle.strm_types.specs.declared.answers.Turn.{Turn}
-use Rattle.strm_types.specs.declared.answers.Turn.TheVariants.{Idle}
-use Rattle.strm_types.specs.declared.entries.Entry.TheVariants.{Called, Turned}
-use Rattle.strm_types.specs.declared.events.Caller.{Caller}
-use Rattle.strm_types.specs.declared.events.Event.TheVariants.{OpenMaster, Unlock, Write}
-use Rattle.strm_types.specs.declared.names.Dir.TheVariants.{MasterToSlave, SlaveToMaster}
-use Rattle.strm_types.specs.declared.names.Side.{Side}
-use Rattle.strm_types.specs.declared.names.Side.TheVariants.{Master}
-use Rattle.strm_types.specs.declared.names.Dir.{Dir}
-use Rattle.strm_types.specs.Cells.{Cells, Made, Base, plain, tagged}
-use Rattle.strm_types.specs.JobControl.{caller_of}
-use Rattle.strm_types.specs.Message.{data_message, rank_of, band_of, size_of, cells_of, is_high_priority}
-use Rattle.strm_types.specs.Names.{driver_of}
-use Rattle.strm_laws.specs.State.{State, opening}
-use Rattle.strm_types.specs.Write.{chunk_count}
-use Rattle.strm_laws.specs.Turns.{turned}
-use Rattle.strm_types.specs.Events.{Reply, Request}
-use Rattle.strm_laws.specs.Calls.{called}
-use Rattle.strm_types.specs.Journal.{PlainEntry}
+use Rattle.strm_rows.proofs.Prelude.{ℕ, ◌≡◌, Bool, List, [], ◌∷◌, refl, Done, Count, Turn, Idle, Called, Turned, Caller, OpenMaster, Unlock, Write}
+use Rattle.strm_rows.proofs.Prelude.{MasterToSlave, SlaveToMaster, Side, Master, Dir, Made, Base, plain, tagged, caller_of, data_message, rank_of}
+use Rattle.strm_rows.proofs.Prelude.{band_of, size_of, cells_of, is_high_priority, driver_of, State, opening, chunk_count, turned, Request, called}
+use Rattle.strm_rows.proofs.Prelude.{PlainEntry, replay, IsLegal}
+use Rattle.std.proofs.Common.{ap}
+use Rattle.strm_types.specs.Cells.{Cells}
+use Rattle.strm_types.specs.Events.{Reply}
 use Rattle.strm_laws.specs.Kept.{MayTest}
-use Rattle.strm_laws.specs.Step.{Step, replay, IsLegal}
+use Rattle.strm_laws.specs.Step.{Step}
 
 abbrev caller : Side → Caller
 caller side = caller_of side

@@ -1,24 +1,13 @@
 -- What ldterm takes up of an answer that comes up, and which commands go behind output, as worked out by hand from ldterm(7M), termio(7I) and
 -- streamio(7I).
-use Rattle.std.proofs.Common.{ℕ, ◌≡◌, ◌+◌, true, false, List, [], ◌∷◌, ◌++◌, map, refl, replicate, take}
-use Rattle.std.specs.Prelude.{Some}
-use Rattle.strm_types.specs.declared.kinds.MsgKind.TheVariants.{Ioctl, Setopts, Iocack, Iocnak, Flush}
-use Rattle.strm_types.specs.declared.names.Dir.TheVariants.{MasterToSlave, SlaveToMaster}
-use Rattle.strm_types.specs.declared.names.Side.TheVariants.{Master, Slave}
-use Rattle.strm_types.specs.declared.names.Way.TheVariants.{Up, Down}
-use Rattle.strm_types.specs.declared.rules.Rule.TheVariants.{Flushed}
-use Rattle.strm_types.specs.declared.spots.Note.TheVariants.{Enable, Room}
-use Rattle.strm_types.specs.declared.termios.Termios.{Termios}
+use Rattle.strm_rows.proofs.Prelude.{ℕ, ◌≡◌, true, false, List, [], ◌∷◌, ◌++◌, map, refl, replicate, take, Some, Ioctl, Setopts, Iocack, Iocnak}
+use Rattle.strm_rows.proofs.Prelude.{Flush, MasterToSlave, SlaveToMaster, Master, Slave, Up, Down, Flushed, Enable, Room, Termios, Acted, Fate, Goes}
+use Rattle.strm_rows.proofs.Prelude.{is_data_kind, ldterm_puts, Discipline, Message, band_of, cells_of, data_message, is_high_priority, rank_of}
+use Rattle.strm_rows.proofs.Prelude.{size_of, first_termios, header, ordinary, without_parts}
+use Rattle.std.proofs.Common.{◌+◌}
 use Rattle.strm_types.specs.Commands.{sets_behind}
-use Rattle.strm_types.specs.Deliver.{Acted, Fate, Goes}
-use Rattle.strm_types.specs.Flush.{is_data_kind}
-use Rattle.strm_types.specs.LdtermPuts.{ldterm_puts}
-use Rattle.strm_types.specs.Ldterms.{Discipline}
-use Rattle.strm_types.specs.Message.{Message, band_of, cells_of, data_message, is_high_priority, rank_of, size_of}
 use Rattle.strm_types.specs.TakenUp.{read_mode_of}
-use Rattle.strm_types.specs.Termios.{first_termios}
 use Rattle.strm_rows.proofs.LdtermRows.{at, busy, down, parcel, protocol, queue_with, to_write, up, waiting}
-use Rattle.strm_laws.proofs.Samples.{header, ordinary, without_parts}
 
 -- The 35 bytes of a termios as the first one, but with other control bytes and the lowest byte of its local modes: 0x3b with ICANON, and 0x39
 -- without it.

@@ -1,17 +1,16 @@
 -- What a terminal is set to, as worked out by hand from termio(7I) and ldterm(7M): its 35 bytes, each bit that has a name, and the
 -- control bytes.
-use Rattle.std.proofs.Common.{ℕ, ◌≡◌, ◌-◌, Bool, true, false, List, [], ◌∷◌, map, refl, replicate}
-use Rattle.std.specs.Prelude.{None, Some}
+use Rattle.strm_rows.proofs.Prelude.{ℕ, ◌≡◌, ◌-◌, Bool, true, false, List, [], ◌∷◌, map, refl, replicate, None, Some, Termios, first_termios}
+use Rattle.strm_rows.proofs.Prelude.{termios_bytes}
 use Rattle.strm_types.specs.declared.termios.ControlChar.{ControlChar}
 use Rattle.strm_types.specs.declared.termios.ControlChar.TheVariants.{Intr, Quit, Erase, Kill, Eof, Eol, Eol2, Start, Stop, Susp, Reprint, Werase, Lnext}
 use Rattle.strm_types.specs.declared.termios.InputModes.{InputModes}
 use Rattle.strm_types.specs.declared.termios.LocalModes.{LocalModes}
 use Rattle.strm_types.specs.declared.termios.OutputModes.{OutputModes}
-use Rattle.strm_types.specs.declared.termios.Termios.{Termios}
 use Rattle.strm_types.specs.declared.termios.TheConstants.InputModes as input
 use Rattle.strm_types.specs.declared.termios.TheConstants.LocalModes as local
 use Rattle.strm_types.specs.declared.termios.TheConstants.OutputModes as output
-use Rattle.strm_types.specs.Termios.{control_char, first_termios, is_char, place_of, read_termios, termios_bytes}
+use Rattle.strm_types.specs.Termios.{control_char, is_char, place_of, read_termios}
 use Rattle.strm_types.specs.Termios.{echo, echoctl, echoe, echok, echoke, echonl, icanon, icrnl, iexten, igncr, imaxbel, inlcr, isig, istrip, iuclc, ixany, ixon, noflsh, ocrnl, olcuc, onlcr, onlret, onocr, opost, tostop, xtabs}
 
 -- the 35 bytes

@@ -1,21 +1,14 @@
 -- What typed bytes do, as worked out by hand from termio(7I) and ldterm(7M).
-use Rattle.std.proofs.Common.{ℕ, ◌≡◌, Bool, true, false, List, [], ◌∷◌, ◌++◌, map, refl, replicate}
-use Rattle.strm_types.specs.declared.kinds.MsgKind.TheVariants.{Flush, Pcsig, Start, Stop}
-use Rattle.strm_types.specs.declared.names.Dir.TheVariants.{MasterToSlave, SlaveToMaster}
-use Rattle.strm_types.specs.declared.names.Side.TheVariants.{Master, Slave}
-use Rattle.strm_types.specs.declared.names.Way.TheVariants.{Up, Down}
-use Rattle.strm_types.specs.declared.rules.Rule.TheVariants.{Igncr, EraseKey, Erased, Killed, EofKey, SignalKey, FlowKey, LnextKey, ReprintKey, LineFull, LineOver, Flushed, EchoFull}
-use Rattle.strm_types.specs.declared.spots.Note.TheVariants.{Enable}
-use Rattle.strm_types.specs.declared.spots.Spot.{Spot}
-use Rattle.strm_types.specs.Cells.{Tagged, Written, Made, plain, tagged}
-use Rattle.strm_types.specs.Deliver.{Acted, Fate, Goes, Comes, Parcel}
-use Rattle.strm_types.specs.Ldterms.{Discipline, Begun, Answered}
-use Rattle.strm_types.specs.Message.{Message, data_message, cells_of, band_of, size_of, rank_of, is_high_priority}
+use Rattle.strm_rows.proofs.Prelude.{ℕ, ◌≡◌, Bool, true, false, List, [], ◌∷◌, ◌++◌, map, refl, replicate, Flush, Pcsig, Start, Stop, MasterToSlave}
+use Rattle.strm_rows.proofs.Prelude.{SlaveToMaster, Master, Slave, Up, Down, Flushed, Enable, Spot, Tagged, Written, Made, plain, tagged, Acted, Fate}
+use Rattle.strm_rows.proofs.Prelude.{Goes, Comes, Parcel, Discipline, Begun, Message, data_message, cells_of, band_of, size_of, rank_of}
+use Rattle.strm_rows.proofs.Prelude.{is_high_priority, flow, ordinary, without_parts, fresh}
+use Rattle.strm_types.specs.declared.rules.Rule.TheVariants.{Igncr, EraseKey, Erased, Killed, EofKey, SignalKey, FlowKey, LnextKey, ReprintKey, LineFull, LineOver, EchoFull}
+use Rattle.strm_types.specs.Ldterms.{Answered}
 use Rattle.strm_types.specs.Typing.{begins, struck, echoed}
 use Rattle.strm_rows.proofs.EchoRows.{rubbed}
 use Rattle.strm_rows.proofs.KeyRows.{with_input, with_local}
 use Rattle.strm_rows.proofs.LdtermRows.{at, down, parcel, protocol, queue_with, up, waiting}
-use Rattle.strm_laws.proofs.Samples.{flow, ordinary, without_parts, fresh}
 
 abbrev here : Spot
 here = at Slave Up

@@ -1,6 +1,5 @@
 -- The size of a window, as worked out by hand from termio(7I): its 8 bytes, and which sizes are one.
-use Rattle.std.proofs.Common.{ℕ, ◌≡◌, true, false, [], ◌∷◌, map, refl, replicate}
-use Rattle.std.specs.Prelude.{None, Some}
+use Rattle.strm_rows.proofs.Prelude.{ℕ, ◌≡◌, true, false, [], ◌∷◌, map, refl, replicate, None, Some}
 use Rattle.strm_types.specs.declared.winsize.Winsize.{Winsize}
 use Rattle.strm_types.specs.Winsizes.{first_winsize, read_winsize, same_winsize, winsize_bytes}
 

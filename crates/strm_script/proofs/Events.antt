@@ -1,33 +1,22 @@
 -- The calls and turns of a pair, as the plain session has them.
-use Rattle.std.proofs.Common.{◌≡◌, ℕ, zero, suc, ◌+◌, ◌-◌, ◌<◌, ◌≤◌, Bool, true, false, List, [], ◌∷◌, ◌++◌, Option, None, Some, Result, Ok, Err, IsOk, IfOk, MatchOption, slice_get, refl, arith, sym, ap, ◌∙◌, inl, inr, append_assoc, ◌⊎◌, leb, ◌&&◌, ◌||◌, ◌==◌, is_some}
+use Rattle.strm_script.proofs.Prelude.{◌≡◌, ℕ, zero, suc, ◌+◌, ◌-◌, ◌<◌, ◌≤◌, Bool, true, false, List, [], ◌∷◌, ◌++◌, Option, None, Some, Result, Ok}
+use Rattle.strm_script.proofs.Prelude.{Err, MatchOption, slice_get, refl, arith, sym, ap, ◌∙◌, inl, inr, append_assoc, ◌⊎◌, leb, ◌&&◌, ◌||◌, ◌==◌}
+use Rattle.strm_script.proofs.Prelude.{is_some, le-leb, nat_tests}
+use Rattle.strm_script.specs.Prelude.{Turn, Caller, QueueName, Refusal, FlushQueues, Called, Turned, is_enabled, tallied, called, State, first_at}
+use Rattle.strm_script.specs.Prelude.{TurnOutcome, turned, Request, Reply, reply_in, blocks_asked, turn_refused, or_else, unless, PairState, Einval}
+use Rattle.strm_script.specs.Prelude.{Enosr}
+use Rattle.std.proofs.Common.{IsOk, IfOk}
 use Rattle.strm_types.specs.declared.answers.Answer.{Answer}
-use Rattle.strm_types.specs.declared.answers.Turn.{Turn}
-use Rattle.strm_types.specs.declared.events.Caller.{Caller}
-use Rattle.strm_types.specs.declared.names.QueueName.{QueueName}
-use Rattle.strm_types.specs.declared.refusals.Refusal.{Refusal}
-use Rattle.strm_types.specs.declared.events.FlushQueues.{FlushQueues}
-use Rattle.strm_types.specs.declared.entries.Entry.TheVariants.{Called, Turned}
 use Rattle.strm_types.specs.Cells as cells
-use Rattle.strm_types.specs.Names.{is_enabled}
-use Rattle.strm_types.specs.Deliver.{tallied}
-use Rattle.strm_laws.specs.Calls.{called}
-use Rattle.strm_laws.specs.State.{State}
-use Rattle.strm_pair.specs.Shows.{first_at}
-use Rattle.strm_laws.specs.TurnOutcomes.{TurnOutcome}
-use Rattle.strm_laws.specs.Turns.{turned}
-use Rattle.strm_types.specs.Events.{Request, Reply}
-use Rattle.strm_types.specs.Journal.{reply_in}
-use Rattle.strm_laws.specs.Refusals.{Free, enough, blocks_asked, turn_refused}
-use Rattle.strm_types.specs.Refused.{or_else, turn_blocks, unless}
-use Rattle.strm_laws.specs.Pair.{PairState, call_refused, queue_refused, AddsEntry}
+use Rattle.strm_laws.specs.Refusals.{Free, enough}
+use Rattle.strm_types.specs.Refused.{turn_blocks}
+use Rattle.strm_laws.specs.Pair.{call_refused, queue_refused, AddsEntry}
 use Rattle.strm_script.proofs.Stopping.{accounted}
 use Rattle.strm_script.specs.ScriptAnswers.{Ran, reply_line, turn_line}
 use Rattle.strm_script.specs.ScriptRun as script
 use Rattle.strm_script.specs.ScriptRun.{Supply, Enough, TooFew, is_enough, PlainPair, Happened, call_refusal, turn_refusal, call_happens, turn_happens, told_of, turn_to, reach, call_of, turn_of, is_enosr, Turns, no_turns, counted, turns_of, by_call, by_flush, by_named, by_turn, by_run, by_open, unanswered, new_plain, next_of, rest_of}
-use Rattle.std.proofs.lemmas.Bool.{le-leb, lt-leb}
-use Rattle.std.proofs.lemmas.Bool.Decides.{nat_tests}
+use Rattle.std.proofs.lemmas.Bool.{lt-leb}
 use Rattle.strm_types.specs.declared.events.Event.TheVariants as calls
-use Rattle.strm_types.specs.declared.refusals.Refusal.TheVariants.{Einval, Enosr}
 use Rattle.strm_script.specs.declared.answers.Line.TheVariants as lines
 use Rattle.strm_script.specs.Plain.{plain}
 use Rattle.strm_script.specs.Lines.{line_of}

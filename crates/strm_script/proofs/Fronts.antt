@@ -1,7 +1,6 @@
 -- The one or the other was found, and a value that stands in front or alone.
-use Rattle.std.proofs.Common.{◌≡◌, ℕ, List, [], ◌∷◌, ◌++◌, Option, None, Some, refl, ap, ◌∙◌, inl, inr, ◌⊎◌, append-nil}
-use Rattle.strm_types.specs.declared.names.Side.{Side}
-use Rattle.strm_types.specs.declared.names.Side.TheVariants.{Master, Slave}
+use Rattle.strm_script.proofs.Prelude.{◌≡◌, ℕ, List, [], ◌∷◌, ◌++◌, Option, None, Some, refl, ap, ◌∙◌, inl, inr, ◌⊎◌, append-nil}
+use Rattle.strm_script.specs.Prelude.{Side, Master, Slave}
 use Rattle.strm_script.specs.Script.{side_name}
 use Rattle.strm_script.specs.Named.{either_of, after, at_end, whole}
 use Rattle.strm_script.specs.ScriptReading.{Front, before, side_at}

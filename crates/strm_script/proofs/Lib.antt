@@ -1,3 +1,4 @@
+pub mod Prelude
 pub mod Readings
 pub mod Printings
 pub mod Stopping

@@ -1,23 +1,14 @@
 -- Events that aren't short are answered as if all events had the blocks that they ask for.
-use Rattle.std.proofs.Common.{◌≡◌, ℕ, zero, suc, ◌-◌, ◌≤◌, Bool, true, false, List, [], ◌∷◌, ◌++◌, take, Option, None, Some, Result, Ok, Err, refl, sym, ap, ◌∙◌, slice_get, arith, append_assoc, inl, inr, nat_le, ◌&&◌, ◌||◌, unwrap_or, ◌⊎◌, ◌==◌}
-use Rattle.std.proofs.lemmas.Bool.{cases_Bool, false≢true}
-use Rattle.strm_types.specs.declared.answers.Turn.{Turn}
-use Rattle.strm_types.specs.declared.events.Caller.{Caller}
-use Rattle.strm_types.specs.declared.names.QueueName.{QueueName}
-use Rattle.strm_types.specs.declared.refusals.Refusal.{Refusal}
-use Rattle.strm_types.specs.declared.refusals.Refusal.TheVariants.{Einval, Enosr}
-use Rattle.strm_types.specs.declared.events.FlushQueues.{FlushQueues}
-use Rattle.strm_types.specs.Names.{is_enabled}
+use Rattle.strm_script.proofs.Prelude.{◌≡◌, ℕ, zero, suc, ◌-◌, ◌≤◌, Bool, true, false, List, [], ◌∷◌, ◌++◌, take, Option, None, Some, Result, Ok, Err}
+use Rattle.strm_script.proofs.Prelude.{refl, sym, ap, ◌∙◌, slice_get, arith, append_assoc, inl, inr, nat_le, ◌&&◌, ◌||◌, unwrap_or, ◌⊎◌, ◌==◌}
+use Rattle.strm_script.proofs.Prelude.{cases_Bool, false≢true}
+use Rattle.strm_script.specs.Prelude.{Turn, Caller, QueueName, Refusal, Einval, Enosr, FlushQueues, is_enabled, Request, Reply, or_else, unless}
+use Rattle.strm_script.specs.Prelude.{refused, refused_at_once, refused_by_state, blocks_asked, Both, get}
 use Rattle.strm_types.specs.declared.events.Event.TheVariants as calls
-use Rattle.strm_types.specs.Events.{Request, Reply}
-use Rattle.strm_types.specs.Refused.{or_else, unless}
-use Rattle.strm_laws.specs.Refusals.{refused, refused_at_once, refused_by_state, blocks_asked}
 use Rattle.strm_script.specs.Script.{Command, Open, Call, Flush, Put, Get, Turn as TurnOf, Run, Show, Ledger, Cut, Group}
 use Rattle.strm_script.specs.ScriptReading.{Reading, Silent, Malformed, Spoken, reading}
 use Rattle.strm_script.specs.ScriptAnswers.{printed_line, reply_line, turn_line, Ran, Wrong}
 use Rattle.strm_script.specs.ScriptRun as script
-use Rattle.strm_types.specs.declared.both.Both.{Both}
-use Rattle.strm_types.specs.Both.{get}
 use Rattle.strm_script.specs.ScriptRun.{Supply, Enough, Within, TooFew, next_of, rest_of, PlainPair, Happened, call_refusal, turn_refusal, call_happens, turn_happens, told_of, call_of, turn_of, is_enosr, turns_of, by_call, by_flush, prio_of, wanted_of, by_named, by_put, by_get, by_show, by_ledger, by_cut, by_turn, by_run, by_open, answered, Session, session_behind, told_from, told_after, first_of, line_if, Told, new_plain}
 use Rattle.strm_script.proofs.Supplies.{is_want, call_happens-short, turn_happens-short, answered-enough}
 use Rattle.strm_script.proofs.Events.{turns_none, turns_err, turns_ok, turns_zero}

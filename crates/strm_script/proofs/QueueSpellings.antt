@@ -1,12 +1,7 @@
 -- The names of queues are read where they are spelled, and only there.
-use Rattle.std.proofs.Common.{◌≡◌, ℕ, List, ◌∷◌, ◌++◌, Some, option_map, refl, sym, ap, ◌∙◌, inl, inr, codes}
-use Rattle.strm_types.specs.declared.names.Side.{Side}
-use Rattle.strm_types.specs.declared.names.Side.TheVariants.{Master, Slave}
-use Rattle.strm_types.specs.declared.names.Place.{Place}
-use Rattle.strm_types.specs.declared.names.Place.TheVariants.{Head, Ldterm, Driver}
-use Rattle.strm_types.specs.declared.names.Way.{Way}
-use Rattle.strm_types.specs.declared.names.Way.TheVariants.{Up, Down}
-use Rattle.strm_types.specs.declared.names.QueueName.{QueueName}
+use Rattle.strm_script.proofs.Prelude.{◌≡◌, ℕ, List, ◌∷◌, ◌++◌, Some, option_map, refl, sym, ap, ◌∙◌, inl, inr}
+use Rattle.strm_script.specs.Prelude.{Side, Master, Slave, Place, Head, Ldterm, Driver, Way, Up, Down, QueueName}
+use Rattle.std.proofs.Common.{codes}
 use Rattle.strm_script.specs.Script.{side_name, place_name, way_name, queue_name}
 use Rattle.strm_script.specs.Named.{and_then, after}
 use Rattle.strm_script.specs.ScriptReading.{Front, side_at, place_at, way_in, queue_in, placed_in, dotted_in}

@@ -1,30 +1,20 @@
 -- What the definitions of scripts compute, for lines, answers and short scripts.
-use Rattle.std.proofs.Common.{ℕ, Bool, ◌≡◌, [], ◌∷◌, ◌++◌, map, refl, replicate}
-use Rattle.std.specs.Prelude.{codes, true, false, None, Some, Ok, Err, slice_set}
+use Rattle.strm_script.proofs.Prelude.{ℕ, Bool, ◌≡◌, [], ◌∷◌, ◌++◌, map, refl, replicate, codes}
+use Rattle.strm_script.specs.Prelude.{Done, Name, Count, Bytes, Msg, Nak, Moved, Blocked, Idle, MasterToSlave, SlaveToMaster, Master, Slave, Way, Up}
+use Rattle.strm_script.specs.Prelude.{Down, Place, Head, Ldterm, Driver, Einval, Eagain, Enxio, Ebadmsg, Enosr, Erange, JournalFull, NoMinor}
+use Rattle.strm_script.specs.Prelude.{NoMemory, StillShared, Eio, Ttin, Ttou, Side, ByteStream, MessageKeep, MessageDiscard, Refuse, Data, Discard}
+use Rattle.strm_script.specs.Prelude.{Unlock, OpenSlave, Shut, Push, Pop, Look, Write, Read, Ioctl, IoctlResult, head_of, driver_of, number_of}
+use Rattle.std.specs.Prelude.{true, false, None, Some, Ok, Err, slice_set}
 use Rattle.std.specs.Fmt.{decimal}
 use Rattle.std.specs.List.{concat}
-use Rattle.strm_types.specs.declared.answers.Answer.TheVariants.{Done, Name, Count, Bytes, Msg, Nak, Sizes as Counts, Pending as UnderWay, Signals as Waited, Stop}
-use Rattle.strm_types.specs.declared.answers.Turn.TheVariants.{Moved, Blocked, Idle}
-use Rattle.strm_types.specs.declared.names.Dir.TheVariants.{MasterToSlave, SlaveToMaster}
-use Rattle.strm_types.specs.declared.names.Side.TheVariants.{Master, Slave}
-use Rattle.strm_types.specs.declared.names.Way.{Way}
-use Rattle.strm_types.specs.declared.names.Way.TheVariants.{Up, Down}
-use Rattle.strm_types.specs.declared.names.Place.{Place}
-use Rattle.strm_types.specs.declared.names.Place.TheVariants.{Head, Ldterm, Driver}
-use Rattle.strm_types.specs.declared.refusals.Refusal.TheVariants.{Einval, Eagain, Enxio, Ebadmsg, Enosr, Erange, JournalFull, NoMinor, NoMemory, StillShared, Eio}
+use Rattle.strm_types.specs.declared.answers.Answer.TheVariants.{Sizes as Counts, Pending as UnderWay, Signals as Waited, Stop}
 use Rattle.strm_types.specs.declared.names.ModuleName.TheVariants as modules
-use Rattle.strm_types.specs.declared.signals.StopSignal.TheVariants.{Ttin, Ttou}
-use Rattle.strm_types.specs.declared.names.Side.{Side}
 use Rattle.strm_types.specs.declared.events.FlushQueues.TheVariants as queues
 use Rattle.strm_types.specs.declared.modes.Prio.TheVariants as sent
 use Rattle.strm_types.specs.declared.modes.Mode.TheVariants as modes
-use Rattle.strm_types.specs.declared.modes.ReadMode.TheVariants.{ByteStream, MessageKeep, MessageDiscard}
-use Rattle.strm_types.specs.declared.modes.ControlMode.TheVariants.{Refuse, Data, Discard}
 use Rattle.strm_script.specs.declared.commands.NamedPrio.TheVariants as prios
 use Rattle.strm_script.specs.declared.commands.NamedWanted.TheVariants as wanteds
-use Rattle.strm_types.specs.declared.events.Event.TheVariants.{Unlock, OpenSlave, Shut, Push, Pop, Look, Write, Read, Mode, Ioctl, IoctlResult, Signals as SignalsOf}
-use Rattle.strm_types.specs.Names.{head_of, driver_of}
-use Rattle.strm_types.specs.Rules.{number_of}
+use Rattle.strm_types.specs.declared.events.Event.TheVariants.{Mode, Signals as SignalsOf}
 use Rattle.strm_script.specs.Script.{Open, Call, Flush, Put, Get, Turn, Run, Show, Ledger, Group, queue_name, window_bytes, digit_of, hex_of, escaped, lines_of}
 use Rattle.strm_script.specs.ScriptReading.{Reading, Silent, Malformed, Spoken, number_from, number_in, text_from, text_in, way_in, queue_in, is_name, quoted_len, number_to, command_in, reading, token_len, token_in, last_in, part_in, prio_in, wanted_in, side_at, place_at}
 use Rattle.strm_script.specs.ScriptAnswers.{Plain, Named, Number, Text, Message, Waiting, Pending, Denied, Signals, Stopped, Held, Empty, Ran, Sizes, Booked, Refused, Wrong, rule_name, in_order, printed, printed_line, line_text, reply_line, turn_line}

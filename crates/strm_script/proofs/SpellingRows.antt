@@ -1,18 +1,14 @@
 -- Which lines spell which command: spellings of each command, and lines that are none.
-use Rattle.std.proofs.Common.{ℕ, ◌≡◌, ◌≢◌, List, [], ◌∷◌, map, refl, lit<, lit≤, arith}
-use Rattle.std.specs.Prelude.{codes, true, false, None, Some}
-use Rattle.strm_types.specs.declared.names.Dir.TheVariants.{MasterToSlave, SlaveToMaster}
-use Rattle.strm_types.specs.declared.names.Side.TheVariants.{Master, Slave}
-use Rattle.strm_types.specs.declared.names.Way.TheVariants.{Up}
-use Rattle.strm_types.specs.declared.names.Place.TheVariants.{Ldterm}
-use Rattle.strm_types.specs.declared.names.ModuleName.{ModuleName}
+use Rattle.strm_script.proofs.Prelude.{ℕ, ◌≡◌, ◌≢◌, List, [], ◌∷◌, map, refl, arith, codes}
+use Rattle.strm_script.specs.Prelude.{MasterToSlave, SlaveToMaster, Master, Slave, Up, Ldterm, ModuleName, Unlock, OpenSlave, Shut, Push, Pop, Look}
+use Rattle.strm_script.specs.Prelude.{Write, Read, Ioctl, IoctlResult, MessageDiscard, Refuse}
+use Rattle.std.proofs.Common.{lit<, lit≤}
+use Rattle.std.specs.Prelude.{true, false, None, Some}
 use Rattle.strm_types.specs.declared.names.ModuleName.TheVariants as modules
 use Rattle.strm_types.specs.declared.events.FlushQueues.TheVariants as queues
-use Rattle.strm_types.specs.declared.events.Event.TheVariants.{Unlock, OpenSlave, Shut, Push, Pop, Look, Write, Read, Mode, Ioctl, IoctlResult}
+use Rattle.strm_types.specs.declared.events.Event.TheVariants.{Mode}
 use Rattle.strm_types.specs.declared.events.Event.TheVariants as calls
 use Rattle.strm_types.specs.declared.modes.Mode.TheVariants as modes
-use Rattle.strm_types.specs.declared.modes.ReadMode.TheVariants.{MessageDiscard}
-use Rattle.strm_types.specs.declared.modes.ControlMode.TheVariants.{Refuse}
 use Rattle.strm_script.specs.declared.commands.NamedPrio.TheVariants as prios
 use Rattle.strm_script.specs.declared.commands.NamedWanted.TheVariants as wanteds
 use Rattle.strm_script.specs.declared.ioctls.IoctlName.{IoctlName}

@@ -1,7 +1,6 @@
 -- What a form reads is spelled so, and what is spelled so is read: over all rows at once.
-use Rattle.std.proofs.Common.{◌≡◌, ℕ, ◌≤◌, Bool, true, false, not, ltb, eqb, List, [], ◌∷◌, ◌++◌, length, Option, None, Some, option_map, refl, sym, ap, ◌∙◌, inl, inr, append-nil, subst}
-use Rattle.std.proofs.lemmas.Bool.{cond-true, cond-false, le-ltb, cases_Bool}
-use Rattle.std.proofs.lemmas.List.{take-append-drop}
+use Rattle.strm_script.proofs.Prelude.{◌≡◌, ℕ, ◌≤◌, Bool, true, false, not, ltb, eqb, List, [], ◌∷◌, ◌++◌, length, Option, None, Some, option_map}
+use Rattle.strm_script.proofs.Prelude.{refl, sym, ap, ◌∙◌, inl, inr, append-nil, subst, cond-true, cond-false, le-ltb, cases_Bool, take-append-drop}
 use Rattle.strm_script.specs.Script.{Command, is_silent}
 use Rattle.strm_script.specs.Named.{and_then, at_end, named}
 use Rattle.strm_script.specs.Table.{Kind, AVerb, Said, IsWord, Form, Ends, MayEnd, Last, Then, IsForm, verbs, form_of, IsSpelled}

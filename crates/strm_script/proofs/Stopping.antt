@@ -1,39 +1,28 @@
 -- A turn that moved nothing, one of a queue that belongs to no module, and one that got to the end of its message lead to what a turn leads
 -- to that goes to the end of the first message.
-use Rattle.std.proofs.Common.{◌≡◌, ℕ, zero, suc, ◌+◌, ◌-◌, ◌*◌, ◌≤◌, Bool, true, false, cond, List, [], ◌∷◌, map, min, Option, None, Some, is_some, slice_index_or, refl, sym, ap, subst, ◌∙◌, arith}
-use Rattle.std.proofs.lemmas.Bool.{eq-eqb}
-use Rattle.std.proofs.lemmas.Bool.Decides.{nat_tests}
+use Rattle.strm_script.proofs.Prelude.{◌≡◌, ℕ, zero, suc, ◌+◌, ◌-◌, ◌*◌, ◌≤◌, Bool, true, false, cond, List, [], ◌∷◌, map, Option, None, Some}
+use Rattle.strm_script.proofs.Prelude.{is_some, refl, sym, ap, subst, ◌∙◌, arith, eq-eqb, nat_tests}
+use Rattle.strm_script.specs.Prelude.{Turn, Moved, Blocked, Idle, Place, Head, Ldterm, Driver, QueueName, Side, Master, Slave, Way, Up, Down, plain}
+use Rattle.strm_script.specs.Prelude.{Message, place_named, State, Stream, stream, TurnOutcome, turned, whole_turn, first_at}
+use Rattle.std.proofs.Common.{min, slice_index_or}
 use Rattle.std.specs.Prelude.{max, nat_lt}
-use Rattle.strm_types.specs.declared.answers.Turn.{Turn}
-use Rattle.strm_types.specs.declared.answers.Turn.TheVariants.{Moved, Blocked, Idle}
-use Rattle.strm_types.specs.declared.names.Place.{Place}
-use Rattle.strm_types.specs.declared.names.Place.TheVariants.{Head, Ldterm, Driver}
-use Rattle.strm_types.specs.declared.names.QueueName.{QueueName}
-use Rattle.strm_types.specs.declared.names.Side.{Side}
-use Rattle.strm_types.specs.declared.names.Side.TheVariants.{Master, Slave}
-use Rattle.strm_types.specs.declared.names.Way.{Way}
-use Rattle.strm_types.specs.declared.names.Way.TheVariants.{Up, Down}
 use Rattle.strm_types.specs.declared.spots.Asks.{Asks}
 use Rattle.strm_types.specs.declared.spots.Asks.TheVariants as asked
 use Rattle.strm_types.specs.declared.spots.Spot.{Spot}
-use Rattle.strm_types.specs.Cells.{plain}
 use Rattle.strm_types.specs.Input.{input_begins, is_data, passes, stages, stages_done, treats}
 use Rattle.strm_types.specs.Ldterms as ldterms
-use Rattle.strm_types.specs.Message.{Message}
 use Rattle.strm_types.specs.ModuleQueues.{at_place}
 use Rattle.strm_types.specs.Standings.{messages_at, stood}
-use Rattle.strm_laws.specs.ModuleTurns.{Calls, again_at, asked_turn, calls, made_below, moved_by, moved_on, moved_within, place_named, turned_named, turned_there, waits_there, whole_module}
+use Rattle.strm_laws.specs.ModuleTurns.{Calls, again_at, asked_turn, calls, made_below, moved_by, moved_on, moved_within, turned_named, turned_there, waits_there, whole_module}
 use Rattle.strm_types.specs.OutputTurns.{output_serves}
 use Rattle.strm_laws.specs.Past.{has_room_past}
 use Rattle.strm_types.specs.Queue.{left_with, first_size}
 use Rattle.strm_laws.specs.Stacked.{Module, OfLdterm, Standing, module_asks, module_rests, module_serves}
-use Rattle.strm_laws.specs.State.{State, Stream, stream}
-use Rattle.strm_laws.specs.TurnOutcomes.{TurnOutcome, stayed_put}
-use Rattle.strm_laws.specs.Turns.{turned, turned_at, whole_turn}
+use Rattle.strm_laws.specs.TurnOutcomes.{stayed_put}
+use Rattle.strm_laws.specs.Turns.{turned_at}
 use Rattle.strm_types.specs.Names.{without}
 use Rattle.strm_types.specs.LdtermStands.{disciplined}
 use Rattle.strm_pair.specs.Named.{at_found, messages_named}
-use Rattle.strm_pair.specs.Shows.{first_at}
 use Rattle.strm_script.specs.ScriptRun.{Supply, Enough, Within, is_enough, only, reach, told_of, turn_to}
 
 -- a turn that may treat no byte is at its end after one call

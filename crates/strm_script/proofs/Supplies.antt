@@ -1,35 +1,23 @@
 -- Events that get the blocks that they ask for: none of them is short.
-use Rattle.std.proofs.Common.{◌≡◌, ℕ, zero, suc, Bool, true, false, cond, List, [], ◌∷◌, Option, None, Some, Result, Ok, Err, refl, sym, ap, ◌∙◌, slice_get, inl, inr, unwrap_or, nat_le, ◌&&◌, ◌||◌, not}
-use Rattle.std.proofs.lemmas.Bool.{cases_Bool}
-use Rattle.strm_types.specs.declared.answers.Turn.{Turn}
-use Rattle.strm_types.specs.declared.events.Caller.{Caller}
-use Rattle.strm_types.specs.declared.names.QueueName.{QueueName}
-use Rattle.strm_types.specs.declared.refusals.Refusal.{Refusal}
-use Rattle.strm_types.specs.declared.refusals.Refusal.TheVariants.{Einval, Eagain, Ebadmsg, Enxio, Erange, JournalFull, Eio}
-use Rattle.strm_types.specs.declared.both.Both.{Both}
+use Rattle.strm_script.proofs.Prelude.{◌≡◌, ℕ, zero, suc, Bool, true, false, cond, List, [], ◌∷◌, Option, None, Some, Result, Ok, Err, refl, sym, ap}
+use Rattle.strm_script.proofs.Prelude.{◌∙◌, slice_get, inl, inr, unwrap_or, nat_le, ◌&&◌, ◌||◌, not, cases_Bool}
+use Rattle.strm_script.specs.Prelude.{Turn, Caller, QueueName, Refusal, Einval, Eagain, Ebadmsg, Enxio, Erange, JournalFull, Eio, Both, Ttin, Ttou}
+use Rattle.strm_script.specs.Prelude.{get, FlushQueues, Message, Prio, Wanted, State, stream, Request, or_else, unless, refused_at_once}
+use Rattle.strm_script.specs.Prelude.{refused_by_state}
 use Rattle.strm_types.specs.declared.job_control.Verdict.TheVariants.{Refused, Stopped, Allowed}
 use Rattle.strm_types.specs.declared.needs.Access.{Access}
 use Rattle.strm_types.specs.declared.needs.Access.TheVariants.{Reads, Writes}
-use Rattle.strm_types.specs.declared.signals.StopSignal.TheVariants.{Ttin, Ttou}
-use Rattle.strm_types.specs.Both.{get}
 use Rattle.strm_types.specs.JobControl.{foreground, held, is_background, refusal_behind}
-use Rattle.strm_types.specs.declared.events.FlushQueues.{FlushQueues}
 use Rattle.std.specs.Prelude.{◌==◌}
 use Rattle.strm_types.specs.declared.modes.ControlMode.{ControlMode}
-use Rattle.strm_types.specs.Message.{Message}
 use Rattle.strm_types.specs.Reads.{finds_none, starts_refused, read_refusal}
-use Rattle.strm_types.specs.declared.modes.Prio.{Prio}
-use Rattle.strm_types.specs.declared.modes.Wanted.{Wanted}
 use Rattle.strm_types.specs.Gets.{is_wanted, get_refusal}
 use Rattle.strm_types.specs.PutMsg.{is_no_prio, is_too_long, put_refusal}
 use Rattle.strm_types.specs.declared.slots.Slot.TheVariants.{Free, Waiting, Answered}
 use Rattle.strm_types.specs.Slots.{PlainSlot, unless_same, result_refusal}
-use Rattle.strm_laws.specs.State.{State, stream}
 use Rattle.strm_types.specs.declared.events.Event.TheVariants as calls
-use Rattle.strm_types.specs.Events.{Request}
 use Rattle.strm_types.specs.Needs.{needs}
-use Rattle.strm_types.specs.Refused.{or_else, unless}
-use Rattle.strm_laws.specs.Refusals.{at_end, refused_at_once, refused_by_state, unfit}
+use Rattle.strm_laws.specs.Refusals.{at_end, unfit}
 use Rattle.strm_script.specs.Script.{Command, Open, Call, Flush, Put, Get, Turn as TurnOf, Run, Show, Ledger, Cut, Group}
 use Rattle.strm_script.specs.ScriptReading.{Reading, Silent, Malformed, Spoken, reading}
 use Rattle.strm_script.specs.ScriptRun as script

@@ -1,25 +1,16 @@
 -- Turns of the queues of an ldterm by what an account says of them, and the queues that a look tells of, as worked out by hand from
 -- ldterm(7M) and the STREAMS Programming Guide.
-use Rattle.std.proofs.Common.{ℕ, ◌≡◌, Bool, true, false, List, [], ◌∷◌, map, refl}
-use Rattle.std.specs.Prelude.{codes, Result, Ok, Err}
-use Rattle.strm_types.specs.declared.answers.Turn.{Turn}
-use Rattle.strm_types.specs.declared.answers.Turn.TheVariants.{Moved}
+use Rattle.strm_script.proofs.Prelude.{ℕ, ◌≡◌, Bool, true, false, List, [], ◌∷◌, map, refl, codes}
+use Rattle.strm_script.specs.Prelude.{Turn, Moved, QueueName, Master, Slave, Up, Refusal, Enosr, carried, Message, band_of, cells_of, data_message}
+use Rattle.strm_script.specs.Prelude.{is_held, is_high_priority, rank_of, size_of, driver_of, no_fates, Stream, opening}
+use Rattle.std.specs.Prelude.{Result, Ok, Err}
 use Rattle.strm_types.specs.declared.names.Openness.TheVariants.{Open}
 use Rattle.strm_types.specs.declared.names.Place.TheVariants as places
-use Rattle.strm_types.specs.declared.names.QueueName.{QueueName}
-use Rattle.strm_types.specs.declared.names.Side.TheVariants.{Master, Slave}
-use Rattle.strm_types.specs.declared.names.Way.TheVariants.{Up}
-use Rattle.strm_types.specs.declared.refusals.Refusal.{Refusal}
-use Rattle.strm_types.specs.declared.refusals.Refusal.TheVariants.{Enosr}
-use Rattle.strm_types.specs.Deliver.{carried}
 use Rattle.strm_types.specs.Ldterms.{Discipline, discipline, new_ldterm}
 use Rattle.strm_types.specs.Standings.{new_pair}
-use Rattle.strm_types.specs.Message.{Message, band_of, cells_of, data_message, is_held, is_high_priority, rank_of, size_of}
-use Rattle.strm_types.specs.Names.{driver_of}
 use Rattle.strm_types.specs.Queue.{Queue}
 use Rattle.strm_laws.specs.Stacked.{ldterm_stands}
-use Rattle.strm_types.specs.Rules.{no_fates}
-use Rattle.strm_laws.specs.State.{Stream, new_stream, opening}
+use Rattle.strm_laws.specs.State.{new_stream}
 use Rattle.strm_laws.proofs.Samples.{ordinary}
 use Rattle.strm_script.specs.Script.{queue_in_stream}
 use Rattle.strm_script.specs.ScriptRun.{Supply, Enough, Within, TooFew, PlainPair, script_limits, turn_of, queues_down}

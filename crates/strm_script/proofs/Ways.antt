@@ -1,7 +1,6 @@
 -- How bytes lead a script on, from line to line.
-use Rattle.std.proofs.Common.{◌≡◌, ℕ, suc, ◌<◌, ◌≤◌, List, [], ◌∷◌, ◌++◌, length, Option, None, Some, refl, arith, sym, ap, ◌∙◌, append_assoc, append-nil, length-append, inl, inr}
-use Rattle.std.proofs.lemmas.Bool.{ne_eqb, lt-ltb}
-use Rattle.std.proofs.lemmas.Bool.Decides.{eqb_tells}
+use Rattle.strm_script.proofs.Prelude.{◌≡◌, ℕ, suc, ◌<◌, ◌≤◌, List, [], ◌∷◌, ◌++◌, length, Option, None, Some, refl, arith, sym, ap, ◌∙◌}
+use Rattle.strm_script.proofs.Prelude.{append_assoc, append-nil, length-append, inl, inr, ne_eqb, lt-ltb, eqb_tells}
 use Rattle.strm_script.specs.Script.{Command}
 use Rattle.strm_script.specs.ScriptReading.{Silent, Malformed, Spoken, reading}
 use Rattle.strm_script.specs.ScriptAnswers.{printed_line, Wrong}

@@ -1,27 +1,17 @@
 -- The words of a line: what is read is spelled so, what is spelled so is read, and a word ends where it is spelled to end.
-use Rattle.std.proofs.Common.{◌≡◌, ◌≢◌, ℕ, suc, ◌+◌, ◌*◌, ◌<◌, ◌≤◌, Bool, true, false, not, eqb, leb, ◌&&◌, ◌||◌, List, [], ◌∷◌, ◌++◌, length, Option, None, Some, refl, arith, sym, ap, ◌∙◌, inl, inr, append_assoc, codes, subst}
-use Rattle.std.proofs.lemmas.Bool.{cond-true, cond-false, ne_eqb, eq-eqb, leb-true, le-leb, lt-ltb, ltb-true, cases_Bool, and_parts}
-use Rattle.std.proofs.lemmas.Bool.Decides.{leb_tells}
-use Rattle.std.proofs.lemmas.List.{take-append-drop, length-append}
+use Rattle.strm_script.proofs.Prelude.{◌≡◌, ◌≢◌, ℕ, suc, ◌+◌, ◌*◌, ◌<◌, ◌≤◌, Bool, true, false, not, eqb, leb, ◌&&◌, ◌||◌, List, [], ◌∷◌, ◌++◌}
+use Rattle.strm_script.proofs.Prelude.{length, Option, None, Some, refl, arith, sym, ap, ◌∙◌, inl, inr, append_assoc, subst, cond-true, cond-false}
+use Rattle.strm_script.proofs.Prelude.{ne_eqb, eq-eqb, leb-true, le-leb, lt-ltb, ltb-true, cases_Bool, and_parts, leb_tells, take-append-drop}
+use Rattle.strm_script.specs.Prelude.{Dir, MasterToSlave, SlaveToMaster, Side, Master, Slave, Way, Place, Up, Down, Head, Ldterm, Driver, ModuleName}
+use Rattle.strm_script.specs.Prelude.{FlushQueues, Mode, ByteStream, MessageKeep, MessageDiscard, Refuse, Data, Discard}
+use Rattle.std.proofs.Common.{codes}
+use Rattle.std.proofs.lemmas.List.{length-append}
 use Rattle.std.proofs.Math.Seq.{take-append_seam, drop-append_seam}
 use Rattle.std.specs.Prelude.{⊤, is_some}
 use Rattle.std.specs.List.{AllByRecursion, list_all, position_or_len}
-use Rattle.strm_types.specs.declared.names.Dir.{Dir}
-use Rattle.strm_types.specs.declared.names.Dir.TheVariants.{MasterToSlave, SlaveToMaster}
-use Rattle.strm_types.specs.declared.names.Side.{Side}
-use Rattle.strm_types.specs.declared.names.Side.TheVariants.{Master, Slave}
-use Rattle.strm_types.specs.declared.names.Way.{Way}
-use Rattle.strm_types.specs.declared.names.Place.{Place}
-use Rattle.strm_types.specs.declared.names.Way.TheVariants.{Up, Down}
-use Rattle.strm_types.specs.declared.names.Place.TheVariants.{Head, Ldterm, Driver}
-use Rattle.strm_types.specs.declared.names.ModuleName.{ModuleName}
 use Rattle.strm_types.specs.declared.names.ModuleName.TheVariants as modules
-use Rattle.strm_types.specs.declared.events.FlushQueues.{FlushQueues}
 use Rattle.strm_types.specs.declared.events.FlushQueues.TheVariants as queues
-use Rattle.strm_types.specs.declared.modes.Mode.{Mode}
 use Rattle.strm_types.specs.declared.modes.Mode.TheVariants as modes
-use Rattle.strm_types.specs.declared.modes.ReadMode.TheVariants.{ByteStream, MessageKeep, MessageDiscard}
-use Rattle.strm_types.specs.declared.modes.ControlMode.TheVariants.{Refuse, Data, Discard}
 use Rattle.strm_script.specs.declared.commands.NamedPrio.{NamedPrio}
 use Rattle.strm_script.specs.declared.commands.NamedPrio.TheVariants as prios
 use Rattle.strm_script.specs.declared.commands.NamedWanted.{NamedWanted}

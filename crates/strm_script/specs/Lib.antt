@@ -1,3 +1,4 @@
+pub mod Prelude
 pub mod Script
 pub mod Named
 pub mod Table

@@ -1,11 +1,6 @@
 -- The answer lines of the code, as the definitions of script text have them.
 use Rattle.std.specs.Prelude.{ℕ, if◌then◌else◌, List, [], ◌∷◌, ◌++◌, Option, None, Some, is_some, Ok}
-use Rattle.strm_types.specs.declared.names.Place.TheVariants.{Ldterm}
-use Rattle.strm_types.specs.declared.names.Side.{Side}
-use Rattle.strm_types.specs.declared.names.Way.TheVariants.{Up, Down}
-use Rattle.strm_types.specs.Journal.{reply_in}
-use Rattle.strm_laws.specs.ModuleTurns.{place_named}
-use Rattle.strm_laws.specs.State.{State, stream}
+use Rattle.strm_script.specs.Prelude.{Ldterm, Side, Up, Down, reply_in, place_named, State, stream}
 use Rattle.strm_script.specs.ScriptAnswers as script
 use Rattle.strm_script.specs.ScriptRun.{size_at}
 use Rattle.strm_script.specs.declared.answers.Line.{Line}

@@ -2,25 +2,12 @@
 use Rattle.std.specs.Prelude.{◌≡◌, ◌≢◌, ℕ, ◌≤◌, ◌<◌, ◌+◌, ◌-◌, ◌*◌, nat_le, ◌==◌, ◌&&◌, Bool, true, false, if◌then◌else◌, List, [], ◌∷◌, ◌++◌, length, codes, Option, None, Some}
 use Rattle.std.specs.Int.{w16, w32, to_be_bytes}
 use Rattle.std.specs.List.{AllByRecursion}
-use Rattle.strm_types.specs.declared.events.Caller.{Caller}
-use Rattle.strm_types.specs.declared.names.Dir.{Dir}
-use Rattle.strm_types.specs.declared.names.Dir.TheVariants.{MasterToSlave, SlaveToMaster}
-use Rattle.strm_types.specs.declared.names.Side.{Side}
-use Rattle.strm_types.specs.declared.names.Side.TheVariants.{Master, Slave}
-use Rattle.strm_types.specs.declared.names.Way.{Way}
-use Rattle.strm_types.specs.declared.names.Way.TheVariants.{Up, Down}
-use Rattle.strm_types.specs.declared.names.Place.{Place}
-use Rattle.strm_types.specs.declared.names.Place.TheVariants.{Head, Ldterm, Driver}
-use Rattle.strm_types.specs.declared.names.QueueName.{QueueName}
-use Rattle.strm_types.specs.declared.names.ModuleName.{ModuleName}
+use Rattle.strm_script.specs.Prelude.{Caller, Dir, MasterToSlave, SlaveToMaster, Side, Master, Slave, Way, Up, Down, Place, Head, Ldterm, Driver}
+use Rattle.strm_script.specs.Prelude.{QueueName, ModuleName, FlushQueues, Mode, ByteStream, MessageKeep, MessageDiscard, Refuse, Data, Discard}
+use Rattle.strm_script.specs.Prelude.{Request}
 use Rattle.strm_types.specs.declared.names.ModuleName.TheVariants as modules
-use Rattle.strm_types.specs.declared.events.FlushQueues.{FlushQueues}
 use Rattle.strm_types.specs.declared.events.FlushQueues.TheVariants as queues
-use Rattle.strm_types.specs.declared.modes.Mode.{Mode}
 use Rattle.strm_types.specs.declared.modes.Mode.TheVariants as modes
-use Rattle.strm_types.specs.declared.modes.ReadMode.TheVariants.{ByteStream, MessageKeep, MessageDiscard}
-use Rattle.strm_types.specs.declared.modes.ControlMode.TheVariants.{Refuse, Data, Discard}
-use Rattle.strm_types.specs.Events.{Request}
 use Rattle.strm_script.specs.declared.commands.NamedPrio.{NamedPrio}
 use Rattle.strm_script.specs.declared.commands.NamedPrio.TheVariants as prios
 use Rattle.strm_script.specs.declared.commands.NamedWanted.{NamedWanted}

@@ -2,24 +2,15 @@
 use Rattle.std.specs.Prelude.{ℕ, ◌/◌, ◌%◌, ◌+◌, nat_lt, nat_le, ◌==◌, ◌&&◌, ◌||◌, Bool, true, false, if◌then◌else◌, List, [], ◌∷◌, ◌++◌, length, codes, Option, None, Some, Result, Ok, Err, slice_index_or}
 use Rattle.std.specs.List.{flat_map}
 use Rattle.std.specs.Fmt.{decimal}
-use Rattle.strm_types.specs.declared.answers.Turn.{Turn}
-use Rattle.strm_types.specs.declared.answers.Turn.TheVariants.{Moved, Blocked, Idle}
-use Rattle.strm_types.specs.declared.refusals.Refusal.{Refusal}
-use Rattle.strm_types.specs.declared.refusals.Refusal.TheVariants.{Einval, Eagain, Enxio, Ebadmsg, Enosr, Erange, JournalFull, NoMinor, NoMemory, StillShared, Eio}
-use Rattle.strm_types.specs.declared.answers.Answer.TheVariants.{Done, Name, Count, Bytes, Msg, Nak}
+use Rattle.strm_script.specs.Prelude.{Turn, Moved, Blocked, Idle, Refusal, Einval, Eagain, Enxio, Ebadmsg, Enosr, Erange, JournalFull, NoMinor}
+use Rattle.strm_script.specs.Prelude.{NoMemory, StillShared, Eio, Done, Name, Count, Bytes, Msg, Nak, Prio, Dir, ModuleName, Side, Reply, number_of}
 use Rattle.strm_types.specs.declared.answers.Answer.TheVariants as answers
-use Rattle.strm_types.specs.declared.modes.Prio.{Prio}
 use Rattle.strm_types.specs.declared.modes.Prio.TheVariants.{High, Band}
 use Rattle.strm_types.specs.declared.ledger.Ledger.{Ledger}
-use Rattle.strm_types.specs.declared.names.Dir.{Dir}
-use Rattle.strm_types.specs.declared.names.ModuleName.{ModuleName}
-use Rattle.strm_types.specs.declared.names.Side.{Side}
 use Rattle.strm_types.specs.declared.rules.Rule.{Rule}
 use Rattle.strm_types.specs.declared.rules.Rule.TheVariants.{Read, Igncr, EraseKey, Erased, Killed, EofKey, SignalKey, FlowKey, LnextKey, ReprintKey, LineFull, LineOver, Flushed, RestDiscarded, ControlDropped, Doubled, ModulePopped, EndClosed, Replaced, Onocr, EchoFull}
 use Rattle.strm_types.specs.declared.signals.StopSignal.{StopSignal}
-use Rattle.strm_types.specs.Events.{Reply}
 use Rattle.strm_types.specs.JobControl.{stop_number}
-use Rattle.strm_types.specs.Rules.{number_of}
 use Rattle.strm_script.specs.Script.{side_name, direction_name, queue_in_stream, module_name}
 use Rattle.strm_script.specs.declared.answers.QueueSize.{QueueSize}
 

@@ -1,44 +1,22 @@
 -- What a script writes: its answers, in the order of its lines.
 use Rattle.std.specs.Prelude.{ℕ, zero, suc, nat_le, nat_lt, ◌&&◌, ◌||◌, ◌==◌, Bool, true, false, if◌then◌else◌, List, [], ◌∷◌, ◌++◌, length, map, Option, None, Some, option_map, is_some, Result, Ok, Err, unwrap_or, slice_get}
+use Rattle.strm_script.specs.Prelude.{Turn, Moved, Blocked, Idle, Both, Caller, Dir, Master, Slave, Place, Head, Ldterm, Driver, QueueName, Up, Down}
+use Rattle.strm_script.specs.Prelude.{Refusal, Einval, Enxio, Enosr, place_named, get, no_fates, State, opening, stream, head_of, driver_of, Side}
+use Rattle.strm_script.specs.Prelude.{FlushQueues, first_at, Called, Turned, Prio, Wanted, plain, tallied, turned, whole_turn, Request, Reply, called}
+use Rattle.strm_script.specs.Prelude.{refused, turn_refused, blocks_asked}
 use Rattle.strm_types.specs.declared.limits.Config.{Config}
-use Rattle.strm_types.specs.declared.answers.Turn.{Turn}
-use Rattle.strm_types.specs.declared.answers.Turn.TheVariants.{Moved, Blocked, Idle}
-use Rattle.strm_types.specs.declared.both.Both.{Both}
-use Rattle.strm_types.specs.declared.events.Caller.{Caller}
-use Rattle.strm_types.specs.declared.names.Dir.{Dir}
-use Rattle.strm_types.specs.declared.names.Side.TheVariants.{Master, Slave}
-use Rattle.strm_types.specs.declared.names.Place.{Place}
-use Rattle.strm_types.specs.declared.names.Place.TheVariants.{Head, Ldterm, Driver}
-use Rattle.strm_types.specs.declared.names.QueueName.{QueueName}
-use Rattle.strm_types.specs.declared.names.Way.TheVariants.{Up, Down}
-use Rattle.strm_types.specs.declared.refusals.Refusal.{Refusal}
-use Rattle.strm_types.specs.declared.refusals.Refusal.TheVariants.{Einval, Enxio, Enosr}
-use Rattle.strm_laws.specs.ModuleTurns.{place_named}
 use Rattle.strm_laws.specs.Ledgers.{ledger_of}
-use Rattle.strm_types.specs.Both.{get, set}
+use Rattle.strm_types.specs.Both.{set}
 use Rattle.strm_types.specs.JobControl.{caller_of}
-use Rattle.strm_types.specs.Rules.{no_fates}
-use Rattle.strm_laws.specs.State.{State, opening, stream}
-use Rattle.strm_types.specs.Names.{head_of, driver_of}
 use Rattle.strm_types.specs.Queue.{bytes_of}
-use Rattle.strm_types.specs.declared.names.Side.{Side}
-use Rattle.strm_types.specs.declared.events.FlushQueues.{FlushQueues}
-use Rattle.strm_pair.specs.Shows.{first_at, messages_at}
-use Rattle.strm_types.specs.declared.entries.Entry.TheVariants.{Called, Turned}
+use Rattle.strm_pair.specs.Shows.{messages_at}
 use Rattle.strm_types.specs.declared.events.Event.TheVariants as calls
 use Rattle.strm_types.specs.declared.kinds.Band as bands
-use Rattle.strm_types.specs.declared.modes.Prio.{Prio}
 use Rattle.strm_types.specs.declared.modes.Prio.TheVariants as sent
-use Rattle.strm_types.specs.declared.modes.Wanted.{Wanted}
 use Rattle.strm_types.specs.declared.modes.Wanted.TheVariants as wanted
-use Rattle.strm_types.specs.Cells.{plain}
-use Rattle.strm_types.specs.Deliver.{Fate, tallied}
+use Rattle.strm_types.specs.Deliver.{Fate}
 use Rattle.strm_types.specs.declared.rules.Fates.{Fates}
-use Rattle.strm_laws.specs.Turns.{turned, whole_turn}
-use Rattle.strm_types.specs.Events.{Request, Reply}
-use Rattle.strm_laws.specs.Calls.{called}
 use Rattle.strm_types.specs.Journal.{PlainEntry}
-use Rattle.strm_laws.specs.Refusals.{refused, turn_refused, blocks_asked}
 use Rattle.strm_script.specs.Script.{Command, Open, Call, Flush, Put, Get, Turn as TurnOf, Run, Show, Ledger, Cut, Group, lines_of}
 use Rattle.strm_script.specs.ScriptReading.{Silent, Malformed, Spoken, reading}
 use Rattle.strm_script.specs.ScriptAnswers.{Line, Plain, Number, Sizes, Booked, Refused, Wrong, Ran, printed_line, reply_line, turn_line}

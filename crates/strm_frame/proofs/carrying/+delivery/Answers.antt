@@ -1,10 +1,8 @@
 -- Each message that was sent is carried in turn, and the rest is as if it alone had been sent.
-use Rattle.std.proofs.Common.{ℕ, suc, ◌≡◌, ◌-◌, List, refl, sym, ap, subst, ◌∙◌, arith}
-use Rattle.strm_types.specs.Deliver.{Parcel, carried}
+use Rattle.strm_frame.proofs.Prelude.{ℕ, suc, ◌≡◌, ◌-◌, List, refl, sym, ap, subst, ◌∙◌, arith}
+use Rattle.strm_frame.specs.Prelude.{Parcel, carried, Costs, Within, budget, cost_of, At, token}
 use Rattle.strm_types.proofs.DeliveryHolds.{carried-holds}
 use Rattle.strm_frame.specs.Hands.{once, MayDeliver, Takes}
-use Rattle.strm_types.specs.Budgets.{Costs, Within, budget, cost_of}
-use Rattle.strm_types.specs.Shapes.{At}
 use Rattle.strm_frame.specs.Outboxes.{message_in, sent_of, spot_in, times_sent, parcels_in, parcel_in}
 use Rattle.strm_frame.specs.Does.{StaysAlone}
 use Rattle.strm_frame.proofs.Staying.{only-stays}
@@ -12,7 +10,6 @@ use Rattle.strm_frame.proofs.Budgeting.{budget-parts, own-few, own-may, sent-few
 use Rattle.strm_frame.proofs.Handing.{hands-on, next-chain, next-chains, next-ends, next-may, next-takes, no-cost, next-parts, next-can, next-hands, next-same, no-more, no-parts, sent-in, still-sent, takes-both, takes-more}
 use Rattle.strm_frame.proofs.Turns.{begins-state, begins-told, goes-state, goes-told, stops-state, stops-told}
 use Rattle.strm_frame.proofs.carrying.+delivery.Goals as goal
-use Rattle.strm_blocks.specs.Blocks.{token}
 
 pub deliver-put_at-sent-requires-clause-room : goal.deliver-put_at-sent-requires-clause-room
 deliver-put_at-sent-requires-clause-room g t c =

@@ -1,9 +1,8 @@
-use Rattle.std.proofs.Common.{◌≡◌, ◌<◌, ◌+◌, ◌*◌, length}
-use Rattle.strm_types.specs.Deliver.{in_turn, carried, tallied}
-use Rattle.strm_queue.specs.Stored.{FreesNone}
+use Rattle.strm_frame.proofs.Prelude.{◌≡◌, ◌<◌, ◌+◌, length}
+use Rattle.strm_frame.specs.Prelude.{in_turn, carried, tallied, FreesNone, beyond, budget, cost_of}
+use Rattle.std.proofs.Common.{◌*◌}
 use Rattle.strm_frame.specs.Does.{StaysAlone}
 use Rattle.strm_frame.specs.Hands.{Handles, SamePool, Takes}
-use Rattle.strm_types.specs.Budgets.{beyond, budget, cost_of}
 use Rattle.strm_frame.specs.Outboxes.{sent_of, times_sent, parcels_in, AreChains}
 use Rattle.strm_frame.proofs.carrying.+delivery.Given as goal
 

@@ -1,9 +1,7 @@
 -- Sixteen bytes are enough.
-use Rattle.std.proofs.Common.{ap, sym, ◌∙◌, take, replicate}
-use Rattle.strm_types.specs.Ioctls.{read_ioc}
-use Rattle.strm_blocks.specs.Blocks.{in_hand, token}
+use Rattle.strm_frame.proofs.Prelude.{ap, sym, ◌∙◌, take, replicate, plain-is}
+use Rattle.strm_frame.specs.Prelude.{read_ioc, in_hand, token}
 use Rattle.strm_msg.specs.Bytes.{bytes_of}
-use Rattle.strm_msg.proofs.MadePlain.{plain-is}
 use Rattle.strm_frame.proofs.Read.{first-of, ioc-first}
 use Rattle.strm_frame.proofs.ioctls.header_of.Goals as goal
 

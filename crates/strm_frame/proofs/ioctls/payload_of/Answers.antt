@@ -1,9 +1,8 @@
 -- Thirty-six bytes behind the header are enough.
-use Rattle.std.proofs.Common.{ap, sym, ◌∙◌, refl, take, drop, replicate, arith}
+use Rattle.strm_frame.proofs.Prelude.{ap, sym, ◌∙◌, refl, take, drop, replicate, arith, plain-is}
+use Rattle.strm_frame.specs.Prelude.{in_hand, token}
 use Rattle.strm_types.specs.Acks.{payload}
-use Rattle.strm_blocks.specs.Blocks.{in_hand, token}
 use Rattle.strm_msg.specs.Bytes.{bytes_of}
-use Rattle.strm_msg.proofs.MadePlain.{plain-is}
 use Rattle.strm_frame.proofs.Behind.{behind-first, none-behind, rest-all}
 use Rattle.strm_frame.proofs.ioctls.payload_of.Goals as goal
 

@@ -1,11 +1,7 @@
 -- One module lets go what it has, and the others stand for the same.
-use Rattle.std.proofs.Common.{[], get_or, map, refl, sym, ap, ◌∙◌}
+use Rattle.strm_frame.proofs.Prelude.{[], get_or, map, refl, sym, ap, ◌∙◌}
+use Rattle.strm_frame.specs.Prelude.{Down, tallied, is_met, messages_at, cleared}
 use Rattle.std.proofs.Math.ListN.{set}
-use Rattle.strm_types.specs.declared.names.Way.TheVariants.{Down}
-use Rattle.strm_types.specs.Deliver.{tallied}
-use Rattle.strm_types.specs.Dropped.{is_met}
-use Rattle.strm_types.specs.Standings.{messages_at}
-use Rattle.strm_types.specs.Service.{cleared}
 use Rattle.strm_frame.specs.Hands.{SamePool}
 use Rattle.strm_frame.specs.Stacks.{all_of}
 use Rattle.strm_frame.specs.Standings.{standing_in, Fits, owns, keeps_of}

@@ -1,12 +1,9 @@
 -- Whether it wants to be read is whether its list is empty.
-use Rattle.std.proofs.Common.{◌∙◌, sym, ap}
-use Rattle.std.specs.Prelude.{not}
+use Rattle.strm_frame.proofs.Prelude.{◌∙◌, sym, ap, not}
+use Rattle.strm_frame.specs.Prelude.{turn_ended, list_at, message_of, queue_in}
 use Rattle.strm_types.specs.Queue.{relieved}
-use Rattle.strm_types.specs.Service.{turn_ended, turn_relieves}
+use Rattle.strm_types.specs.Service.{turn_relieves}
 use Rattle.strm_frame.proofs.Emptiness.{none-mapped}
-use Rattle.strm_blocks.specs.Blocks.{list_at}
-use Rattle.strm_msg.specs.Messages.{message_of}
-use Rattle.strm_queue.specs.Stored.{queue_in}
 use Rattle.strm_frame.proofs.queues.end_queue_turn.Goals as goal
 
 pub returns-then-not-took-clause-queue : goal.returns-then-not-took-clause-queue

@@ -1,12 +1,10 @@
 -- An M_IOCTL, by the number in its header.
-use Rattle.std.proofs.Common.{sym, ap, ◌∙◌}
-use Rattle.std.specs.Prelude.{◌&&◌}
+use Rattle.strm_frame.proofs.Prelude.{sym, ap, ◌∙◌, ◌&&◌}
+use Rattle.strm_frame.specs.Prelude.{read_ioc, token}
 use Rattle.strm_types.specs.Dropped.{has_number}
-use Rattle.strm_types.specs.Ioctls.{read_ioc}
 use Rattle.strm_frame.specs.Outboxes.{message_in}
 use Rattle.strm_frame.proofs.Asked.{asked-is, asked-not, asked-plain}
 use Rattle.strm_frame.proofs.queues.is_ioctl_of.Goals as goal
-use Rattle.strm_blocks.specs.Blocks.{token}
 
 pub returns-then-not-is_ioctl : goal.returns-then-not-is_ioctl
 returns-then-not-is_ioctl g c =

@@ -1,8 +1,6 @@
 -- Each message that goes is looked at, and in the end none is left.
-use Rattle.std.proofs.Common.{ap}
-use Rattle.std.specs.Prelude.{◌||◌}
-use Rattle.strm_blocks.specs.Blocks.{list_at, token}
-use Rattle.strm_queue.specs.Stored.{Dequeued}
+use Rattle.strm_frame.proofs.Prelude.{ap, ◌||◌}
+use Rattle.strm_frame.specs.Prelude.{list_at, token, Dequeued}
 use Rattle.strm_frame.proofs.Seeking.{going-on, gone-queue}
 use Rattle.strm_frame.proofs.Emptiness.{none-listed}
 use Rattle.strm_frame.proofs.queues.take_all.Goals as goal

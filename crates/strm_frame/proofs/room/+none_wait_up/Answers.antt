@@ -1,9 +1,8 @@
 -- Nothing waits at the first module, nor at the rest.
-use Rattle.std.proofs.Common.{◌≡◌, Bool, true, false, map, ap, subst, sym, ◌∙◌, rules}
-use Rattle.std.specs.Prelude.{◌||◌, not}
+use Rattle.strm_frame.proofs.Prelude.{◌≡◌, Bool, true, false, map, ap, subst, sym, ◌∙◌, ◌||◌, not}
+use Rattle.strm_frame.specs.Prelude.{Up, messages_at}
+use Rattle.std.proofs.Common.{rules}
 use Rattle.std.specs.List.{AllByRecursion, list_any}
-use Rattle.strm_types.specs.declared.names.Way.TheVariants.{Up}
-use Rattle.strm_types.specs.Standings.{messages_at}
 use Rattle.strm_types.specs.Refused.{has_no_data}
 use Rattle.strm_frame.specs.Standings.{standing_in, Fits}
 use Rattle.strm_frame.proofs.room.+none_wait_up.Goals as goal

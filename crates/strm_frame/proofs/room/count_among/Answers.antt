@@ -1,7 +1,6 @@
 -- What one module answers.
-use Rattle.std.proofs.Common.{◌∙◌, sym, ap}
-use Rattle.strm_types.specs.Queue.{count_of}
-use Rattle.strm_types.specs.Standings.{messages_at}
+use Rattle.strm_frame.proofs.Prelude.{◌∙◌, sym, ap}
+use Rattle.strm_frame.specs.Prelude.{count_of, messages_at}
 use Rattle.strm_frame.specs.Standings.{standing_in}
 use Rattle.strm_frame.proofs.Beside.{said-of}
 use Rattle.strm_frame.proofs.room.count_among.Goals as goal

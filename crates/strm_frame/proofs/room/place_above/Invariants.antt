@@ -1,7 +1,5 @@
-use Rattle.std.proofs.Common.{◌≡◌, ◌-◌, suc, length, map, drop, take}
-use Rattle.std.specs.Prelude.{None}
-use Rattle.strm_types.specs.ModuleQueues.{last_place}
-use Rattle.strm_blocks.specs.Blocks.{StoreValue}
+use Rattle.strm_frame.proofs.Prelude.{◌≡◌, ◌-◌, suc, length, map, drop, take, None}
+use Rattle.strm_frame.specs.Prelude.{last_place, StoreValue}
 use Rattle.strm_frame.specs.Stacks.{IsPlace}
 use Rattle.strm_frame.specs.Standings.{standing_in}
 use Rattle.strm_frame.proofs.room.place_above.Given as goal

@@ -1,6 +1,5 @@
-use Rattle.std.proofs.Common.{◌≡◌, suc, map, drop}
-use Rattle.strm_types.specs.ModuleQueues.{first_place}
-use Rattle.strm_blocks.specs.Blocks.{StoreValue}
+use Rattle.strm_frame.proofs.Prelude.{◌≡◌, suc, map, drop}
+use Rattle.strm_frame.specs.Prelude.{first_place, StoreValue}
 use Rattle.strm_frame.specs.Standings.{standing_in}
 use Rattle.strm_frame.proofs.room.place_below.Given as goal
 

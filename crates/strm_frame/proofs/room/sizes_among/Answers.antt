@@ -1,7 +1,6 @@
 -- What one module answers.
-use Rattle.std.proofs.Common.{◌∙◌, sym, ap, length}
-use Rattle.strm_types.specs.Queue.{bytes_of}
-use Rattle.strm_types.specs.Standings.{messages_at}
+use Rattle.strm_frame.proofs.Prelude.{◌∙◌, sym, ap, length}
+use Rattle.strm_frame.specs.Prelude.{bytes_of, messages_at}
 use Rattle.strm_frame.specs.Standings.{standing_in}
 use Rattle.strm_frame.proofs.Beside.{said-of}
 use Rattle.strm_frame.proofs.room.sizes_among.Goals as goal

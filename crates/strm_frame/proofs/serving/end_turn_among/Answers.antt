@@ -1,7 +1,6 @@
 -- One module changes, and the others stay.
-use Rattle.std.proofs.Common.{◌∙◌, sym, refl, get_or}
-use Rattle.strm_types.specs.Standings.{queue_changed}
-use Rattle.strm_types.specs.Service.{turn_ended, end_relieves, has_more}
+use Rattle.strm_frame.proofs.Prelude.{◌∙◌, sym, refl, get_or}
+use Rattle.strm_frame.specs.Prelude.{queue_changed, turn_ended, end_relieves, has_more}
 use Rattle.strm_frame.specs.Standings.{standing_in, Fits, owns, keeps_of}
 use Rattle.strm_frame.proofs.Beside.{said-of, change-plain, change-held, set-same}
 use Rattle.strm_frame.proofs.serving.end_turn_among.Goals as goal

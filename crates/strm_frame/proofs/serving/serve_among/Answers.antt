@@ -1,13 +1,10 @@
 -- One module acts, and the others stand for the same.
-use Rattle.std.proofs.Common.{ℕ, ◌≤◌, true, get_or, map, refl, sym, ap, subst, ◌∙◌}
+use Rattle.strm_frame.proofs.Prelude.{ℕ, ◌≤◌, true, get_or, map, refl, sym, ap, subst, ◌∙◌, HoldsAt}
+use Rattle.strm_frame.specs.Prelude.{tallied, made_of, of_part, Standing, most_made}
 use Rattle.std.proofs.Math.ListN.{set}
 use Rattle.std.proofs.lemmas.Bool.{OnTrue_at, OnTrue_from}
 use Rattle.std.proofs.lemmas.List.{get_or-map}
-use Rattle.std.specs.Prelude.{HoldsAt}
-use Rattle.strm_types.specs.Deliver.{tallied}
-use Rattle.strm_types.specs.Input.{made_of}
-use Rattle.strm_types.specs.Standings.{of_part, HoldsOfPart, Standing}
-use Rattle.strm_types.specs.Service.{most_made}
+use Rattle.strm_types.specs.Standings.{HoldsOfPart}
 use Rattle.strm_frame.specs.Hands.{HasRoom}
 use Rattle.strm_frame.specs.Outboxes.{sent_of, times_sent, parcels_in}
 use Rattle.strm_frame.specs.Serves.{stop_of, later_cost}

@@ -1,14 +1,11 @@
 -- One module changes, and the others stand for the same.
-use Rattle.std.proofs.Common.{ℕ, get_or, map, refl, sym, ap, subst, ◌∙◌}
+use Rattle.strm_frame.proofs.Prelude.{ℕ, get_or, map, refl, sym, ap, subst, ◌∙◌}
+use Rattle.strm_frame.specs.Prelude.{own_at, tallied, of_part, Standing, token}
 use Rattle.std.proofs.Math.ListN.{set}
-use Rattle.strm_types.specs.Budgets.{own_at}
-use Rattle.strm_types.specs.Deliver.{tallied}
-use Rattle.strm_types.specs.Standings.{of_part, Standing}
 use Rattle.strm_frame.specs.Hands.{once, HasRoom, Spends}
 use Rattle.strm_frame.specs.Outboxes.{message_in, sent_of, times_sent}
 use Rattle.strm_frame.proofs.Beside.{act-state, act-sent, act-notes, act-gone, row-plain, row-held, row-hands, own-all, said-of}
 use Rattle.strm_frame.proofs.stack.put_among.Goals as goal
-use Rattle.strm_blocks.specs.Blocks.{token}
 use Rattle.strm_frame.specs.Standings.{standing_in, Fits, owns, keeps_of}
 use Rattle.strm_frame.specs.StandingLaws.{standing-frame}
 

@@ -1,8 +1,6 @@
 -- The queue of the way is cleared, where there are queues.
-use Rattle.std.proofs.Common.{List, [], ◌∷◌, cond, refl, ap, arith}
-use Rattle.std.specs.Prelude.{Some}
-use Rattle.strm_types.specs.declared.spots.Note.{Note}
-use Rattle.strm_types.specs.declared.spots.Note.TheVariants.{Room}
+use Rattle.strm_frame.proofs.Prelude.{List, [], ◌∷◌, cond, refl, ap, arith, Some}
+use Rattle.strm_frame.specs.Prelude.{Note, Room}
 use Rattle.strm_frame.proofs.Letting.{none-met}
 use Rattle.strm_frame.proofs.standing.clear_way.Goals as goal
 

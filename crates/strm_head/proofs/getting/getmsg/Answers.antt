@@ -1,11 +1,6 @@
 -- Where the get finds its message the parts are those of that message.
-use Rattle.std.proofs.Common.{◌∙◌, ◌≡◌, ◌<◌, false, sym, ap, refl, arith}
-use Rattle.std.specs.Prelude.{nat_lt}
-use Rattle.std.proofs.lemmas.Bool.Decides.{nat_tests}
-use Rattle.strm_blocks.specs.Blocks.{list_at}
-use Rattle.strm_types.specs.Queue.{relieved, relieves}
-use Rattle.strm_queue.specs.Stored.{queue_in}
-use Rattle.strm_queue.proofs.Kept.{keeps-counted, head-kept}
+use Rattle.strm_head.proofs.Prelude.{◌∙◌, ◌≡◌, ◌<◌, false, sym, ap, refl, arith, nat_lt, nat_tests, keeps-counted, head-kept}
+use Rattle.strm_head.specs.Prelude.{list_at, relieved, relieves, queue_in}
 use Rattle.strm_head.proofs.Left.{frees, frees-none}
 use Rattle.strm_head.proofs.Found.{found, told-found, gives-found, count-found, queue-goes, queue-waits, went-goes, went-waits}
 use Rattle.strm_head.proofs.getting.getmsg.Goals as goal

@@ -1,12 +1,7 @@
 -- A message has the kind and the band of its first block.
-use Rattle.std.proofs.Common.{◌∙◌, ℕ, Bool, cond, ap, sym}
-use Rattle.strm_types.specs.declared.modes.Prio.{Prio}
-use Rattle.strm_types.specs.declared.modes.Prio.TheVariants.{High, Band}
-use Rattle.strm_types.specs.Message.{is_high_priority}
-use Rattle.strm_blocks.specs.Blocks.{in_hand, token}
+use Rattle.strm_head.proofs.Prelude.{◌∙◌, ℕ, Bool, cond, ap, sym, kind-is, band-is}
+use Rattle.strm_head.specs.Prelude.{Prio, High, Band, is_high_priority, in_hand, token, message_of}
 use Rattle.strm_blocks.proofs.Laws.{chain-some}
-use Rattle.strm_msg.specs.Messages.{message_of}
-use Rattle.strm_msg.proofs.Chains.{kind-is, band-is}
 use Rattle.strm_head.proofs.getting.prio_of.Goals as goal
 
 abbrev in_band : ℕ → Prio

@@ -1,8 +1,6 @@
 -- Where something is left it is what is in hand now, and goes back on the list.
-use Rattle.std.proofs.Common.{◌∙◌, ap, sym, subst}
-use Rattle.strm_blocks.specs.Blocks.{in_hand, list_at, dropped, token}
-use Rattle.strm_msg.specs.Emptied.{without_emptied}
-use Rattle.strm_queue.specs.Kept.{AreCounted}
+use Rattle.strm_head.proofs.Prelude.{◌∙◌, ap, sym, subst}
+use Rattle.strm_head.specs.Prelude.{in_hand, list_at, dropped, token, without_emptied, AreCounted}
 use Rattle.strm_head.specs.Getting.{put_rest}
 use Rattle.strm_head.proofs.Returned.{put-beside}
 use Rattle.strm_head.proofs.getting.put_rest.Goals as goal

@@ -1,9 +1,7 @@
 -- What is taken of the first message, and what is left of it.
-use Rattle.std.proofs.Common.{◌∙◌, false, refl, sym, ap}
-use Rattle.strm_blocks.specs.Blocks.{in_hand, token}
-use Rattle.strm_msg.specs.Emptied.{without_emptied}
+use Rattle.strm_head.proofs.Prelude.{◌∙◌, false, refl, sym, ap, has-list}
+use Rattle.strm_head.specs.Prelude.{in_hand, token, without_emptied}
 use Rattle.strm_head.specs.Getting.{put_rest}
-use Rattle.strm_queue.proofs.Gotten.{has-list}
 use Rattle.strm_head.proofs.Took.{rest-some, taken}
 use Rattle.strm_head.proofs.getting.take_first.Goals as goal
 

@@ -1,11 +1,7 @@
 -- Bytes of the control part are taken first, and the data part stays as it is.
-use Rattle.std.proofs.Common.{◌∙◌, ◌≡◌, ◌++◌, length, take, ap, sym, subst, arith}
-use Rattle.std.proofs.lemmas.List.{length-take-le}
-use Rattle.strm_blocks.specs.Blocks.{IsInHand, in_hand, changed, token}
-use Rattle.strm_msg.specs.Bytes.{control_bytes, data_bytes}
-use Rattle.strm_msg.specs.Taken.{without_control, without_data}
-use Rattle.strm_msg.proofs.Cutting.{data-cut}
-use Rattle.strm_msg.proofs.Hands.{changed-chain, changed-in_hand, changed-twice}
+use Rattle.strm_head.proofs.Prelude.{◌∙◌, ◌≡◌, ◌++◌, length, take, ap, sym, subst, arith, length-take-le, data-cut, changed-chain, changed-in_hand}
+use Rattle.strm_head.specs.Prelude.{IsInHand, in_hand, changed, token, control_bytes, data_bytes, without_control, without_data}
+use Rattle.strm_msg.proofs.Hands.{changed-twice}
 use Rattle.strm_head.proofs.getting.take_parts.Goals as goal
 
 pub take_data_into-requires-clause-in_hand : goal.take_data_into-requires-clause-in_hand

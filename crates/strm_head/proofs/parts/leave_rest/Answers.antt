@@ -1,13 +1,8 @@
 -- The bytes that are trimmed are those of the control part and then those of the data part.
-use Rattle.std.proofs.Common.{◌≡◌, ◌-◌, ◌∙◌, length, sym, ap, subst, arith}
-use Rattle.std.proofs.lemmas.List.{length-drop}
-use Rattle.strm_blocks.specs.Blocks.{in_hand, changed, dropped, IsInHand, trimmed_head, token}
-use Rattle.strm_msg.specs.Adjusted.{trimmed_by}
-use Rattle.strm_msg.specs.Bytes.{bytes_of, control_bytes}
-use Rattle.strm_msg.specs.Emptied.{without_emptied}
+use Rattle.strm_head.proofs.Prelude.{◌≡◌, ◌-◌, ◌∙◌, length, sym, ap, subst, arith, length-drop, front-cut, changed-chain, changed-in_hand}
+use Rattle.strm_head.specs.Prelude.{in_hand, changed, dropped, IsInHand, trimmed_head, token, trimmed_by, bytes_of, control_bytes, without_emptied}
 use Rattle.strm_msg.proofs.AdjustingBytes.{trimmed-heads}
-use Rattle.strm_msg.proofs.Cutting.{front-cut}
-use Rattle.strm_msg.proofs.Hands.{changed-chain, changed-in_hand, dropped-changed}
+use Rattle.strm_msg.proofs.Hands.{dropped-changed}
 use Rattle.strm_head.specs.Parted.{cut_by}
 use Rattle.strm_head.proofs.parts.leave_rest.Goals as goal
 

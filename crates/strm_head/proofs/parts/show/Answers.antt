@@ -1,10 +1,6 @@
 -- The bytes that are trimmed are those of the control part, and under the other modes all stays.
-use Rattle.std.proofs.Common.{◌≡◌, ◌-◌, ◌∙◌, length, sym, ap, arith}
-use Rattle.std.specs.Prelude.{unwrap_or}
-use Rattle.strm_blocks.specs.Blocks.{in_hand, changed, trimmed_head, token}
-use Rattle.strm_msg.specs.Adjusted.{trimmed_by}
-use Rattle.strm_msg.specs.Bytes.{control_blocks, control_bytes}
-use Rattle.strm_msg.proofs.Cutting.{front-cut}
+use Rattle.strm_head.proofs.Prelude.{◌≡◌, ◌-◌, ◌∙◌, length, sym, ap, arith, unwrap_or, front-cut}
+use Rattle.strm_head.specs.Prelude.{in_hand, changed, trimmed_head, token, trimmed_by, control_blocks, control_bytes}
 use Rattle.strm_msg.proofs.Hands.{changed-same}
 use Rattle.strm_head.specs.Parted.{cut_by, shown_chain}
 use Rattle.strm_head.proofs.Resting.{part-length}

@@ -1,6 +1,5 @@
-use Rattle.std.proofs.Common.{◌≡◌, ◌≤◌, ◌+◌, ◌++◌, length, take, drop}
-use Rattle.strm_blocks.specs.Blocks.{in_hand, token}
-use Rattle.strm_msg.specs.Bytes.{bytes_of}
+use Rattle.strm_head.proofs.Prelude.{◌≡◌, ◌≤◌, ◌+◌, ◌++◌, length, take, drop}
+use Rattle.strm_head.specs.Prelude.{in_hand, token, bytes_of}
 use Rattle.strm_head.proofs.reading.copy_into.Given as goal
 
 abbrev pub invariant-loop-at : goal.invariant-loop-at

@@ -1,8 +1,6 @@
 -- What is passed over goes where a message is taken behind, and else all stay.
-use Rattle.std.proofs.Common.{◌≡◌, ◌∙◌, true, refl, sym, ap, subst}
-use Rattle.strm_blocks.specs.Blocks.{list_at}
-use Rattle.strm_queue.specs.Stored.{messages_on}
-use Rattle.strm_queue.proofs.Kept.{head-kept, keeps-both, keeps-none, flags-both}
+use Rattle.strm_head.proofs.Prelude.{◌≡◌, ◌∙◌, true, refl, sym, ap, subst, head-kept, keeps-both, keeps-none, flags-both}
+use Rattle.strm_head.specs.Prelude.{list_at, messages_on}
 use Rattle.strm_head.specs.Drawing.{drawn_on, Stepped, behind_passed, first_goes}
 use Rattle.strm_head.specs.Leaving.{StepLeaves}
 use Rattle.strm_head.proofs.Left.{step-behind, step-taken, taken-none}

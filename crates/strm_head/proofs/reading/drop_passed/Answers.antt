@@ -1,8 +1,6 @@
 -- Each message that goes is one that is passed over.
-use Rattle.std.proofs.Common.{◌≡◌, ◌∙◌, true, drop, refl, sym, ap, subst}
-use Rattle.strm_blocks.specs.Blocks.{list_at}
-use Rattle.strm_queue.specs.Stored.{messages_on}
-use Rattle.strm_queue.proofs.Kept.{head-kept, keeps-both, keeps-none, flags-both}
+use Rattle.strm_head.proofs.Prelude.{◌≡◌, ◌∙◌, true, drop, refl, sym, ap, subst, head-kept, keeps-both, keeps-none, flags-both}
+use Rattle.strm_head.specs.Prelude.{list_at, messages_on}
 use Rattle.strm_head.proofs.Returned.{flags-none}
 use Rattle.strm_head.specs.Leaving.{Taken}
 use Rattle.strm_head.proofs.Left.{taken-both, taken-none}

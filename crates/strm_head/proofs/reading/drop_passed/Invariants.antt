@@ -1,6 +1,5 @@
-use Rattle.std.proofs.Common.{◌≡◌, length}
-use Rattle.strm_blocks.specs.Blocks.{list_at}
-use Rattle.strm_queue.specs.Stored.{messages_on, SameFlags, Keeps}
+use Rattle.strm_head.proofs.Prelude.{◌≡◌, length}
+use Rattle.strm_head.specs.Prelude.{list_at, messages_on, SameFlags, Keeps}
 use Rattle.strm_head.specs.Leaving.{Taken}
 use Rattle.strm_head.specs.Drawing.{behind_passed, first_passed}
 use Rattle.strm_head.proofs.reading.drop_passed.Given as goal

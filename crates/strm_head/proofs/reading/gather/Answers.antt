@@ -1,11 +1,9 @@
 -- Where nothing more is wanted, what was drawn is all.
-use Rattle.std.proofs.Common.{◌<◌, ◌++◌, false, length, refl, ap, subst, arith, length-append}
-use Rattle.strm_blocks.specs.Blocks.{list_at}
+use Rattle.strm_head.proofs.Prelude.{◌<◌, ◌++◌, false, length, refl, ap, subst, arith, length-append, head-kept, keeps-both, keeps-none, flags-both}
+use Rattle.strm_head.specs.Prelude.{list_at, messages_on}
 use Rattle.strm_head.specs.Leaving.{StepLeaves}
 use Rattle.strm_head.proofs.Left.{step-behind, step-taken, taken-none}
 use Rattle.strm_head.specs.Drawing.{drawn_on, Stepped}
-use Rattle.strm_queue.specs.Stored.{messages_on}
-use Rattle.strm_queue.proofs.Kept.{head-kept, keeps-both, keeps-none, flags-both}
 use Rattle.strm_head.proofs.Returned.{flags-none}
 use Rattle.strm_head.proofs.Gathers.{next-given, next-discarded, next-left, next-none, all-given, all-discarded, all-left}
 use Rattle.strm_head.proofs.reading.gather.Goals as goal

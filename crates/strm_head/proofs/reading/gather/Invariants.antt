@@ -1,8 +1,7 @@
-use Rattle.std.proofs.Common.{◌≡◌, ◌≤◌, ◌<◌, ◌+◌, ◌++◌, true, false, length}
-use Rattle.strm_blocks.specs.Blocks.{list_at}
+use Rattle.strm_head.proofs.Prelude.{◌≡◌, ◌≤◌, ◌<◌, ◌+◌, ◌++◌, true, false, length}
+use Rattle.strm_head.specs.Prelude.{list_at, messages_on, SameFlags, Keeps}
 use Rattle.strm_head.specs.Leaving.{StepLeaves}
 use Rattle.strm_head.specs.Drawing.{behind_passed, drawn_on, first_goes}
-use Rattle.strm_queue.specs.Stored.{messages_on, SameFlags, Keeps}
 use Rattle.strm_head.proofs.reading.gather.Given as goal
 
 abbrev pub invariant-loop-wanted : goal.invariant-loop-wanted

@@ -1,11 +1,9 @@
 -- Where there is nothing to take nothing is given, and what went but was neither given nor discarded was dropped.
-use Rattle.std.proofs.Common.{ℕ, ◌≡◌, ◌∙◌, ◌++◌, true, false, not, length, refl, sym, ap, arith}
-use Rattle.strm_types.specs.Queue.{relieved, relieves}
-use Rattle.strm_types.specs.Reads.{Drawn, head_draw, none_went}
+use Rattle.strm_head.proofs.Prelude.{ℕ, ◌≡◌, ◌∙◌, ◌++◌, true, false, length, refl, sym, ap, arith, keeps-none, keeps-counted}
+use Rattle.strm_head.specs.Prelude.{relieved, relieves, Drawn, head_draw, none_went, list_at, messages_on, queue_in}
+use Rattle.std.proofs.Common.{not}
 use Rattle.strm_types.proofs.ReadRefuses.{takes-none}
-use Rattle.strm_blocks.specs.Blocks.{list_at}
-use Rattle.strm_queue.specs.Stored.{messages_on, queue_in}
-use Rattle.strm_queue.proofs.Kept.{keeps-none, keeps-counted, keeps-from}
+use Rattle.strm_queue.proofs.Kept.{keeps-from}
 use Rattle.strm_head.proofs.Left.{frees, frees-none}
 use Rattle.strm_head.proofs.Seen.{takes-first}
 use Rattle.strm_head.proofs.Told.{told-none, told-some, queue-none, queue-some, goes-none, goes-some, queue-left, dropped-is}

@@ -1,15 +1,11 @@
 -- The first message gives its bytes, and is freed or put back with what it has left.
-use Rattle.std.proofs.Common.{◌-◌, ◌≡◌, ◌∙◌, ◌++◌, ◌<◌, true, false, map, length, take, min, refl, sym, ap, subst, arith}
+use Rattle.strm_head.proofs.Prelude.{◌-◌, ◌≡◌, ◌∙◌, ◌++◌, ◌<◌, true, false, map, length, take, min, refl, sym, ap, subst, arith, has-list, before}
+use Rattle.strm_head.proofs.Prelude.{behind, off, first-chain, first-holds}
+use Rattle.strm_head.specs.Prelude.{is_data_kind, offered, placed, dropped, put_back, in_hand, list_at, block_at, token, bytes_of, control_bytes}
+use Rattle.strm_head.specs.Prelude.{message_of, AreMessages, IsChain, messages_on, HoldsReadable}
 use Rattle.std.specs.Bool.{OnTrue, OnFalse}
 use Rattle.strm_types.specs.Queue as plain
-use Rattle.strm_types.specs.Flush.{is_data_kind}
-use Rattle.strm_types.specs.Reads.{offered}
-use Rattle.strm_blocks.specs.Blocks.{placed, dropped, put_back, in_hand, list_at, block_at, token}
-use Rattle.strm_msg.specs.Bytes.{bytes_of, control_bytes}
-use Rattle.strm_msg.specs.Messages.{message_of, AreMessages, IsChain}
-use Rattle.strm_queue.specs.Stored.{messages_on, HoldsReadable}
-use Rattle.strm_queue.proofs.Gotten.{has-list, before, behind, off, freed-keeps}
-use Rattle.strm_queue.proofs.Holding.{first-chain, first-holds}
+use Rattle.strm_queue.proofs.Gotten.{freed-keeps}
 use Rattle.strm_head.specs.Drawing.{discards, first_goes, more_behind}
 use Rattle.strm_head.specs.Parted.{cut_by, shown_chain, rest_chain}
 use Rattle.strm_head.proofs.Draws.{kept, freed}

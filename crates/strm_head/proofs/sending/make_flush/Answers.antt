@@ -1,10 +1,9 @@
 -- An M_FLUSH is one block.
-use Rattle.std.proofs.Common.{subst, ◌∙◌}
-use Rattle.strm_types.specs.Flushing.{flush_message}
+use Rattle.strm_head.proofs.Prelude.{subst, ◌∙◌}
+use Rattle.strm_head.specs.Prelude.{flush_message, token}
 use Rattle.strm_head.specs.Sending.{Sends}
 use Rattle.strm_head.proofs.Lone.{made-flush}
 use Rattle.strm_head.proofs.sending.make_flush.Goals as goal
-use Rattle.strm_blocks.specs.Blocks.{token}
 
 pub returns : goal.returns
 returns g c =

@@ -1,7 +1,6 @@
 -- Under RPROTDIS nothing is found where no message has a data part, and else where none stands.
-use Rattle.std.proofs.Common.{◌∙◌, sym, ap}
-use Rattle.std.specs.Prelude.{is_none}
-use Rattle.strm_blocks.specs.Blocks.{list_at}
+use Rattle.strm_head.proofs.Prelude.{◌∙◌, sym, ap, is_none}
+use Rattle.strm_head.specs.Prelude.{list_at}
 use Rattle.strm_head.proofs.Seen.{absent, none-found, quick-none}
 use Rattle.strm_head.proofs.standing.finds_none.Goals as goal
 

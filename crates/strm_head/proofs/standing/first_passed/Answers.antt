@@ -1,8 +1,6 @@
 -- What is measured of the first message tells whether a read passes it over.
-use Rattle.std.proofs.Common.{◌∙◌, sym, ap}
-use Rattle.std.specs.Prelude.{is_none}
-use Rattle.strm_blocks.specs.Blocks.{list_at}
-use Rattle.strm_queue.specs.Stored.{messages_on}
+use Rattle.strm_head.proofs.Prelude.{◌∙◌, sym, ap, is_none}
+use Rattle.strm_head.specs.Prelude.{list_at, messages_on}
 use Rattle.strm_head.proofs.Seen.{absent, first-kept, first-left}
 use Rattle.strm_head.proofs.standing.first_passed.Goals as goal
 

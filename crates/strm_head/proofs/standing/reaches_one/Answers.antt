@@ -1,9 +1,6 @@
 -- What is measured of the next message tells whether a read takes it.
-use Rattle.std.proofs.Common.{◌∙◌, sym, ap}
-use Rattle.std.specs.Prelude.{not, ◌&&◌, nat_lt, unwrap_or}
-use Rattle.strm_types.specs.Queue.{first_size}
-use Rattle.strm_blocks.specs.Blocks.{list_at}
-use Rattle.strm_queue.specs.Stored.{messages_on}
+use Rattle.strm_head.proofs.Prelude.{◌∙◌, sym, ap, not, ◌&&◌, nat_lt, unwrap_or}
+use Rattle.strm_head.specs.Prelude.{first_size, list_at, messages_on}
 use Rattle.strm_head.proofs.Seen.{first-goes, next-goes}
 use Rattle.strm_head.proofs.standing.reaches_one.Goals as goal
 

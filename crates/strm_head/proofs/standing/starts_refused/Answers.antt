@@ -1,12 +1,6 @@
 -- What is seen of the first message tells whether it has a control part.
-use Rattle.std.proofs.Common.{◌∙◌, sym, ap, subst, map}
-use Rattle.strm_types.specs.declared.modes.ControlMode.TheVariants.{Refuse}
-use Rattle.strm_types.specs.Flush.{is_data_kind}
-use Rattle.strm_types.specs.Kinds.{is_control_kind}
-use Rattle.strm_types.specs.Reads.{starts_refused}
-use Rattle.strm_msg.specs.Messages.{message_of}
-use Rattle.strm_queue.specs.Stored.{HoldsReadable, messages_on}
-use Rattle.strm_queue.proofs.Holding.{first-holds}
+use Rattle.strm_head.proofs.Prelude.{◌∙◌, sym, ap, subst, map, first-holds}
+use Rattle.strm_head.specs.Prelude.{Refuse, is_data_kind, is_control_kind, starts_refused, message_of, HoldsReadable, messages_on}
 use Rattle.strm_head.proofs.Seen.{control-there}
 use Rattle.strm_head.proofs.standing.starts_refused.Goals as goal
 

@@ -1,6 +1,5 @@
-use Rattle.std.proofs.Common.{◌≡◌, ◌<◌, ◌∙◌, arith, length, sym, take, length-set}
-use Rattle.std.proofs.lemmas.List.{take_all, take_more_set}
-use Rattle.strm_types.specs.declared.rules.TheConstants.{RULES}
+use Rattle.strm_image.proofs.Prelude.{◌≡◌, ◌<◌, ◌∙◌, arith, length, sym, take, length-set, take_all, take_more_set}
+use Rattle.strm_image.specs.Prelude.{RULES}
 use Rattle.strm_image.specs.Format.{always, at_end, keep, u64}
 use Rattle.strm_image.specs.Image.{rule_counts}
 use Rattle.strm_image.proofs.Formats.{gather_all, gather_done, gather_more, gather_refused}

@@ -1,6 +1,5 @@
-use Rattle.std.proofs.Common.{◌≡◌, ◌<◌, ◌∙◌, arith, length, map, refl, sym, take, length-set}
+use Rattle.strm_image.proofs.Prelude.{◌≡◌, ◌<◌, ◌∙◌, arith, length, map, refl, sym, take, length-set, map_push, take_all, take_more_set}
 use Rattle.std.proofs.lemmas.List.Elements.{All-replicate, All-set}
-use Rattle.std.proofs.lemmas.List.{map_push, take_all, take_more_set}
 use Rattle.strm_image.specs.declared.versions.TheConstants.{FIRST_BANDS}
 use Rattle.strm_image.specs.FlowTexts.{IsMarked, flow_now}
 use Rattle.strm_image.specs.Format.{always, at_end, keep}

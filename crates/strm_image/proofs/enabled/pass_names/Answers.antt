@@ -1,5 +1,4 @@
-use Rattle.std.proofs.Common.{[], ◌∷◌, arith}
-use Rattle.std.proofs.lemmas.List.{length-append}
+use Rattle.strm_image.proofs.Prelude.{[], ◌∷◌, arith, length-append}
 use Rattle.strm_image.specs.Format.{at_end}
 use Rattle.strm_image.specs.Image.{enabled_behind, next_enabled}
 use Rattle.strm_image.proofs.Formats.{gather_more}

@@ -1,6 +1,5 @@
 -- What is read in order, and then the tests of the whole.
-use Rattle.std.proofs.Common.{◌≡◌, true, false, List, ℕ, Some, refl, sym, ◌∙◌, arith}
-use Rattle.std.proofs.lemmas.Bool.{le-ltb, lt-ltb}
+use Rattle.strm_image.proofs.Prelude.{◌≡◌, true, false, List, ℕ, Some, refl, sym, ◌∙◌, arith, le-ltb, lt-ltb}
 use Rattle.strm_image.specs.declared.versions.Version.{Version}
 use Rattle.strm_image.specs.AccountTexts.{account_now}
 use Rattle.strm_image.specs.Codes.{flag, openness}

@@ -1,6 +1,5 @@
-use Rattle.std.proofs.Common.{◌≡◌, [], Some, arith, refl}
-use Rattle.std.proofs.lemmas.Bool.{le-leb}
-use Rattle.strm_types.specs.declared.limits.TheConstants.{MODULES}
+use Rattle.strm_image.proofs.Prelude.{◌≡◌, [], Some, arith, refl, le-leb}
+use Rattle.strm_image.specs.Prelude.{MODULES}
 use Rattle.strm_image.specs.Format.{byte, only}
 use Rattle.strm_image.specs.Modules.{are_few, module_below, modules, next_names}
 use Rattle.strm_image.specs.ModuleTexts.{modules_now}

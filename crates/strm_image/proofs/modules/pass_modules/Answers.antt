@@ -1,6 +1,5 @@
-use Rattle.std.proofs.Common.{[], ◌∷◌, arith}
-use Rattle.std.proofs.lemmas.List.{length-append, map_push}
-use Rattle.strm_laws.specs.Stacked.{module_name}
+use Rattle.strm_image.proofs.Prelude.{[], ◌∷◌, arith, length-append, map_push}
+use Rattle.strm_image.specs.Prelude.{module_name}
 use Rattle.strm_image.specs.Format.{at_end}
 use Rattle.strm_image.specs.Modules.{module_below, next_names}
 use Rattle.strm_image.specs.ModuleTexts.{module_now, modules_now, names_now}

@@ -1,6 +1,5 @@
-use Rattle.std.proofs.Common.{sym, subst}
+use Rattle.strm_laws.proofs.Prelude.{sym, subst, signals-fit}
 use Rattle.strm_laws.specs.Within.{AreWithin}
-use Rattle.strm_types.proofs.SignalRoom.{signals-fit}
 use Rattle.strm_laws.proofs.WithinHeads.{put-within}
 use Rattle.strm_laws.proofs.WithinSteps.{opening-within, step-within}
 use Rattle.strm_laws.proofs.head_laws.heads_keep_little.Goals as goal

@@ -1,9 +1,8 @@
-use Rattle.std.proofs.Common.{sym, subst}
+use Rattle.strm_laws.proofs.Prelude.{sym, subst, weight-put, weight-put_back}
 use Rattle.strm_laws.specs.Kept.{AreIdle, NothingUnread}
 use Rattle.strm_laws.proofs.Kept.{step-keeps}
 use Rattle.strm_laws.proofs.Unread.{step-unread, opening-unread}
 use Rattle.strm_laws.proofs.StepsIdle.{opening-idle, step-idle}
-use Rattle.strm_types.proofs.Weights.{weight-put, weight-put_back}
 use Rattle.strm_laws.proofs.FirstTaken.{taken-weight}
 use Rattle.strm_laws.proofs.laws.bytes_are_kept.Goals as goal
 

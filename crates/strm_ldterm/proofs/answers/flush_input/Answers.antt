@@ -1,9 +1,6 @@
 -- By the command.
-use Rattle.std.proofs.Common.{List, [], ◌∷◌, cond, refl, sym, ◌∙◌}
-use Rattle.strm_types.specs.declared.names.Way.TheVariants.{Up}
-use Rattle.strm_types.specs.declared.spots.Note.{Note}
-use Rattle.strm_types.specs.declared.spots.Note.TheVariants.{Room}
-use Rattle.strm_types.specs.Ldterms.{sends}
+use Rattle.strm_ldterm.proofs.Prelude.{List, [], ◌∷◌, cond, refl, sym, ◌∙◌}
+use Rattle.strm_ldterm.specs.Prelude.{Up, Note, Room, sends}
 use Rattle.strm_ldterm.specs.Stands.{ldterm_in, paired}
 use Rattle.strm_ldterm.proofs.Flushed.{kept-still}
 use Rattle.strm_ldterm.proofs.Sends.{sends-none}

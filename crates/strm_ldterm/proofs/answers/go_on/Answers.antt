@@ -1,13 +1,9 @@
 -- It takes nothing.
-use Rattle.std.proofs.Common.{◌∙◌}
-use Rattle.strm_types.specs.Budgets.{own_at}
-use Rattle.strm_types.specs.Tables.{ldterm_does}
-use Rattle.strm_types.specs.LdtermPuts.{goes_on}
-use Rattle.strm_frame.specs.Outboxes.{message_in}
+use Rattle.strm_ldterm.proofs.Prelude.{◌∙◌}
+use Rattle.strm_ldterm.specs.Prelude.{own_at, ldterm_does, goes_on, message_in, token}
 use Rattle.strm_ldterm.specs.Stands.{ldterm_in}
 use Rattle.strm_ldterm.proofs.TakingUp.{does-puts}
 use Rattle.strm_ldterm.proofs.answers.go_on.Goals as goal
-use Rattle.strm_blocks.specs.Blocks.{token}
 
 pub returns : goal.returns
 returns c = λ s x f held chain.

@@ -1,20 +1,13 @@
 -- By the command, and then by the length of the payload.
-use Rattle.std.proofs.Common.{◌≡◌, Bool, cond, sym, ap, subst, ◌∙◌, arith}
-use Rattle.std.specs.Prelude.{Option, None, Some}
-use Rattle.strm_types.specs.declared.termios.Termios.{Termios}
+use Rattle.strm_ldterm.proofs.Prelude.{◌≡◌, Bool, cond, sym, ap, subst, ◌∙◌, arith, Option, None, Some, acked-plain, can-in_hand}
+use Rattle.strm_ldterm.specs.Prelude.{Termios, own_at, ldterm_does, goes_on, message_in, token}
 use Rattle.strm_types.specs.Acks.{payload}
-use Rattle.strm_types.specs.Budgets.{own_at}
-use Rattle.strm_types.specs.Tables.{ldterm_does}
-use Rattle.strm_types.specs.LdtermPuts.{goes_on, told_termios}
+use Rattle.strm_types.specs.LdtermPuts.{told_termios}
 use Rattle.strm_types.specs.Termios.{read_termios}
-use Rattle.strm_frame.specs.Outboxes.{message_in}
-use Rattle.strm_frame.proofs.Asked.{acked-plain}
 use Rattle.strm_frame.proofs.Behind.{first-tell, termios_read}
-use Rattle.strm_frame.proofs.Handing.{can-in_hand}
 use Rattle.strm_ldterm.specs.Does.{Puts}
 use Rattle.strm_ldterm.specs.Stands.{ldterm_in, paired}
 use Rattle.strm_ldterm.proofs.answers.obey.Goals as goal
-use Rattle.strm_blocks.specs.Blocks.{token}
 
 pub returns-then-not-sets_termios : goal.returns-then-not-sets_termios
 returns-then-not-sets_termios g c =

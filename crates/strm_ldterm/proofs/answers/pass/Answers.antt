@@ -1,13 +1,9 @@
 -- By the way.
-use Rattle.std.proofs.Common.{sym, subst}
-use Rattle.strm_types.specs.Budgets.{own_at}
-use Rattle.strm_types.specs.Tables.{ldterm_does}
-use Rattle.strm_types.specs.LdtermPuts.{passes_on_way}
-use Rattle.strm_frame.specs.Outboxes.{message_in}
+use Rattle.strm_ldterm.proofs.Prelude.{sym, subst}
+use Rattle.strm_ldterm.specs.Prelude.{own_at, ldterm_does, passes_on_way, message_in, token}
 use Rattle.strm_ldterm.specs.Does.{Puts}
 use Rattle.strm_ldterm.specs.Stands.{ldterm_in, paired}
 use Rattle.strm_ldterm.proofs.answers.pass.Goals as goal
-use Rattle.strm_blocks.specs.Blocks.{token}
 
 pub returns-in-Down : goal.returns-in-Down
 returns-in-Down g c =

@@ -1,20 +1,13 @@
 -- By the kind, and then by the header.
-use Rattle.std.proofs.Common.{◌≡◌, Bool, true, false, cond, sym, subst, ◌∙◌, arith}
-use Rattle.std.specs.Prelude.{Option, None, Some}
+use Rattle.strm_ldterm.proofs.Prelude.{◌≡◌, Bool, true, false, cond, sym, subst, ◌∙◌, arith, Option, None, Some, acked-plain, can-in_hand, acked-own}
+use Rattle.strm_ldterm.specs.Prelude.{own_at, ldterm_does, read_ioc, goes_on, message_in, token}
 use Rattle.strm_types.specs.declared.ioctls.Ioc.{Ioc}
 use Rattle.strm_types.specs.Commands.{is_acked}
-use Rattle.strm_types.specs.Budgets.{own_at}
-use Rattle.strm_types.specs.Tables.{ldterm_does}
-use Rattle.strm_types.specs.Ioctls.{read_ioc}
-use Rattle.strm_types.specs.LdtermPuts.{goes_on, told_by_header}
-use Rattle.strm_frame.specs.Outboxes.{message_in}
-use Rattle.strm_frame.proofs.Asked.{acked-is, acked-not, acked-plain}
-use Rattle.strm_frame.proofs.Handing.{can-in_hand}
+use Rattle.strm_types.specs.LdtermPuts.{told_by_header}
+use Rattle.strm_frame.proofs.Asked.{acked-is, acked-not}
 use Rattle.strm_ldterm.specs.Does.{Puts}
 use Rattle.strm_ldterm.specs.Stands.{ldterm_in, paired}
-use Rattle.strm_types.proofs.LdtermWithin.{acked-own}
 use Rattle.strm_ldterm.proofs.answers.pass_up.Goals as goal
-use Rattle.strm_blocks.specs.Blocks.{token}
 
 pub returns-then-not-is_iocack : goal.returns-then-not-is_iocack
 returns-then-not-is_iocack g c =

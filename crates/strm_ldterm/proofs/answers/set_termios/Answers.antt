@@ -1,17 +1,12 @@
 -- The line goes up, or there is none to go.
-use Rattle.std.proofs.Common.{ℕ, ◌≡◌, List, [], ◌∷◌, ◌++◌, refl, sym, ap, subst, ◌∙◌, append-nil}
-use Rattle.strm_types.specs.declared.names.Way.TheVariants.{Up}
-use Rattle.strm_types.specs.Deliver.{toward, onward}
-use Rattle.strm_types.specs.Ldterms.{sends}
-use Rattle.strm_types.specs.Message.{data_message}
-use Rattle.strm_frame.specs.declared.parcels.Sent.{Sent}
+use Rattle.strm_ldterm.proofs.Prelude.{ℕ, ◌≡◌, List, [], ◌∷◌, ◌++◌, refl, sym, ap, subst, ◌∙◌, append-nil}
+use Rattle.strm_ldterm.specs.Prelude.{Up, toward, onward, sends, data_message, Sent, token}
 use Rattle.strm_ldterm.specs.Sending.{MadeOne}
 use Rattle.strm_ldterm.specs.Stands.{ldterm_in, paired}
 use Rattle.strm_ldterm.proofs.Sends.{sends-made}
 use Rattle.strm_ldterm.proofs.TakingUp.{held-set, line-none, line-sent, termios-none}
 use Rattle.strm_ldterm.proofs.answers.set_termios.Goals as goal
 use Rattle.strm_ldterm.proofs.answers.set_termios.Goals.{then-not-ends-via-then-not-ends, then-not-ends-via-else-not-ends+then-len-eq0}
-use Rattle.strm_blocks.specs.Blocks.{token}
 
 pub returns-then-not-ends : goal.returns-then-not-ends
 returns-then-not-ends g c = λ q f held kept.

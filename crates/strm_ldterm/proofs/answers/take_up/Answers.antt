@@ -1,26 +1,13 @@
 -- Input is flushed, the termios is set, the mode is told, and the message goes on.
-use Rattle.std.proofs.Common.{ℕ, List, [], ◌∷◌, ◌∙◌, ap, cond, refl, subst, arith}
+use Rattle.strm_ldterm.proofs.Prelude.{ℕ, List, [], ◌∷◌, ◌∙◌, ap, cond, refl, subst, arith, acked-own}
+use Rattle.strm_ldterm.specs.Prelude.{Setopts, Up, Note, Room, own_at, ldterm_does, onward, sends, read_mode_of, bare, Sent, message_in, token}
 use Rattle.std.specs.Option.{option_to_list}
-use Rattle.strm_types.specs.declared.kinds.MsgKind.TheVariants.{Setopts}
-use Rattle.strm_types.specs.declared.names.Way.TheVariants.{Up}
-use Rattle.strm_types.specs.declared.spots.Note.{Note}
-use Rattle.strm_types.specs.declared.spots.Note.TheVariants.{Room}
-use Rattle.strm_types.specs.Budgets.{own_at}
-use Rattle.strm_types.specs.Tables.{ldterm_does}
-use Rattle.strm_types.specs.Deliver.{onward}
-use Rattle.strm_types.specs.Ldterms.{sends}
 use Rattle.strm_types.specs.Options.{mode_number}
-use Rattle.strm_types.specs.TakenUp.{read_mode_of}
-use Rattle.strm_types.specs.Typing.{bare}
-use Rattle.strm_frame.specs.declared.parcels.Sent.{Sent}
-use Rattle.strm_frame.specs.Outboxes.{message_in}
 use Rattle.strm_ldterm.specs.Does.{Proceeds}
 use Rattle.strm_ldterm.specs.Stands.{ldterm_in, paired}
 use Rattle.strm_ldterm.specs.TakingUp.{flush_takes, line_takes}
-use Rattle.strm_types.proofs.LdtermWithin.{acked-own}
 use Rattle.strm_ldterm.proofs.TakingUp.{can-kept, mode-plain, noted-kept, noted-room, room-left, takes-up}
 use Rattle.strm_ldterm.proofs.answers.take_up.Goals as goal
-use Rattle.strm_blocks.specs.Blocks.{token}
 
 pub send_up-mode-requires-clause-room : goal.send_up-mode-requires-clause-room
 send_up-mode-requires-clause-room g c =

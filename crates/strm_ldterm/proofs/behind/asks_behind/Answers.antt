@@ -1,11 +1,9 @@
 -- By the kind, and then by the header.
-use Rattle.std.proofs.Common.{sym, ap, ◌∙◌, ◌&&◌}
-use Rattle.strm_types.specs.Ioctls.{read_ioc}
-use Rattle.strm_types.specs.LdtermPuts.{waits_behind}
-use Rattle.strm_frame.specs.Outboxes.{message_in}
+use Rattle.strm_ldterm.proofs.Prelude.{sym, ap, ◌∙◌}
+use Rattle.strm_ldterm.specs.Prelude.{read_ioc, waits_behind, message_in, token}
+use Rattle.std.proofs.Common.{◌&&◌}
 use Rattle.strm_frame.proofs.Asked.{asked-is, asked-not, asked-plain}
 use Rattle.strm_ldterm.proofs.behind.asks_behind.Goals as goal
-use Rattle.strm_blocks.specs.Blocks.{token}
 
 pub returns-then-not-is_ioctl : goal.returns-then-not-is_ioctl
 returns-then-not-is_ioctl g c =

@@ -1,13 +1,8 @@
 -- No echo grows from then on, the message in work goes back, and what was gathered goes up.
-use Rattle.std.proofs.Common.{ℕ, false, [], sym, subst, append-nil}
-use Rattle.std.proofs.lemmas.Bool.{false≢true}
-use Rattle.std.specs.Prelude.{None}
+use Rattle.strm_ldterm.proofs.Prelude.{ℕ, false, [], sym, subst, append-nil, false≢true, None}
+use Rattle.strm_ldterm.specs.Prelude.{plain, back_on, finished, sends, gathered_up}
 use Rattle.std.specs.Option.{option_to_list}
-use Rattle.strm_types.specs.Cells.{plain}
-use Rattle.strm_types.specs.Input.{back_on, finished}
 use Rattle.strm_types.specs.Ldterms as ldterms
-use Rattle.strm_types.specs.Ldterms.{sends}
-use Rattle.strm_types.specs.Typing.{gathered_up}
 use Rattle.strm_ldterm.specs.declared.ldterm.Stage.TheVariants.{Between}
 use Rattle.strm_ldterm.specs.Stands.{ldterm_in, paired}
 use Rattle.strm_ldterm.specs.Does.{Proceeds}

@@ -1,9 +1,6 @@
 -- What is left goes back to the list, or the message is freed.
-use Rattle.std.proofs.Common.{ap, sym, subst, refl, arith, ◌∙◌}
-use Rattle.std.specs.Prelude.{Some}
-use Rattle.strm_queue.specs.Stored.{queue_in, Changes, FreesBlocks}
-use Rattle.strm_blocks.specs.Blocks.{dropped, token}
-use Rattle.strm_frame.specs.Outboxes.{message_in}
+use Rattle.strm_ldterm.proofs.Prelude.{ap, sym, subst, refl, arith, ◌∙◌, Some}
+use Rattle.strm_ldterm.specs.Prelude.{queue_in, Changes, FreesBlocks, dropped, token, message_in}
 use Rattle.strm_ldterm.proofs.Finished.{back-none, back-some}
 use Rattle.strm_ldterm.proofs.Returning.{freed-changes, freed-frees}
 use Rattle.strm_ldterm.proofs.call_ends.return_rest.Goals as goal

@@ -1,9 +1,6 @@
 -- What was gathered leaves the module.
-use Rattle.std.proofs.Common.{sym, subst, [], ◌∷◌, ◌∙◌, ◌≡◌}
-use Rattle.std.specs.Prelude.{Some}
-use Rattle.strm_types.specs.Cells.{plain}
-use Rattle.strm_types.specs.Ldterms.{sends}
-use Rattle.strm_types.specs.Typing.{gathered_up}
+use Rattle.strm_ldterm.proofs.Prelude.{sym, subst, [], ◌∷◌, ◌∙◌, ◌≡◌, Some}
+use Rattle.strm_ldterm.specs.Prelude.{plain, sends, gathered_up}
 use Rattle.strm_ldterm.specs.Stands.{ldterm_in, paired}
 use Rattle.strm_ldterm.specs.Does.{Proceeds}
 use Rattle.strm_ldterm.proofs.Finished.{gathered-sent, gathered-none}

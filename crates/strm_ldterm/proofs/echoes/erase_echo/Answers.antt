@@ -1,6 +1,5 @@
-use Rattle.std.proofs.Common.{◌≡◌, List, ℕ, true, ◌-◌, length, take, drop, ap, ◌∙◌, rules, arith}
-use Rattle.strm_types.specs.Echo.{column_from}
-use Rattle.strm_types.specs.Termios.{echo, echoe}
+use Rattle.strm_ldterm.proofs.Prelude.{◌≡◌, List, ℕ, true, ◌-◌, length, take, drop, ap, ◌∙◌, rules, arith}
+use Rattle.strm_ldterm.specs.Prelude.{column_from, echo, echoe}
 use Rattle.strm_ldterm.proofs.Columns.{column_from-grows, erase_echo-rubs}
 use Rattle.strm_ldterm.proofs.Runs.{to_end}
 use Rattle.strm_ldterm.proofs.echoes.erase_echo.Goals as goal

@@ -1,5 +1,4 @@
-use Rattle.std.proofs.Common.{◌≡◌, ◌≤◌, ◌+◌, ◌*◌, length, drop}
-use Rattle.std.specs.Prelude.{flat_map}
+use Rattle.strm_ldterm.proofs.Prelude.{◌≡◌, ◌≤◌, ◌+◌, ◌*◌, length, drop, flat_map}
 use Rattle.strm_ldterm.specs.Echoes.{shown}
 use Rattle.strm_ldterm.proofs.echoes.shown_len.Given as goal
 

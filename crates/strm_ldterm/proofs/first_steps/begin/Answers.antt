@@ -1,12 +1,7 @@
 -- The byte is taken first.
-use Rattle.std.proofs.Common.{ℕ, [], drop, sym, ap, subst, ◌∙◌, arith}
-use Rattle.strm_types.specs.Cells.{plain}
-use Rattle.strm_types.specs.Input.{cells_left, with_left, begins_next}
+use Rattle.strm_ldterm.proofs.Prelude.{ℕ, [], drop, sym, ap, subst, ◌∙◌, arith}
+use Rattle.strm_ldterm.specs.Prelude.{plain, cells_left, with_left, begins_next, sends, begins, Acted, sent_of}
 use Rattle.strm_types.specs.Ldterms as ldterms
-use Rattle.strm_types.specs.Ldterms.{sends}
-use Rattle.strm_types.specs.Typing.{begins}
-use Rattle.strm_types.specs.Deliver.{Acted}
-use Rattle.strm_frame.specs.Outboxes.{sent_of}
 use Rattle.strm_ldterm.specs.Stands.{ldterm_in, paired}
 use Rattle.strm_ldterm.specs.Does.{Proceeds}
 use Rattle.strm_ldterm.proofs.Begun.{takes-more}

@@ -1,9 +1,6 @@
 -- Whether the byte starts output.
-use Rattle.std.proofs.Common.{◌≡◌, sym, ap, ◌∙◌}
-use Rattle.std.specs.Prelude.{◌&&◌}
-use Rattle.strm_types.specs.Cells.{plain}
-use Rattle.strm_types.specs.Keys.{restarts}
-use Rattle.strm_types.specs.Typing.{stroke_at}
+use Rattle.strm_ldterm.proofs.Prelude.{◌≡◌, sym, ap, ◌∙◌, ◌&&◌}
+use Rattle.strm_ldterm.specs.Prelude.{plain, restarts, stroke_at}
 use Rattle.strm_ldterm.specs.Stands.{ldterm_in, paired}
 use Rattle.strm_ldterm.proofs.Begun.{begins-quiet, begins-starts, start-plain}
 use Rattle.strm_ldterm.proofs.first_steps.begin_with.Goals.{then-ldterm, else-ldterm}

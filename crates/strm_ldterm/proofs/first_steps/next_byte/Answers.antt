@@ -1,17 +1,12 @@
 -- The message in work has a byte less.
-use Rattle.std.proofs.Common.{ℕ, ◌≡◌, [], drop, sym, subst, ◌∙◌, arith}
-use Rattle.std.specs.Prelude.{IfSome, Some}
-use Rattle.strm_types.specs.Input.{cells_left, left_of, with_left}
+use Rattle.strm_ldterm.proofs.Prelude.{ℕ, ◌≡◌, [], drop, sym, subst, ◌∙◌, arith, IfSome, Some}
+use Rattle.strm_ldterm.specs.Prelude.{cells_left, left_of, with_left, sends, cells_of, message_in, token}
 use Rattle.strm_types.specs.Ldterms as ldterms
-use Rattle.strm_types.specs.Ldterms.{sends}
-use Rattle.strm_types.specs.Message.{cells_of}
-use Rattle.strm_frame.specs.Outboxes.{message_in}
 use Rattle.strm_ldterm.specs.Stands.{ldterm_in, IsData, paired}
 use Rattle.strm_ldterm.specs.Does.{Proceeds}
 use Rattle.strm_ldterm.proofs.Beside.{chain-in-hand}
 use Rattle.strm_ldterm.proofs.Begun.{work-comes, idle-proceeds, busy-left, busy-byte}
 use Rattle.strm_ldterm.proofs.first_steps.next_byte.Goals as goal
-use Rattle.strm_blocks.specs.Blocks.{token}
 
 pub take_byte-byte-requires-clause-in_hand : goal.take_byte-byte-requires-clause-in_hand
 take_byte-byte-requires-clause-in_hand g c =

@@ -1,10 +1,6 @@
 -- The first block has the next byte, or none is left.
-use Rattle.std.proofs.Common.{ℕ, ◌≡◌, ◌∷◌, drop, length, sym, ap, subst, ◌∙◌}
-use Rattle.std.specs.Prelude.{slice_index_or}
-use Rattle.strm_types.specs.Input.{left_of}
-use Rattle.strm_types.specs.Message.{Message, cells_of}
-use Rattle.strm_blocks.specs.Blocks.{block_at, in_hand, token}
-use Rattle.strm_frame.specs.Outboxes.{message_in}
+use Rattle.strm_ldterm.proofs.Prelude.{ℕ, ◌≡◌, ◌∷◌, drop, length, sym, ap, subst, ◌∙◌, slice_index_or}
+use Rattle.strm_ldterm.specs.Prelude.{left_of, Message, cells_of, block_at, in_hand, token, message_in}
 use Rattle.strm_ldterm.specs.Becoming.{Becomes}
 use Rattle.strm_ldterm.proofs.Skipped.{left-none, becomes-both, byte-becomes, byte-is, front-becomes, front-in}
 use Rattle.strm_ldterm.proofs.first_steps.take_byte.Goals as goal

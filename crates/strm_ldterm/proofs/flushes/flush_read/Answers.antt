@@ -1,13 +1,6 @@
 -- First the queue, then the line.
-use Rattle.std.proofs.Common.{◌≡◌, Bool, true, false, cond, List, [], ◌∷◌, refl, ap, ◌∙◌}
-use Rattle.std.specs.Prelude.{not}
-use Rattle.strm_types.specs.declared.names.Way.TheVariants.{Up}
-use Rattle.strm_types.specs.declared.spots.Note.{Note}
-use Rattle.strm_types.specs.declared.spots.Note.TheVariants.{Room}
-use Rattle.strm_types.specs.Deliver.{Goes, counted_with}
-use Rattle.strm_types.specs.declared.rules.Rule.TheVariants.{Flushed}
-use Rattle.strm_types.specs.Emptied.{of_data, cells_gone}
-use Rattle.strm_queue.specs.Stored.{messages_on}
+use Rattle.strm_ldterm.proofs.Prelude.{◌≡◌, Bool, true, false, cond, List, [], ◌∷◌, refl, ap, ◌∙◌, not}
+use Rattle.strm_ldterm.specs.Prelude.{Up, Note, Room, Goes, counted_with, Flushed, of_data, cells_gone, messages_on}
 use Rattle.strm_ldterm.specs.Stands.{paired}
 use Rattle.strm_ldterm.proofs.Flushed.{flushes-up, line-after}
 use Rattle.strm_ldterm.proofs.flushes.flush_read.Goals as goal

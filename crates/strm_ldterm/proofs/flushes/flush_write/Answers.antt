@@ -1,14 +1,6 @@
 -- The turn's echo goes with band 0.
-use Rattle.std.proofs.Common.{◌≡◌, Bool, true, false, cond, List, [], ◌∷◌, refl, sym, ap, ◌∙◌}
-use Rattle.std.specs.Prelude.{not, ◌&&◌}
-use Rattle.std.proofs.lemmas.Bool.{and_parts}
-use Rattle.strm_types.specs.declared.names.Way.TheVariants.{Down}
-use Rattle.strm_types.specs.declared.spots.Note.{Note}
-use Rattle.strm_types.specs.declared.spots.Note.TheVariants.{Room}
-use Rattle.strm_types.specs.Deliver.{Goes, counted_with}
-use Rattle.strm_types.specs.declared.rules.Rule.TheVariants.{Flushed}
-use Rattle.strm_types.specs.Emptied.{of_data, cells_gone}
-use Rattle.strm_queue.specs.Stored.{messages_on}
+use Rattle.strm_ldterm.proofs.Prelude.{◌≡◌, Bool, true, false, cond, List, [], ◌∷◌, refl, sym, ap, ◌∙◌, not, ◌&&◌, and_parts}
+use Rattle.strm_ldterm.specs.Prelude.{Down, Note, Room, Goes, counted_with, Flushed, of_data, cells_gone, messages_on}
 use Rattle.strm_ldterm.specs.Stands.{paired}
 use Rattle.strm_ldterm.proofs.Beside.{held-quieter}
 use Rattle.strm_ldterm.proofs.Flushed.{flushes-down, write-after}

@@ -1,11 +1,8 @@
 -- By the room in the line, and by IMAXBEL.
-use Rattle.std.proofs.Common.{[], ◌∷◌, ◌++◌, refl, sym, subst, ◌∙◌, arith}
+use Rattle.strm_ldterm.proofs.Prelude.{[], ◌∷◌, ◌++◌, refl, sym, subst, ◌∙◌, arith}
+use Rattle.strm_ldterm.specs.Prelude.{LineFull, LineOver, plain, sends, edited, is_blank, Types, lost}
 use Rattle.std.proofs.lemmas.List.{length_push}
-use Rattle.strm_types.specs.declared.rules.Rule.TheVariants.{LineFull, LineOver}
-use Rattle.strm_types.specs.Cells.{plain}
-use Rattle.strm_types.specs.Ldterms.{sends}
-use Rattle.strm_types.specs.Lines.{edited, is_blank, Types}
-use Rattle.strm_types.specs.Typing.{dropped, lost}
+use Rattle.strm_types.specs.Typing.{dropped}
 use Rattle.strm_ldterm.specs.Stands.{ldterm_in, paired}
 use Rattle.strm_ldterm.specs.Does.{Proceeds}
 use Rattle.strm_ldterm.proofs.Strikes.{added-room, added-full, added-over, line-proceeds}

@@ -1,8 +1,6 @@
 -- A new message, or one that grows.
-use Rattle.std.proofs.Common.{[], ◌++◌, sym, subst, ◌≡◌, ◌∙◌}
-use Rattle.std.specs.Prelude.{None, Some}
-use Rattle.strm_types.specs.Ldterms.{sends}
-use Rattle.strm_frame.specs.Hands.{AreIn}
+use Rattle.strm_ldterm.proofs.Prelude.{[], ◌++◌, sym, subst, ◌≡◌, ◌∙◌, None, Some}
+use Rattle.strm_ldterm.specs.Prelude.{sends, AreIn}
 use Rattle.strm_ldterm.specs.Stands.{ldterm_in, kept_in, cells_kept, keeps, IsHeld, paired}
 use Rattle.strm_ldterm.specs.Does.{Proceeds}
 use Rattle.strm_ldterm.proofs.Gathered.{new-gathered, grown-gathered}

@@ -1,10 +1,7 @@
 -- Only the line alters, and what it loses is told.
-use Rattle.std.proofs.Common.{length, drop, refl, sym, ap, ◌∙◌, ◌-◌}
+use Rattle.strm_ldterm.proofs.Prelude.{length, drop, refl, sym, ap, ◌∙◌, ◌-◌}
+use Rattle.strm_ldterm.specs.Prelude.{Erased, plain, edited, is_blank, ErasesByte, edits}
 use Rattle.std.proofs.lemmas.List.{length-drop}
-use Rattle.strm_types.specs.declared.rules.Rule.TheVariants.{Erased}
-use Rattle.strm_types.specs.Cells.{plain}
-use Rattle.strm_types.specs.Lines.{edited, is_blank, ErasesByte}
-use Rattle.strm_types.specs.Typing.{edits}
 use Rattle.strm_ldterm.specs.Stands.{ldterm_in, paired}
 use Rattle.strm_ldterm.proofs.Strikes.{line-proceeds}
 use Rattle.strm_ldterm.proofs.line_keys.strike_erase.Goals as goal

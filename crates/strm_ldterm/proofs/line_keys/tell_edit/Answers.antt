@@ -1,9 +1,7 @@
 -- One after the other.
-use Rattle.std.proofs.Common.{[], ◌∷◌, refl, sym, ap, ◌∙◌}
+use Rattle.strm_ldterm.proofs.Prelude.{[], ◌∷◌, refl, sym, ap, ◌∙◌}
+use Rattle.strm_ldterm.specs.Prelude.{plain, tallied, lost}
 use Rattle.strm_types.specs.declared.rules.Rule.TheVariants.{EraseKey}
-use Rattle.strm_types.specs.Cells.{plain}
-use Rattle.strm_types.specs.Deliver.{tallied}
-use Rattle.strm_types.specs.Typing.{lost}
 use Rattle.strm_ldterm.proofs.Strikes.{told-append}
 use Rattle.strm_ldterm.proofs.line_keys.tell_edit.Goals as goal
 

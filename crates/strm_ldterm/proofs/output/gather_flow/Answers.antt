@@ -1,8 +1,7 @@
 -- Where nothing was given, nothing is gathered.
-use Rattle.std.proofs.Common.{◌≡◌, ◌++◌, [], length, sym, ap, subst, ◌∙◌, arith, append-nil}
-use Rattle.std.proofs.lemmas.Bool.Decides.{nat_tests}
+use Rattle.strm_ldterm.proofs.Prelude.{◌≡◌, ◌++◌, [], length, sym, ap, subst, ◌∙◌, arith, append-nil, nat_tests}
+use Rattle.strm_ldterm.specs.Prelude.{sends}
 use Rattle.strm_types.specs.Ldterms as ldterms
-use Rattle.strm_types.specs.Ldterms.{sends}
 use Rattle.strm_ldterm.specs.Does.{Proceeds}
 use Rattle.strm_ldterm.specs.Stands.{ldterm_in, paired}
 use Rattle.strm_ldterm.proofs.Joining.{stays-so, takes-more}

@@ -1,7 +1,6 @@
 -- Bytes go out block by block, until none is left or blocks are few.
-use Rattle.std.proofs.Common.{◌≤◌, [], sym, ◌∙◌, arith}
-use Rattle.strm_types.specs.declared.limits.TheConstants.{STOP_BLOCKS}
-use Rattle.strm_frame.specs.Serves.{least_free}
+use Rattle.strm_ldterm.proofs.Prelude.{◌≤◌, [], sym, ◌∙◌, arith}
+use Rattle.strm_ldterm.specs.Prelude.{STOP_BLOCKS, least_free}
 use Rattle.strm_ldterm.specs.Stands.{paired}
 use Rattle.strm_ldterm.proofs.Bytes.{lower, some-went}
 use Rattle.strm_ldterm.proofs.Joining.{still-kept}

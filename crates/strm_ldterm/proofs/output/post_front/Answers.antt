@@ -1,16 +1,8 @@
 -- Bytes are taken off the front of the message in work, what they give is gathered, and the carriage moves.
-use Rattle.std.proofs.Common.{ℕ, ◌≡◌, ◌≤◌, List, [], ◌++◌, length, take, drop, refl, sym, ap, subst, ◌∙◌, arith, length-take}
-use Rattle.std.specs.Prelude.{Some}
-use Rattle.strm_types.specs.Cells.{plain}
-use Rattle.strm_types.specs.Ldterms.{sends}
-use Rattle.strm_types.specs.Message.{cells_of}
-use Rattle.strm_types.specs.Output.{posts}
-use Rattle.strm_types.specs.OutputTurns.{output_dir}
+use Rattle.strm_ldterm.proofs.Prelude.{ℕ, ◌≡◌, ◌≤◌, List, [], ◌++◌, length, take, drop, refl, sym, ap, subst, ◌∙◌, arith, length-take, Some}
+use Rattle.strm_ldterm.proofs.Prelude.{can-in_hand}
+use Rattle.strm_ldterm.specs.Prelude.{plain, sends, cells_of, posts, output_dir, token, HasRoom, message_in}
 use Rattle.strm_types.specs.Rules.{no_fates}
-use Rattle.strm_blocks.specs.Blocks.{token}
-use Rattle.strm_frame.specs.Hands.{HasRoom}
-use Rattle.strm_frame.specs.Outboxes.{message_in}
-use Rattle.strm_frame.proofs.Handing.{can-in_hand}
 use Rattle.strm_ldterm.specs.Does.{Proceeds}
 use Rattle.strm_ldterm.specs.Stands.{ldterm_in, paired}
 use Rattle.strm_ldterm.proofs.Begun.{room-stays}

@@ -1,9 +1,6 @@
 -- The first block has fewer bytes, and goes where it has none.
-use Rattle.std.proofs.Common.{◌≡◌, ◌++◌, length, take, drop, subst, arith, length-take}
-use Rattle.strm_types.specs.Input.{left_of}
-use Rattle.strm_types.specs.Message.{cells_of}
-use Rattle.strm_blocks.specs.Blocks.{block_at, in_hand, token}
-use Rattle.strm_frame.specs.Outboxes.{message_in}
+use Rattle.strm_ldterm.proofs.Prelude.{◌≡◌, ◌++◌, length, take, drop, subst, arith, length-take}
+use Rattle.strm_ldterm.specs.Prelude.{left_of, cells_of, block_at, in_hand, token, message_in}
 use Rattle.strm_ldterm.specs.Becoming.{Becomes}
 use Rattle.strm_ldterm.proofs.Skipped.{becomes-both, front-becomes, front-in, front-is}
 use Rattle.strm_ldterm.proofs.output.trim_front.Goals as goal

@@ -1,7 +1,5 @@
-use Rattle.std.proofs.Common.{inl, inr, ◌≡◌, ◌<◌, ◌+◌, ◌-◌, length, drop, take, sym, ap, subst, ◌∙◌, arith, length-drop}
+use Rattle.strm_ldterm.proofs.Prelude.{inl, inr, ◌≡◌, ◌<◌, ◌+◌, ◌-◌, length, drop, take, sym, ap, subst, ◌∙◌, arith, length-drop, cases_eq, nat_tests}
 use Rattle.std.proofs.Math.Seq.{take-length}
-use Rattle.std.proofs.lemmas.Bool.{cases_eq}
-use Rattle.std.proofs.lemmas.Bool.Decides.{nat_tests}
 use Rattle.strm_ldterm.specs.Posting.{FlowsAs}
 use Rattle.strm_ldterm.proofs.Flows.{flows-joined, flows-none, flows-some}
 use Rattle.strm_ldterm.proofs.output_runs.flow_out.Goals as goal

@@ -1,5 +1,4 @@
-use Rattle.std.proofs.Common.{◌≡◌, ◌≤◌, true, length, take, refl, sym, subst, arith, length-take}
-use Rattle.std.proofs.lemmas.List.{take_more}
+use Rattle.strm_ldterm.proofs.Prelude.{◌≡◌, ◌≤◌, true, length, take, refl, sym, subst, arith, length-take, take_more}
 use Rattle.std.specs.List.{AllByRecursion}
 use Rattle.strm_ldterm.specs.Posting.{is_printed}
 use Rattle.strm_ldterm.proofs.Flows.{flows-front}

@@ -1,12 +1,8 @@
 -- Spaces are made, and the TAB goes.
-use Rattle.std.proofs.Common.{◌≡◌, length, replicate, sym, ap, ◌∙◌}
+use Rattle.strm_ldterm.proofs.Prelude.{◌≡◌, length, replicate, sym, ap, ◌∙◌}
+use Rattle.strm_ldterm.specs.Prelude.{cells_made, plain, tallied, space, told_for, output_dir, made_more, told_more}
 use Rattle.std.proofs.lemmas.List.{length-replicate}
 use Rattle.strm_types.specs.declared.rules.Rule.TheVariants.{Replaced}
-use Rattle.strm_types.specs.Cells.{cells_made, plain}
-use Rattle.strm_types.specs.Deliver.{tallied}
-use Rattle.strm_types.specs.Output.{space, told_for}
-use Rattle.strm_types.specs.OutputTurns.{output_dir}
-use Rattle.strm_types.specs.Rules.{made_more, told_more}
 use Rattle.strm_types.proofs.MadeCells.{made-long}
 use Rattle.strm_ldterm.proofs.output_runs.tell_given.Goals as goal
 

@@ -1,8 +1,6 @@
 -- Nothing without ECHO, and else an echo that stands.
-use Rattle.std.proofs.Common.{[], cond, length, refl, sym, ap, subst, ◌∙◌}
-use Rattle.strm_types.specs.Cells.{plain}
-use Rattle.strm_types.specs.Deliver.{tallied}
-use Rattle.strm_types.specs.Typing.{echo_dir, echo_grows, echo_stands}
+use Rattle.strm_ldterm.proofs.Prelude.{[], cond, length, refl, sym, ap, subst, ◌∙◌}
+use Rattle.strm_ldterm.specs.Prelude.{plain, tallied, echo_dir, echo_grows, echo_stands}
 use Rattle.strm_ldterm.specs.PlainRuns.{run_echoed}
 use Rattle.strm_ldterm.specs.Stands.{ldterm_in, paired}
 use Rattle.strm_ldterm.specs.Does.{Proceeds}

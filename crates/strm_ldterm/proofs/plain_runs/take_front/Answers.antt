@@ -1,17 +1,12 @@
 -- The message in work has fewer bytes.
-use Rattle.std.proofs.Common.{ℕ, ◌≡◌, [], ◌++◌, drop, length, sym, ap, subst, ◌∙◌}
-use Rattle.std.specs.Prelude.{IfSome, Some}
-use Rattle.strm_types.specs.Input.{cells_left, left_of, with_left}
+use Rattle.strm_ldterm.proofs.Prelude.{ℕ, ◌≡◌, [], ◌++◌, drop, length, sym, ap, subst, ◌∙◌, IfSome, Some}
+use Rattle.strm_ldterm.specs.Prelude.{cells_left, left_of, with_left, sends, cells_of, message_in, token}
 use Rattle.strm_types.specs.Ldterms as ldterms
-use Rattle.strm_types.specs.Ldterms.{sends}
-use Rattle.strm_types.specs.Message.{cells_of}
-use Rattle.strm_frame.specs.Outboxes.{message_in}
 use Rattle.strm_ldterm.specs.Stands.{ldterm_in, IsData, paired}
 use Rattle.strm_ldterm.specs.Does.{Proceeds}
 use Rattle.strm_ldterm.proofs.Beside.{chain-in-hand}
 use Rattle.strm_ldterm.proofs.Begun.{busy-cells, busy-left, idle-cells, idle-proceeds, work-comes}
 use Rattle.strm_ldterm.proofs.plain_runs.take_front.Goals as goal
-use Rattle.strm_blocks.specs.Blocks.{token}
 
 pub take_plain-message-requires-clause-in_hand : goal.take_plain-message-requires-clause-in_hand
 take_plain-message-requires-clause-in_hand g c =

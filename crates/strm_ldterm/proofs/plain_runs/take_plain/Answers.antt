@@ -1,10 +1,7 @@
 -- The first block that has bytes has fewer of them.
-use Rattle.std.proofs.Common.{ℕ, ◌≡◌, ◌≤◌, ◌++◌, true, false, get_or, length, take, drop, sym, ap, subst, ◌∙◌, arith, length-take}
+use Rattle.strm_ldterm.proofs.Prelude.{ℕ, ◌≡◌, ◌≤◌, ◌++◌, true, false, get_or, length, take, drop, sym, ap, subst, ◌∙◌, arith, length-take}
+use Rattle.strm_ldterm.specs.Prelude.{left_of, Message, cells_of, block_at, in_hand, token, message_in}
 use Rattle.std.specs.List.{AllByRecursion}
-use Rattle.strm_types.specs.Input.{left_of}
-use Rattle.strm_types.specs.Message.{Message, cells_of}
-use Rattle.strm_blocks.specs.Blocks.{block_at, in_hand, token}
-use Rattle.strm_frame.specs.Outboxes.{message_in}
 use Rattle.strm_ldterm.specs.Becoming.{Becomes}
 use Rattle.strm_ldterm.proofs.Runs.{take-twice}
 use Rattle.strm_ldterm.proofs.Skipped.{becomes-both, front-becomes, front-in, front-is}

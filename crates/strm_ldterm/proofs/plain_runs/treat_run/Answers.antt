@@ -1,9 +1,7 @@
 -- What is taken is typed, and then echoed.
-use Rattle.std.proofs.Common.{◌≡◌, ◌≤◌, ◌<◌, ◌++◌, true, [], length, drop, sym, ap, subst, ◌∙◌, arith}
-use Rattle.std.proofs.lemmas.Bool.Decides.{nat_tests}
+use Rattle.strm_ldterm.proofs.Prelude.{◌≡◌, ◌≤◌, ◌<◌, ◌++◌, true, [], length, drop, sym, ap, subst, ◌∙◌, arith, nat_tests}
+use Rattle.strm_ldterm.specs.Prelude.{cells_left, with_left, sends}
 use Rattle.std.specs.List.{AllByRecursion}
-use Rattle.strm_types.specs.Input.{cells_left, with_left}
-use Rattle.strm_types.specs.Ldterms.{sends}
 use Rattle.strm_ldterm.specs.Does.{Proceeds}
 use Rattle.strm_ldterm.specs.PlainRuns.{is_plain}
 use Rattle.strm_ldterm.specs.Stands.{ldterm_in, paired}

@@ -1,14 +1,6 @@
 -- First what waits to go up is flushed, then what waits to go down, and then the message goes on.
-use Rattle.std.proofs.Common.{[], ◌∷◌, sym, ap, subst, ◌∙◌}
-use Rattle.strm_types.specs.declared.flushing.FlushAsked.{FlushAsked}
-use Rattle.strm_types.specs.Deliver.{onward}
-use Rattle.strm_types.specs.Ldterms.{sends, both, read_flushed, write_flushed}
-use Rattle.strm_blocks.specs.Blocks.{in_hand, token}
-use Rattle.strm_msg.specs.Messages.{IsChain}
-use Rattle.strm_msg.proofs.Chains.{kind-is}
-use Rattle.strm_types.specs.Flushing.{is_flush}
-use Rattle.strm_frame.specs.Outboxes.{message_in}
-use Rattle.strm_frame.proofs.Handing.{can-in_hand}
+use Rattle.strm_ldterm.proofs.Prelude.{[], ◌∷◌, sym, ap, subst, ◌∙◌, kind-is, can-in_hand}
+use Rattle.strm_ldterm.specs.Prelude.{FlushAsked, onward, sends, both, read_flushed, write_flushed, in_hand, token, IsChain, is_flush, message_in}
 use Rattle.strm_ldterm.specs.Stands.{ldterm_in, paired}
 use Rattle.strm_ldterm.specs.Does.{Does}
 use Rattle.strm_ldterm.proofs.Flushed.{alters-both, flushes-both}

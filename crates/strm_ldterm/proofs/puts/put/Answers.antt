@@ -1,20 +1,8 @@
 -- By what becomes of the message.
-use Rattle.std.proofs.Common.{ℕ, ◌≡◌, true, refl, sym, ap, subst, ◌∙◌}
-use Rattle.std.specs.Prelude.{◌||◌}
-use Rattle.std.proofs.lemmas.Bool.{false≢true}
-use Rattle.strm_types.specs.declared.kinds.MsgKind.{MsgKind}
-use Rattle.strm_types.specs.declared.kinds.MsgKind.TheVariants.{Data, Proto}
-use Rattle.strm_types.specs.declared.names.Way.{Way}
-use Rattle.strm_types.specs.Budgets.{own_at}
-use Rattle.strm_types.specs.Tables.{ldterm_does}
-use Rattle.strm_types.specs.Flushing.{is_flush}
-use Rattle.strm_types.specs.LdtermPuts.{goes_behind, waits_on}
-use Rattle.strm_types.specs.Ldterms.{flush_passes, queued_at, waits_there}
-use Rattle.strm_types.specs.Message.{Message, is_held}
-use Rattle.strm_blocks.specs.Blocks.{in_hand, token}
-use Rattle.strm_msg.proofs.Chains.{kind-is}
-use Rattle.strm_frame.specs.Outboxes.{message_in}
-use Rattle.strm_frame.proofs.Handing.{can-in_hand}
+use Rattle.strm_ldterm.proofs.Prelude.{ℕ, ◌≡◌, true, refl, sym, ap, subst, ◌∙◌, ◌||◌, false≢true, kind-is, can-in_hand}
+use Rattle.strm_ldterm.specs.Prelude.{MsgKind, Data, Way, own_at, ldterm_does, is_flush, goes_behind, waits_on, flush_passes, queued_at, waits_there}
+use Rattle.strm_ldterm.specs.Prelude.{Message, is_held, in_hand, token, message_in}
+use Rattle.strm_types.specs.declared.kinds.MsgKind.TheVariants.{Proto}
 use Rattle.strm_ldterm.specs.Stands.{ldterm_in, paired}
 use Rattle.strm_ldterm.specs.Does.{Puts}
 use Rattle.strm_ldterm.proofs.Last.{waits-low}

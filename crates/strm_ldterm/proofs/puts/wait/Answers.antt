@@ -1,11 +1,9 @@
 -- By the way.
-use Rattle.std.proofs.Common.{sym, subst}
-use Rattle.strm_types.specs.Ldterms.{queued_at}
-use Rattle.strm_frame.specs.Outboxes.{message_in}
+use Rattle.strm_ldterm.proofs.Prelude.{sym, subst}
+use Rattle.strm_ldterm.specs.Prelude.{queued_at, message_in, token}
 use Rattle.strm_ldterm.specs.Stands.{ldterm_in, paired}
 use Rattle.strm_ldterm.specs.Does.{Does}
 use Rattle.strm_ldterm.proofs.puts.wait.Goals as goal
-use Rattle.strm_blocks.specs.Blocks.{token}
 
 pub returns-in-Up-clause-does : goal.returns-in-Up-clause-does
 returns-in-Up-clause-does g c = λ f.

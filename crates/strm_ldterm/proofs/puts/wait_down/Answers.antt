@@ -1,9 +1,6 @@
 -- The message stands on the write queue, before the turn's echo or behind it.
-use Rattle.std.proofs.Common.{sym, ap, ◌∙◌}
-use Rattle.std.specs.Prelude.{◌&&◌, nat_lt}
-use Rattle.strm_blocks.specs.Blocks.{in_hand, token}
-use Rattle.strm_msg.proofs.Chains.{band-is}
-use Rattle.strm_frame.proofs.Handing.{can-in_hand}
+use Rattle.strm_ldterm.proofs.Prelude.{sym, ap, ◌∙◌, ◌&&◌, nat_lt, band-is, can-in_hand}
+use Rattle.strm_ldterm.specs.Prelude.{in_hand, token}
 use Rattle.strm_ldterm.specs.Stands.{paired}
 use Rattle.strm_ldterm.proofs.Steps.{waits-down}
 use Rattle.strm_ldterm.proofs.puts.wait_down.Goals as goal

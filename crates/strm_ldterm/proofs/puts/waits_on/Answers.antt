@@ -1,11 +1,6 @@
 -- By its kind, or else by its command.
-use Rattle.std.proofs.Common.{sym, ap, ◌∙◌}
-use Rattle.std.specs.Prelude.{◌||◌}
-use Rattle.strm_types.specs.LdtermPuts.{goes_behind}
-use Rattle.strm_types.specs.Ldterms.{waits_there}
-use Rattle.strm_blocks.specs.Blocks.{in_hand, token}
-use Rattle.strm_msg.proofs.Chains.{kind-is}
-use Rattle.strm_frame.specs.Outboxes.{message_in}
+use Rattle.strm_ldterm.proofs.Prelude.{sym, ap, ◌∙◌, ◌||◌, kind-is}
+use Rattle.strm_ldterm.specs.Prelude.{goes_behind, waits_there, in_hand, token, message_in}
 use Rattle.strm_ldterm.proofs.puts.waits_on.Goals as goal
 
 pub returns-then-waits_there : goal.returns-then-waits_there

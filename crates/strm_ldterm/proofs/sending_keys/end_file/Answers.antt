@@ -1,9 +1,7 @@
 -- The line goes up as it is.
-use Rattle.std.proofs.Common.{[], ◌∷◌, subst, append-nil}
+use Rattle.strm_ldterm.proofs.Prelude.{[], ◌∷◌, subst, append-nil}
+use Rattle.strm_ldterm.specs.Prelude.{plain, line_sent, lost, sent_of}
 use Rattle.strm_types.specs.declared.rules.Rule.TheVariants.{EofKey}
-use Rattle.strm_types.specs.Cells.{plain}
-use Rattle.strm_types.specs.Typing.{line_sent, lost}
-use Rattle.strm_frame.specs.Outboxes.{sent_of}
 use Rattle.strm_ldterm.specs.Does.{Proceeds}
 use Rattle.strm_ldterm.specs.Stands.{ldterm_in, paired}
 use Rattle.strm_ldterm.proofs.Sends.{tells, key-told}

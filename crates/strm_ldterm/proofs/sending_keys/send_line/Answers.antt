@@ -1,15 +1,10 @@
 -- The line goes up in one message, and is empty then.
-use Rattle.std.proofs.Common.{ℕ, List, ◌++◌, refl, ap, subst}
-use Rattle.strm_types.specs.declared.names.Way.TheVariants.{Up}
-use Rattle.strm_types.specs.Cells.{plain}
-use Rattle.strm_types.specs.Deliver.{toward}
-use Rattle.strm_types.specs.Message.{data_message}
-use Rattle.strm_types.specs.Typing.{line_sent}
+use Rattle.strm_ldterm.proofs.Prelude.{ℕ, List, ◌++◌, refl, ap, subst}
+use Rattle.strm_ldterm.specs.Prelude.{Up, plain, toward, data_message, line_sent, token}
 use Rattle.strm_ldterm.specs.Sending.{MadeOne}
 use Rattle.strm_ldterm.specs.Stands.{ldterm_in, paired}
 use Rattle.strm_ldterm.proofs.Sends.{sends-made, held-line}
 use Rattle.strm_ldterm.proofs.sending_keys.send_line.Goals as goal
-use Rattle.strm_blocks.specs.Blocks.{token}
 
 pub returns : goal.returns
 returns g c = λ q f held kept.

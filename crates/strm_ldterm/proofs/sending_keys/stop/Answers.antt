@@ -1,10 +1,8 @@
 -- The M_STOP goes down, where output isn't stopped.
-use Rattle.std.proofs.Common.{Bool, true, cond, List, [], ◌∷◌, refl, sym, ap}
+use Rattle.strm_ldterm.proofs.Prelude.{Bool, true, cond, List, [], ◌∷◌, refl, sym, ap}
+use Rattle.strm_ldterm.specs.Prelude.{Down, Parcel, toward, onward, bare}
 use Rattle.strm_types.specs.declared.kinds.MsgKind.TheVariants.{Stop}
-use Rattle.strm_types.specs.declared.names.Way.TheVariants.{Down}
 use Rattle.strm_types.specs.declared.rules.Rule.TheVariants.{FlowKey}
-use Rattle.strm_types.specs.Deliver.{Parcel, toward, onward}
-use Rattle.strm_types.specs.Typing.{bare}
 use Rattle.strm_ldterm.specs.Stands.{ldterm_in, paired}
 use Rattle.strm_ldterm.proofs.Sends.{sends-made, sends-none, held-stopped, stop-plain, key-told}
 use Rattle.strm_ldterm.proofs.sending_keys.stop.Goals as goal

@@ -1,5 +1,4 @@
-use Rattle.std.proofs.Common.{[], false, refl, sym, ap, subst, ◌∙◌, arith}
-use Rattle.std.specs.Prelude.{None}
+use Rattle.strm_ldterm.proofs.Prelude.{[], false, refl, sym, ap, subst, ◌∙◌, arith, None}
 use Rattle.strm_ldterm.specs.Bounds.{passes_whole}
 use Rattle.strm_ldterm.specs.Began.{input_of}
 use Rattle.strm_ldterm.specs.Does.{Proceeds}

@@ -1,7 +1,5 @@
-use Rattle.std.proofs.Common.{◌-◌, [], inl, refl, sym, subst, ◌∙◌, arith}
-use Rattle.strm_frame.specs.Outboxes.{sent_of}
-use Rattle.strm_types.specs.declared.limits.TheConstants.{STOP_BLOCKS}
-use Rattle.strm_frame.specs.Serves.{least_free}
+use Rattle.strm_ldterm.proofs.Prelude.{◌-◌, [], inl, refl, sym, subst, ◌∙◌, arith}
+use Rattle.strm_ldterm.specs.Prelude.{sent_of, STOP_BLOCKS, least_free}
 use Rattle.strm_ldterm.specs.Called.{RunsInto}
 use Rattle.strm_ldterm.specs.Stands.{paired}
 use Rattle.strm_ldterm.proofs.Bytes.{Ran, are-many, begun-one, lower, notes-fit, ran-left, ran-next, ran-none, ran-run, ran-stage, runs-into, some-went}

@@ -1,9 +1,6 @@
 -- The line goes, and then the message is made.
-use Rattle.std.proofs.Common.{ℕ, List, [], ◌∷◌, subst, ◌∙◌}
-use Rattle.strm_types.specs.declared.names.Way.TheVariants.{Up}
-use Rattle.strm_types.specs.Flushing.{flush_message, flush_bytes}
-use Rattle.strm_types.specs.Deliver.{onward}
-use Rattle.strm_types.specs.Ldterms.{sends}
+use Rattle.strm_ldterm.proofs.Prelude.{ℕ, List, [], ◌∷◌, subst, ◌∙◌}
+use Rattle.strm_ldterm.specs.Prelude.{Up, flush_message, flush_bytes, onward, sends}
 use Rattle.strm_ldterm.specs.Does.{Proceeds}
 use Rattle.strm_ldterm.specs.Stands.{ldterm_in, paired}
 use Rattle.strm_ldterm.proofs.Flushed.{kept-still}

@@ -1,12 +1,6 @@
 -- The key goes by its rule.
-use Rattle.std.proofs.Common.{[], ◌∷◌}
-use Rattle.strm_types.specs.declared.kinds.MsgKind.TheVariants.{Pcsig}
-use Rattle.strm_types.specs.declared.names.Way.TheVariants.{Up}
-use Rattle.strm_types.specs.declared.rules.Rule.TheVariants.{SignalKey}
-use Rattle.strm_types.specs.Cells.{plain}
-use Rattle.strm_types.specs.Deliver.{onward}
-use Rattle.strm_types.specs.Ldterms.{sends}
-use Rattle.strm_types.specs.Typing.{bare, lost}
+use Rattle.strm_ldterm.proofs.Prelude.{[], ◌∷◌}
+use Rattle.strm_ldterm.specs.Prelude.{Pcsig, Up, SignalKey, plain, onward, sends, bare, lost}
 use Rattle.strm_ldterm.specs.Stands.{ldterm_in}
 use Rattle.strm_ldterm.proofs.Sends.{tells, key-told}
 use Rattle.strm_ldterm.proofs.Signals.{signal-plain}

@@ -1,10 +1,6 @@
 -- The message is made, and nothing else changes.
-use Rattle.std.proofs.Common.{[], ◌∷◌, refl, arith}
-use Rattle.strm_types.specs.declared.names.Way.TheVariants.{Up}
-use Rattle.strm_types.specs.Deliver.{toward, onward}
-use Rattle.strm_types.specs.Ldterms.{sends}
-use Rattle.strm_types.specs.Typing.{bare}
-use Rattle.strm_frame.specs.declared.parcels.Sent.{Sent}
+use Rattle.strm_ldterm.proofs.Prelude.{[], ◌∷◌, refl, arith}
+use Rattle.strm_ldterm.specs.Prelude.{Up, toward, onward, sends, bare, Sent}
 use Rattle.strm_ldterm.specs.Stands.{ldterm_in}
 use Rattle.strm_ldterm.proofs.Sends.{sends-made}
 use Rattle.strm_ldterm.proofs.signal_keys.send_up.Goals as goal

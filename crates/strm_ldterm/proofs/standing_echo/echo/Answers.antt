@@ -1,10 +1,6 @@
 -- No byte, a full band, or an echo that stands.
-use Rattle.std.proofs.Common.{◌≡◌, [], ◌∷◌, cond, length, refl, sym, ap, subst, ◌∙◌, arith}
-use Rattle.strm_types.specs.declared.rules.Rule.TheVariants.{EchoFull}
-use Rattle.strm_types.specs.Cells.{plain}
-use Rattle.strm_types.specs.Deliver.{Comes, Goes, tallied}
-use Rattle.strm_types.specs.Typing.{echo_dir, echo_grows, echo_stands, echoed}
-use Rattle.strm_types.specs.Write.{chunk_count}
+use Rattle.strm_ldterm.proofs.Prelude.{◌≡◌, [], ◌∷◌, cond, length, refl, sym, ap, subst, ◌∙◌, arith}
+use Rattle.strm_ldterm.specs.Prelude.{EchoFull, plain, Comes, Goes, tallied, echo_dir, echo_grows, echo_stands, echoed, chunk_count}
 use Rattle.strm_msg.proofs.Pieces.{chunk-some}
 use Rattle.strm_ldterm.specs.Stands.{ldterm_in, paired}
 use Rattle.strm_ldterm.specs.Does.{Proceeds}

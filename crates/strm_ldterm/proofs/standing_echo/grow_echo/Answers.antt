@@ -1,7 +1,6 @@
 -- What stands last is taken, grows in hand, and is put back.
-use Rattle.std.proofs.Common.{sym, subst}
-use Rattle.strm_blocks.specs.Blocks.{IsInHand, in_hand, token}
-use Rattle.strm_msg.specs.Messages.{IsChain}
+use Rattle.strm_ldterm.proofs.Prelude.{sym, subst}
+use Rattle.strm_ldterm.specs.Prelude.{IsInHand, in_hand, token, IsChain}
 use Rattle.strm_ldterm.specs.Echoes.{echo_bytes}
 use Rattle.strm_ldterm.proofs.Grows.{data-in-hand}
 use Rattle.strm_ldterm.proofs.Rewriting.{grown-ready, grows-last, taken-room}

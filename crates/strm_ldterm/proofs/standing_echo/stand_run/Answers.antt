@@ -1,8 +1,6 @@
 -- It grows where there is one, and else it begins.
-use Rattle.std.proofs.Common.{true, false, [], ◌∷◌, cond, List}
-use Rattle.strm_types.specs.declared.names.Way.TheVariants.{Down}
-use Rattle.strm_types.specs.declared.spots.Note.{Note}
-use Rattle.strm_types.specs.declared.spots.Note.TheVariants.{Enable}
+use Rattle.strm_ldterm.proofs.Prelude.{true, false, [], ◌∷◌, cond, List}
+use Rattle.strm_ldterm.specs.Prelude.{Down, Note, Enable}
 use Rattle.strm_ldterm.specs.Stands.{paired}
 use Rattle.strm_ldterm.proofs.EchoStands.{begins-proceeds, grows-proceeds, stands-by}
 use Rattle.strm_ldterm.proofs.standing_echo.stand_run.Goals as goal

@@ -1,6 +1,5 @@
 -- A message stands there, which is one of data.
-use Rattle.strm_blocks.specs.Blocks.{token}
-use Rattle.strm_queue.specs.Stored.{messages_on}
+use Rattle.strm_ldterm.specs.Prelude.{token, messages_on}
 use Rattle.strm_ldterm.proofs.Rewriting.{some-last, taken-ordinary}
 use Rattle.strm_ldterm.proofs.standing_echo.take_echo.Goals as goal
 

@@ -1,8 +1,5 @@
-use Rattle.std.proofs.Common.{refl, sym, subst}
-use Rattle.strm_types.specs.Cells.{plain}
-use Rattle.strm_types.specs.Input.{next_stage}
-use Rattle.strm_types.specs.Typing.{struck}
-use Rattle.strm_frame.specs.Outboxes.{sent_of}
+use Rattle.strm_ldterm.proofs.Prelude.{refl, sym, subst}
+use Rattle.strm_ldterm.specs.Prelude.{plain, next_stage, struck, sent_of}
 use Rattle.strm_ldterm.specs.ServedLaws.{struck-work}
 use Rattle.strm_ldterm.specs.Stands.{ldterm_in, paired}
 use Rattle.strm_ldterm.specs.Does.{Proceeds}

@@ -1,7 +1,5 @@
-use Rattle.std.proofs.Common.{ℕ, [], sym, ap, subst, arith}
-use Rattle.strm_types.specs.Cells.{plain}
-use Rattle.strm_types.specs.Input.{next_stage}
-use Rattle.strm_types.specs.Typing.{strikes, struck}
+use Rattle.strm_ldterm.proofs.Prelude.{ℕ, [], sym, ap, subst, arith}
+use Rattle.strm_ldterm.specs.Prelude.{plain, next_stage, strikes, struck}
 use Rattle.strm_ldterm.specs.Stands.{ldterm_in, paired}
 use Rattle.strm_ldterm.specs.Does.{Proceeds}
 use Rattle.strm_ldterm.specs.Echoes.{echo_bytes}

@@ -1,7 +1,5 @@
-use Rattle.std.proofs.Common.{[], sym, subst, arith}
-use Rattle.strm_types.specs.Cells.{plain}
-use Rattle.strm_types.specs.Typing.{strikes}
-use Rattle.strm_frame.specs.Outboxes.{sent_of}
+use Rattle.strm_ldterm.proofs.Prelude.{[], sym, subst, arith}
+use Rattle.strm_ldterm.specs.Prelude.{plain, strikes, sent_of}
 use Rattle.strm_ldterm.specs.Stands.{ldterm_in, paired}
 use Rattle.strm_ldterm.specs.Does.{Proceeds}
 use Rattle.strm_ldterm.proofs.treated_bytes.strike_sending.Goals as goal

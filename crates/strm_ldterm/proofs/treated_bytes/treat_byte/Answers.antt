@@ -1,13 +1,10 @@
-use Rattle.std.proofs.Common.{refl, sym, ap, subst, arith}
-use Rattle.strm_types.specs.Cells.{plain}
-use Rattle.strm_types.specs.Input.{begins_next, cells_left}
-use Rattle.strm_frame.specs.Outboxes.{sent_of}
+use Rattle.strm_ldterm.proofs.Prelude.{refl, sym, ap, subst, arith}
+use Rattle.strm_ldterm.specs.Prelude.{plain, begins_next, cells_left, sent_of, times_sent}
 use Rattle.strm_ldterm.specs.ServedLaws.{between-work}
 use Rattle.strm_ldterm.specs.Stands.{ldterm_in, stage_in, paired}
 use Rattle.strm_ldterm.specs.Does.{Proceeds}
 use Rattle.strm_ldterm.specs.Turns.{ahead}
 use Rattle.strm_ldterm.proofs.treated_bytes.treat_byte.Goals as goal
-use Rattle.strm_frame.specs.Outboxes.{times_sent}
 use Rattle.strm_ldterm.proofs.Bytes.{still-works}
 use Rattle.strm_ldterm.proofs.RunsDone.{left-works}
 use Rattle.strm_ldterm.proofs.Struck.{some-left}

@@ -1,9 +1,6 @@
 -- The first message is kept in work, or sent on.
-use Rattle.std.proofs.Common.{sym, ap, ◌∙◌}
-use Rattle.std.specs.Prelude.{◌&&◌, nat_lt}
-use Rattle.strm_types.specs.declared.kinds.MsgKind.{MsgKind}
-use Rattle.strm_types.specs.Input.{is_data}
-use Rattle.strm_types.specs.Termios.{opost}
+use Rattle.strm_ldterm.proofs.Prelude.{sym, ap, ◌∙◌, ◌&&◌, nat_lt}
+use Rattle.strm_ldterm.specs.Prelude.{MsgKind, is_data, opost}
 use Rattle.strm_ldterm.specs.Stands.{paired}
 use Rattle.strm_ldterm.proofs.Passed.{began-output, none-there, passed-down, stays-down}
 use Rattle.strm_ldterm.proofs.turn_starts.begin_output.Goals as goal

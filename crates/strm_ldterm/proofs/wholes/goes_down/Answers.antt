@@ -1,9 +1,8 @@
 -- All bytes stand in the first block.
-use Rattle.std.proofs.Common.{◌≡◌, length, take, true, sym, ap, subst, ◌∙◌, arith}
+use Rattle.strm_ldterm.proofs.Prelude.{◌≡◌, length, take, true, sym, ap, subst, ◌∙◌, arith, IfSome}
+use Rattle.strm_ldterm.specs.Prelude.{in_hand, token}
 use Rattle.std.proofs.Math.Seq.{take-length}
 use Rattle.std.specs.List.{AllByRecursion}
-use Rattle.std.specs.Prelude.{IfSome}
-use Rattle.strm_blocks.specs.Blocks.{in_hand, token}
 use Rattle.strm_ldterm.specs.Posting.{is_printed}
 use Rattle.strm_ldterm.specs.Stands.{IsData, paired}
 use Rattle.strm_ldterm.proofs.Beside.{chain-in-hand}

@@ -1,7 +1,6 @@
 -- The message in work is in hand.
-use Rattle.std.proofs.Common.{subst}
-use Rattle.std.specs.Prelude.{IfSome}
-use Rattle.strm_blocks.specs.Blocks.{token}
+use Rattle.strm_ldterm.proofs.Prelude.{subst, IfSome}
+use Rattle.strm_ldterm.specs.Prelude.{token}
 use Rattle.strm_ldterm.specs.Stands.{IsData}
 use Rattle.strm_ldterm.proofs.Beside.{chain-in-hand}
 use Rattle.strm_ldterm.proofs.wholes.goes_up.Goals as goal

@@ -1,11 +1,6 @@
 -- It leaves the module under its band.
-use Rattle.std.proofs.Common.{sym, subst, [], ◌∷◌, ◌∙◌, ◌≡◌}
-use Rattle.std.specs.Prelude.{IfSome, None, Some}
-use Rattle.strm_types.specs.Input.{cells_left}
-use Rattle.strm_types.specs.Deliver.{onward}
-use Rattle.strm_types.specs.Ldterms.{sends}
-use Rattle.strm_blocks.specs.Blocks.{token}
-use Rattle.strm_frame.specs.Outboxes.{sent_of}
+use Rattle.strm_ldterm.proofs.Prelude.{sym, subst, [], ◌∷◌, ◌∙◌, ◌≡◌, IfSome, None, Some}
+use Rattle.strm_ldterm.specs.Prelude.{cells_left, onward, sends, token, sent_of}
 use Rattle.strm_ldterm.specs.Becoming.{Becomes}
 use Rattle.strm_ldterm.specs.Does.{Proceeds}
 use Rattle.strm_ldterm.specs.Outgone.{data_of}

@@ -1,7 +1,6 @@
 -- The message leaves the module, and the carriage stands where it was moved to.
-use Rattle.std.proofs.Common.{[], ◌+◌, ap, sym, subst, ◌∙◌, arith}
-use Rattle.strm_types.specs.Output.{wrapped}
-use Rattle.strm_frame.specs.Outboxes.{sent_of}
+use Rattle.strm_ldterm.proofs.Prelude.{[], ◌+◌, ap, sym, subst, ◌∙◌, arith}
+use Rattle.strm_ldterm.specs.Prelude.{wrapped, sent_of}
 use Rattle.strm_ldterm.specs.Does.{Proceeds}
 use Rattle.strm_ldterm.specs.Outgone.{let_go}
 use Rattle.strm_ldterm.specs.Posting.{poured}

@@ -1,13 +1,7 @@
 -- The message in work goes back, and what was gathered goes down.
-use Rattle.std.proofs.Common.{ℕ, [], map}
-use Rattle.std.specs.Prelude.{None}
-use Rattle.strm_types.specs.declared.names.Way.TheVariants.{Down}
-use Rattle.strm_types.specs.Input.{back_on}
+use Rattle.strm_ldterm.proofs.Prelude.{ℕ, [], map, None}
+use Rattle.strm_ldterm.specs.Prelude.{Down, back_on, onward, sends, with_given, sent_of}
 use Rattle.strm_types.specs.Ldterms as ldterms
-use Rattle.strm_types.specs.Deliver.{onward}
-use Rattle.strm_types.specs.Ldterms.{sends}
-use Rattle.strm_types.specs.OutputTurns.{with_given}
-use Rattle.strm_frame.specs.Outboxes.{sent_of}
 use Rattle.strm_ldterm.specs.Outgone.{data_of}
 use Rattle.strm_ldterm.specs.Stands.{ldterm_in, paired}
 use Rattle.strm_ldterm.proofs.Flushed.{kept-still}

@@ -1,7 +1,5 @@
 -- The message in work leaves the hand, for the write queue.
-use Rattle.std.proofs.Common.{sym, ap, subst, ◌∙◌, ◌≡◌, ◌<◌, length}
-use Rattle.std.specs.Prelude.{Some}
-use Rattle.strm_frame.proofs.Handing.{can-in_hand}
+use Rattle.strm_ldterm.proofs.Prelude.{sym, ap, subst, ◌∙◌, ◌≡◌, ◌<◌, length, Some, can-in_hand}
 use Rattle.strm_ldterm.specs.Stands.{ldterm_in, paired}
 use Rattle.strm_ldterm.specs.Does.{Alters}
 use Rattle.strm_ldterm.proofs.Finished.{work-cells, work-can}

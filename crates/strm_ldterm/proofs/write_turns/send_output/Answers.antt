@@ -1,12 +1,6 @@
 -- What was gathered leaves the module under its new band.
-use Rattle.std.proofs.Common.{ℕ, List, map, sym, ap, subst, [], ◌∷◌, ◌∙◌, ◌≡◌, arith}
-use Rattle.std.specs.Prelude.{IfSome, None, Some}
-use Rattle.strm_types.specs.declared.names.Way.TheVariants.{Down}
-use Rattle.strm_types.specs.Deliver.{onward}
-use Rattle.strm_types.specs.Ldterms.{sends}
-use Rattle.strm_types.specs.Message.{Message, cells_of}
-use Rattle.strm_types.specs.OutputTurns.{with_given}
-use Rattle.strm_frame.specs.Outboxes.{message_in, sent_of}
+use Rattle.strm_ldterm.proofs.Prelude.{ℕ, List, map, sym, ap, subst, [], ◌∷◌, ◌∙◌, ◌≡◌, arith, IfSome, None, Some}
+use Rattle.strm_ldterm.specs.Prelude.{Down, onward, sends, Message, cells_of, with_given, message_in, sent_of, token}
 use Rattle.strm_ldterm.specs.Does.{Proceeds}
 use Rattle.strm_ldterm.specs.Outgone.{data_of}
 use Rattle.strm_ldterm.specs.Stands.{ldterm_in, IsGathered, paired}
@@ -15,7 +9,6 @@ use Rattle.strm_ldterm.proofs.Finished.{gathered-is, gathered-shown}
 use Rattle.strm_ldterm.proofs.Freeing.{none-freed}
 use Rattle.strm_ldterm.proofs.Rebanded.{given-some, goes-down, nothing-down}
 use Rattle.strm_ldterm.proofs.write_turns.send_output.Goals as goal
-use Rattle.strm_blocks.specs.Blocks.{token}
 
 pub reband-requires-clause-in_hand : goal.reband-requires-clause-in_hand
 reband-requires-clause-in_hand g c =

@@ -1,7 +1,6 @@
 -- A message passes whole, or its bytes go out.
-use Rattle.std.proofs.Common.{ℕ, [], length, sym, ap, subst, ◌∙◌}
-use Rattle.std.specs.Prelude.{None, is_some}
-use Rattle.strm_types.specs.Input.{cells_left}
+use Rattle.strm_ldterm.proofs.Prelude.{ℕ, [], length, sym, ap, subst, ◌∙◌, None, is_some}
+use Rattle.strm_ldterm.specs.Prelude.{cells_left}
 use Rattle.strm_types.specs.Ldterms as ldterms
 use Rattle.strm_ldterm.specs.Bounds.{passes_whole}
 use Rattle.strm_ldterm.specs.Called.{ServesAs}

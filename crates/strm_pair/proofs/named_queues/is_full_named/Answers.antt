@@ -1,7 +1,5 @@
 -- A place that is found is one of a module's.
-use Rattle.std.proofs.Common.{ℕ, arith, sym, ap, ◌∙◌, false}
-use Rattle.std.specs.Prelude.{Option}
-use Rattle.std.proofs.lemmas.List.{length-map}
+use Rattle.strm_pair.proofs.Prelude.{ℕ, arith, sym, ap, ◌∙◌, false, Option, length-map}
 use Rattle.strm_types.specs.ModuleQueues.{full_at}
 use Rattle.strm_pair.specs.AnyModules.{module_in}
 use Rattle.strm_pair.specs.Named.{at_found}

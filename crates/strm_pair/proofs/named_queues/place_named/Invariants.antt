@@ -1,6 +1,5 @@
-use Rattle.std.proofs.Common.{◌≡◌}
-use Rattle.strm_laws.specs.ModuleTurns.{place_named}
-use Rattle.strm_blocks.specs.Blocks.{StoreValue}
+use Rattle.strm_pair.proofs.Prelude.{◌≡◌}
+use Rattle.strm_pair.specs.Prelude.{place_named, StoreValue}
 use Rattle.strm_pair.proofs.Tried.{named_at}
 use Rattle.strm_pair.proofs.named_queues.place_named.Given as goal
 use Rattle.strm_pair.specs.Stacks.{modules_in}

@@ -1,9 +1,6 @@
 -- A place that is found is one of a module's.
-use Rattle.std.proofs.Common.{ℕ, arith, sym, ap, ◌∙◌, [], length}
-use Rattle.std.specs.Prelude.{Option}
-use Rattle.std.proofs.lemmas.List.{length-map}
-use Rattle.strm_types.specs.Standings.{messages_at}
-use Rattle.strm_types.specs.Queue.{bytes_of}
+use Rattle.strm_pair.proofs.Prelude.{ℕ, arith, sym, ap, ◌∙◌, [], length, Option, length-map}
+use Rattle.strm_pair.specs.Prelude.{messages_at, bytes_of}
 use Rattle.strm_pair.specs.AnyModules.{module_in}
 use Rattle.strm_pair.specs.Named.{at_found}
 use Rattle.strm_pair.specs.Stacks.{modules_in}

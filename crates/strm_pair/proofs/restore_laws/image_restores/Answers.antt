@@ -1,7 +1,6 @@
 -- The text is the image of the pair's state, and of no other one.
-use Rattle.std.proofs.Common.{◌∙◌}
-use Rattle.strm_image.specs.declared.versions.Version.TheVariants.{Second}
-use Rattle.strm_image.specs.HasImage.{imaged}
+use Rattle.strm_pair.proofs.Prelude.{◌∙◌}
+use Rattle.strm_pair.specs.Prelude.{Second, imaged}
 use Rattle.strm_pair.specs.PairViews.{sizes_over}
 use Rattle.strm_pair.specs.Restored.{IsImageOf}
 use Rattle.strm_pair.proofs.ImagesBack.{gone-back, state-back}

@@ -1,10 +1,8 @@
 -- What is pushed stands on top, on lists that are no other module's.
-use Rattle.std.proofs.Common.{◌+◌}
+use Rattle.strm_pair.proofs.Prelude.{◌+◌, Option}
+use Rattle.strm_pair.specs.Prelude.{QueuePair, standing}
 use Rattle.strm_pair.proofs.ModulePushed.{pushed-held, pushed-keeps, pushed-modules, pushed-owned, pushed-shelf, pushed-spare, queues-alone}
 use Rattle.strm_pair.proofs.stacks.push_named.Goals as goal
-use Rattle.std.specs.Prelude.{Option}
-use Rattle.strm_frame.specs.declared.queue_pair.QueuePair.{QueuePair}
-use Rattle.strm_frame.specs.Standings.{standing}
 use Rattle.strm_pair.specs.declared.modules.AnyModule.{AnyModule}
 use Rattle.strm_pair.specs.AnyModules.{AnyStanding}
 

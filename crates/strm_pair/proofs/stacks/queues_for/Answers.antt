@@ -1,8 +1,6 @@
 -- They are new on two lists, or there are none.
-use Rattle.std.proofs.Common.{◌≡◌, true, false, refl, sym, ap, ◌∙◌}
-use Rattle.std.proofs.lemmas.Bool.{false≢true}
-use Rattle.std.specs.Prelude.{not, None, Some, is_some}
-use Rattle.strm_types.specs.Names.{place_of}
+use Rattle.strm_pair.proofs.Prelude.{◌≡◌, true, false, refl, sym, ap, ◌∙◌, false≢true, not, None, Some, is_some}
+use Rattle.strm_pair.specs.Prelude.{place_of}
 use Rattle.strm_pair.proofs.stacks.queues_for.Goals as goal
 
 pub returns-then-is_none-clause-given : goal.returns-then-is_none-clause-given

@@ -1,9 +1,6 @@
 -- Each step takes one module off, and where none stands none owns a list.
-use Rattle.std.proofs.Common.{◌≡◌, ◌<◌, true, false, List, [], ◌∷◌, length, ap, refl, arith, sym, ◌∙◌}
-use Rattle.std.specs.Prelude.{◌==◌}
-use Rattle.std.proofs.lemmas.Bool.Decides.{nat_tests}
-use Rattle.strm_frame.specs.Stacks.{all_of}
-use Rattle.strm_frame.specs.Standings.{owns}
+use Rattle.strm_pair.proofs.Prelude.{◌≡◌, ◌<◌, true, false, List, [], ◌∷◌, length, ap, refl, arith, sym, ◌∙◌, ◌==◌, nat_tests}
+use Rattle.strm_pair.specs.Prelude.{all_of, owns}
 use Rattle.strm_pair.specs.AnyModules.{AnyStanding}
 use Rattle.strm_pair.proofs.stacks.take_modules.Goals as goal
 

@@ -1,5 +1,4 @@
-use Rattle.std.proofs.Common.{ℕ, ◌≡◌, true, length}
-use Rattle.std.specs.Prelude.{is_some}
+use Rattle.strm_pair.proofs.Prelude.{ℕ, ◌≡◌, true, length, is_some}
 use Rattle.strm_pair.specs.Stacks.{stack_owns}
 use Rattle.strm_pair.proofs.stacks.take_modules.Given as goal
 

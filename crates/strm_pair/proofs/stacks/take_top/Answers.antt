@@ -1,6 +1,5 @@
 -- The module on top has let all go, and is taken off.
-use Rattle.std.proofs.Common.{◌≡◌, refl, sym, ◌∙◌, arith}
-use Rattle.std.specs.Prelude.{None}
+use Rattle.strm_pair.proofs.Prelude.{◌≡◌, refl, sym, ◌∙◌, arith, None}
 use Rattle.strm_pair.proofs.ModuleTaken.{none-top, took-top}
 use Rattle.strm_pair.proofs.stacks.take_top.Goals as goal
 

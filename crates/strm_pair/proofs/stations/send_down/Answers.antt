@@ -1,13 +1,6 @@
 -- What goes down is one message that was made, or none.
-use Rattle.std.proofs.Common.{◌+◌, cond, sym, ap, subst, ◌∙◌, arith}
-use Rattle.std.specs.Prelude.{None}
-use Rattle.strm_types.specs.declared.names.Way.TheVariants.{Down}
-use Rattle.strm_types.specs.Deliver.{toward}
-use Rattle.strm_types.specs.Message.{Message}
-use Rattle.strm_types.specs.Reads.{is_there}
-use Rattle.strm_head.specs.Heads.{down_message, sent_down}
-use Rattle.strm_frame.specs.Outboxes.{sent_of}
-use Rattle.strm_pty.specs.Does.{Makes}
+use Rattle.strm_pair.proofs.Prelude.{◌+◌, cond, sym, ap, subst, ◌∙◌, arith, None}
+use Rattle.strm_pair.specs.Prelude.{Down, toward, Message, is_there, down_message, sent_down, sent_of, Makes}
 use Rattle.strm_pty.proofs.Doing.{makes-none, makes-one}
 use Rattle.strm_pair.proofs.PutSteps.{down-plain}
 use Rattle.strm_pair.proofs.stations.send_down.Goals as goal

@@ -1,9 +1,7 @@
 -- No module stands there.
-use Rattle.std.proofs.Common.{refl, map, ap, arith, rules, sym, subst}
-use Rattle.strm_laws.proofs.StackOnce.{none-once}
-use Rattle.strm_frame.specs.Stacks.{all_of, AreHeld}
+use Rattle.strm_pair.proofs.Prelude.{refl, map, ap, arith, rules, sym, subst, none-once}
+use Rattle.strm_pair.specs.Prelude.{all_of, AreHeld, owns}
 use Rattle.strm_pair.specs.AnyModules.{IsHeld, module_in}
-use Rattle.strm_frame.specs.Standings.{owns}
 use Rattle.strm_pair.specs.Streams.{AreApart}
 use Rattle.strm_pair.proofs.streams.new_end.Goals as goal
 

@@ -1,10 +1,9 @@
 -- The message is freed, and the answer made.
-use Rattle.std.proofs.Common.{arith}
-use Rattle.strm_types.specs.declared.kinds.MsgKind.TheVariants.{Iocnak}
+use Rattle.strm_pty.proofs.Prelude.{arith}
+use Rattle.strm_pty.specs.Prelude.{Iocnak, token}
 use Rattle.strm_pty.proofs.Doing.{freed-then, makes-one, room-freed}
 use Rattle.strm_pty.proofs.Made.{nak-plain, nak-parcel}
 use Rattle.strm_pty.proofs.answering.answer.Goals as goal
-use Rattle.strm_blocks.specs.Blocks.{token}
 
 pub make-message-requires-clause-kind : goal.make-message-requires-clause-kind
 make-message-requires-clause-kind g c = nak-plain

@@ -1,9 +1,6 @@
 -- The kind is that of the message.
-use Rattle.std.proofs.Common.{◌∙◌, sym, ap, subst}
-use Rattle.strm_types.specs.Flush.{is_data_kind}
-use Rattle.strm_blocks.specs.Blocks.{in_hand, token}
-use Rattle.strm_frame.specs.Hands.{HasRoom, Spends}
-use Rattle.strm_msg.proofs.Chains.{kind-is}
+use Rattle.strm_pty.proofs.Prelude.{◌∙◌, sym, ap, subst, kind-is}
+use Rattle.strm_pty.specs.Prelude.{is_data_kind, in_hand, token, HasRoom, Spends}
 use Rattle.strm_pty.specs.Does.{driver_cost}
 use Rattle.strm_pty.proofs.Putting.{held-data, shifts-spends}
 use Rattle.strm_pty.proofs.drivers.put.Goals as goal

@@ -1,6 +1,5 @@
 -- By parts, and then by the way.
-use Rattle.std.proofs.Common.{◌∙◌, sym}
-use Rattle.std.proofs.lemmas.Bool.{false≢true}
+use Rattle.strm_pty.proofs.Prelude.{◌∙◌, sym, false≢true}
 use Rattle.strm_pty.proofs.Putting.{put-data, put-down, put-across}
 use Rattle.strm_pty.proofs.drivers.put_any.Goals as goal
 

@@ -1,9 +1,6 @@
 -- Two bytes are enough.
-use Rattle.std.proofs.Common.{ap, sym, ◌∙◌, take, ◌∷◌, []}
-use Rattle.strm_types.specs.Flushing.{asked_by}
-use Rattle.strm_blocks.specs.Blocks.{in_hand, token}
-use Rattle.strm_msg.specs.Bytes.{bytes_of}
-use Rattle.strm_msg.proofs.MadePlain.{plain-is}
+use Rattle.strm_pty.proofs.Prelude.{ap, sym, ◌∙◌, take, ◌∷◌, [], plain-is}
+use Rattle.strm_pty.specs.Prelude.{asked_by, in_hand, token, bytes_of}
 use Rattle.strm_frame.proofs.Read.{first-of, asked-first}
 use Rattle.strm_pty.proofs.making.asked_of.Goals as goal
 

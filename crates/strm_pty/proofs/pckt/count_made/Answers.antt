@@ -1,8 +1,6 @@
 -- By its kind.
-use Rattle.std.proofs.Common.{suc, ap, sym, length, ◌∙◌, arith}
-use Rattle.strm_types.specs.Flush.{is_data_kind}
-use Rattle.strm_types.specs.Pckts.{is_stop_or_start}
-use Rattle.strm_blocks.specs.Blocks.{in_hand, token}
+use Rattle.strm_pty.proofs.Prelude.{suc, ap, sym, length, ◌∙◌, arith}
+use Rattle.strm_pty.specs.Prelude.{is_data_kind, is_stop_or_start, in_hand, token}
 use Rattle.strm_queue.proofs.Bounds.{few-bytes}
 use Rattle.strm_msg.proofs.Chains.{size-shown}
 use Rattle.strm_pty.proofs.Packed.{all-packed, none-packed, stop-packed}

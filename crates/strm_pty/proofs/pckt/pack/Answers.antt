@@ -1,11 +1,10 @@
 -- The message is freed, or its blocks become the data part.
-use Rattle.std.proofs.Common.{sym, ◌∙◌, subst}
+use Rattle.strm_pty.proofs.Prelude.{sym, ◌∙◌, subst}
+use Rattle.strm_pty.specs.Prelude.{message_in, token}
 use Rattle.strm_types.specs.declared.kinds.MsgKind.TheVariants as kinds
-use Rattle.strm_frame.specs.Outboxes.{message_in}
 use Rattle.strm_pty.specs.Packs.{Becomes, packet_of}
 use Rattle.strm_pty.proofs.Packing.{became-alone, became-full, both-there}
 use Rattle.strm_pty.proofs.pckt.pack.Goals as goal
-use Rattle.strm_blocks.specs.Blocks.{token}
 
 pub returns-then-is_stop_or_start : goal.returns-then-is_stop_or_start
 returns-then-is_stop_or_start g c = λ here.

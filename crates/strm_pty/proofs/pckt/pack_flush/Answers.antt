@@ -1,11 +1,7 @@
 -- The packet goes, and behind it what is passed.
-use Rattle.std.proofs.Common.{ap, sym, subst, ◌∙◌, ◌∷◌, []}
+use Rattle.strm_pty.proofs.Prelude.{ap, sym, subst, ◌∙◌, ◌∷◌, [], kind-is}
+use Rattle.strm_pty.specs.Prelude.{is_data_kind, writers_flush, in_hand, token, message_in}
 use Rattle.std.proofs.lemmas.Bool.{not-false}
-use Rattle.strm_types.specs.Flush.{is_data_kind}
-use Rattle.strm_types.specs.Pckts.{writers_flush}
-use Rattle.strm_blocks.specs.Blocks.{in_hand, token}
-use Rattle.strm_msg.proofs.Chains.{kind-is}
-use Rattle.strm_frame.specs.Outboxes.{message_in}
 use Rattle.strm_pty.specs.Does.{Makes}
 use Rattle.strm_pty.proofs.Packing.{flush-goes, flush-packed, flush-plain, packs-two}
 use Rattle.strm_pty.proofs.pckt.pack_flush.Goals as goal

@@ -1,9 +1,7 @@
 -- By the kind.
-use Rattle.strm_types.specs.Flushing.{is_flush}
-use Rattle.strm_frame.specs.Outboxes.{message_in}
+use Rattle.strm_pty.specs.Prelude.{is_flush, message_in, token}
 use Rattle.strm_pty.proofs.Packing.{kind-test, others-stay, packs-one}
 use Rattle.strm_pty.proofs.pckt.pack_up.Goals as goal
-use Rattle.strm_blocks.specs.Blocks.{token}
 
 pub pack_flush-requires-clause-flush : goal.pack_flush-requires-clause-flush
 pack_flush-requires-clause-flush g c =

@@ -1,13 +1,10 @@
 -- By the way.
-use Rattle.std.proofs.Common.{ap, sym, subst}
-use Rattle.strm_types.specs.Cells.{plain}
+use Rattle.strm_pty.proofs.Prelude.{ap, sym, subst}
+use Rattle.strm_pty.specs.Prelude.{plain, pckt_passes, HasRoom, message_in, token}
 use Rattle.strm_types.specs.Costs.{pckt_takes_on}
-use Rattle.strm_types.specs.Pckts.{pckt_on_way, pckt_passes}
-use Rattle.strm_frame.specs.Hands.{HasRoom}
-use Rattle.strm_frame.specs.Outboxes.{message_in}
+use Rattle.strm_types.specs.Pckts.{pckt_on_way}
 use Rattle.strm_pty.proofs.Packing.{packs-as}
 use Rattle.strm_pty.proofs.pckt.put.Goals as goal
-use Rattle.strm_blocks.specs.Blocks.{token}
 
 pub put_up-requires-clause-room : goal.put_up-requires-clause-room
 put_up-requires-clause-room g c =

@@ -1,11 +1,8 @@
 -- By the kind.
-use Rattle.std.proofs.Common.{ap, sym, cond, refl}
-use Rattle.strm_types.specs.Cells.{plain}
-use Rattle.strm_types.specs.Pckts.{is_packed, pckt_packs, pckt_passes}
-use Rattle.strm_frame.specs.Outboxes.{message_in}
+use Rattle.strm_pty.proofs.Prelude.{ap, sym, cond, refl}
+use Rattle.strm_pty.specs.Prelude.{plain, is_packed, pckt_packs, pckt_passes, message_in, token}
 use Rattle.strm_pty.proofs.Packing.{kind-test, packs-as, takes-none}
 use Rattle.strm_pty.proofs.pckt.put_up.Goals as goal
-use Rattle.strm_blocks.specs.Blocks.{token}
 
 pub pack_up-requires-clause-packed : goal.pack_up-requires-clause-packed
 pack_up-requires-clause-packed g c =

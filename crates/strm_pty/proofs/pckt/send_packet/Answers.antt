@@ -1,14 +1,10 @@
 -- The packet goes to the next place, and what is made was counted.
-use Rattle.std.proofs.Common.{ap, ◌∙◌}
-use Rattle.strm_types.specs.declared.names.Way.TheVariants.{Up}
-use Rattle.strm_types.specs.Deliver.{onward}
+use Rattle.strm_pty.proofs.Prelude.{ap, ◌∙◌}
+use Rattle.strm_pty.specs.Prelude.{Up, onward, plain_packed, message_in, token}
 use Rattle.strm_types.specs.Names.{direction_at}
-use Rattle.strm_types.specs.Pckts.{plain_packed}
-use Rattle.strm_frame.specs.Outboxes.{message_in}
 use Rattle.strm_pty.specs.Packs.{packet_of}
 use Rattle.strm_pty.proofs.Packing.{becomes-swaps, told-made}
 use Rattle.strm_pty.proofs.pckt.send_packet.Goals as goal
-use Rattle.strm_blocks.specs.Blocks.{token}
 
 pub returns-clause-swaps : goal.returns-clause-swaps
 returns-clause-swaps g c =

@@ -1,20 +1,13 @@
 -- What is no signal is refused; else it goes up.
-use Rattle.std.proofs.Common.{◌≡◌, [], ◌∷◌, sym, ap, subst, ◌∙◌, arith}
-use Rattle.strm_types.specs.declared.names.Way.TheVariants.{Down}
-use Rattle.strm_types.specs.Acks.{ack_message, payload}
-use Rattle.strm_types.specs.Deliver.{onward}
-use Rattle.strm_types.specs.Budgets.{own_at}
-use Rattle.strm_types.specs.Tables.{ptem_does}
+use Rattle.strm_pty.proofs.Prelude.{◌≡◌, [], ◌∷◌, sym, ap, subst, ◌∙◌, arith, asked-plain}
+use Rattle.strm_pty.specs.Prelude.{Down, ack_message, payload, onward, own_at, ptem_does, message_in, token}
 use Rattle.strm_types.specs.Ptems.{signal_told, signals_up}
 use Rattle.strm_types.specs.Signals.{signal_in}
-use Rattle.strm_frame.specs.Outboxes.{message_in}
 use Rattle.strm_pty.specs.Beside.{Answers, ptem_in}
-use Rattle.strm_frame.proofs.Asked.{asked-plain}
 use Rattle.strm_frame.proofs.Behind.{signal-first}
 use Rattle.strm_pty.proofs.Costing.{below-own}
 use Rattle.strm_pty.proofs.Replied.{refuse-below, swaps-answers}
 use Rattle.strm_pty.proofs.ptem.hear_signal.Goals as goal
-use Rattle.strm_blocks.specs.Blocks.{token}
 
 pub payload_of-given-requires-clause-kind : goal.payload_of-given-requires-clause-kind
 payload_of-given-requires-clause-kind g c = asked-plain (g.B.Blocks.value c.args.store.now) (token c.args.message) c.requires.asked

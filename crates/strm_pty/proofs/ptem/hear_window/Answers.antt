@@ -1,21 +1,11 @@
 -- A payload of another length is refused; else it is kept, and those above hear of a change.
-use Rattle.std.proofs.Common.{◌≡◌, [], ◌∷◌, ◌++◌, sym, subst, ◌∙◌, arith}
-use Rattle.std.specs.Prelude.{None, Some}
-use Rattle.strm_types.specs.declared.names.Way.TheVariants.{Down}
-use Rattle.strm_types.specs.Acks.{ack_message, payload}
-use Rattle.strm_types.specs.Deliver.{onward}
-use Rattle.strm_types.specs.Budgets.{own_at}
-use Rattle.strm_types.specs.Tables.{ptem_does}
-use Rattle.strm_types.specs.Ptems.{window_signal, window_told}
-use Rattle.strm_types.specs.Winsizes.{read_winsize}
-use Rattle.strm_frame.specs.Outboxes.{message_in}
+use Rattle.strm_pty.proofs.Prelude.{◌≡◌, [], ◌∷◌, ◌++◌, sym, subst, ◌∙◌, arith, None, Some, asked-plain, window_read}
+use Rattle.strm_pty.specs.Prelude.{Down, ack_message, payload, onward, own_at, ptem_does, window_signal, read_winsize, message_in, token}
+use Rattle.strm_types.specs.Ptems.{window_told}
 use Rattle.strm_pty.specs.Beside.{Answers, ptem_in}
-use Rattle.strm_frame.proofs.Asked.{asked-plain}
-use Rattle.strm_frame.proofs.Behind.{window_read}
 use Rattle.strm_pty.proofs.Costing.{below-own}
 use Rattle.strm_pty.proofs.Replied.{read-all, refuse-below, swaps-answers}
 use Rattle.strm_pty.proofs.ptem.hear_window.Goals as goal
-use Rattle.strm_blocks.specs.Blocks.{token}
 
 pub payload_of-given-requires-clause-kind : goal.payload_of-given-requires-clause-kind
 payload_of-given-requires-clause-kind g c = asked-plain (g.B.Blocks.value c.args.store.now) (token c.args.message) c.requires.asked

@@ -1,17 +1,12 @@
 -- By the kind, the header and the way.
-use Rattle.std.proofs.Common.{◌≡◌, sym, subst, ◌∙◌, arith}
-use Rattle.std.specs.Prelude.{Some}
-use Rattle.strm_types.specs.Ioctls.{read_ioc}
-use Rattle.strm_types.specs.Budgets.{own_at}
-use Rattle.strm_types.specs.Tables.{ptem_does}
-use Rattle.strm_frame.specs.Outboxes.{message_in, sent_of}
+use Rattle.strm_pty.proofs.Prelude.{◌≡◌, sym, subst, ◌∙◌, arith, Some, asked-plain}
+use Rattle.strm_pty.specs.Prelude.{read_ioc, own_at, ptem_does, message_in, sent_of, token}
 use Rattle.strm_pty.specs.Beside.{Answers, MayPass, ptem_in}
-use Rattle.strm_frame.proofs.Asked.{asked-is, asked-not, asked-plain}
+use Rattle.strm_frame.proofs.Asked.{asked-is, asked-not}
 use Rattle.strm_pty.proofs.Carried.{lone-carries}
 use Rattle.strm_pty.proofs.Putting.{held-passes}
 use Rattle.strm_pty.proofs.Replied.{may-above, may-below, puts-above, puts-below, puts-other}
 use Rattle.strm_pty.proofs.ptem.put.Goals as goal
-use Rattle.strm_blocks.specs.Blocks.{token}
 
 pub returns-then-not-is_ioctl-clause-does : goal.returns-then-not-is_ioctl-clause-does
 returns-then-not-is_ioctl-clause-does g c =

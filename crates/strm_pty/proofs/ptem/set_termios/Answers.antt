@@ -1,19 +1,13 @@
 -- A payload of another length is refused; else it is kept, and told.
-use Rattle.std.proofs.Common.{◌≡◌, sym, subst, ◌∙◌, arith}
-use Rattle.std.specs.Prelude.{None, Some}
-use Rattle.strm_types.specs.Acks.{payload}
-use Rattle.strm_types.specs.Budgets.{own_at}
-use Rattle.strm_types.specs.Tables.{ptem_does}
+use Rattle.strm_pty.proofs.Prelude.{◌≡◌, sym, subst, ◌∙◌, arith, None, Some, asked-plain}
+use Rattle.strm_pty.specs.Prelude.{payload, own_at, ptem_does, message_in, sent_of, token}
 use Rattle.strm_types.specs.Ptems.{termios_set}
 use Rattle.strm_types.specs.Termios.{read_termios}
-use Rattle.strm_frame.specs.Outboxes.{message_in, sent_of}
 use Rattle.strm_pty.specs.Beside.{Answers, ptem_in}
-use Rattle.strm_frame.proofs.Asked.{asked-plain}
 use Rattle.strm_frame.proofs.Behind.{termios_read}
 use Rattle.strm_pty.proofs.Carried.{lone-carries}
 use Rattle.strm_pty.proofs.Replied.{read-all, read-whole, refuse-above, set-answers}
 use Rattle.strm_pty.proofs.ptem.set_termios.Goals as goal
-use Rattle.strm_blocks.specs.Blocks.{token}
 
 pub payload_of-given-requires-clause-kind : goal.payload_of-given-requires-clause-kind
 payload_of-given-requires-clause-kind g c = asked-plain (g.B.Blocks.value c.args.store.now) (token c.args.message) c.requires.asked

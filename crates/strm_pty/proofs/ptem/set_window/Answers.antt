@@ -1,19 +1,11 @@
 -- A payload of another length is refused; else it is kept, and told.
-use Rattle.std.proofs.Common.{◌≡◌, sym, subst, ◌∙◌, arith}
-use Rattle.std.specs.Prelude.{None, Some}
-use Rattle.strm_types.specs.Acks.{payload}
-use Rattle.strm_types.specs.Budgets.{own_at}
-use Rattle.strm_types.specs.Tables.{ptem_does}
+use Rattle.strm_pty.proofs.Prelude.{◌≡◌, sym, subst, ◌∙◌, arith, None, Some, asked-plain, window_read}
+use Rattle.strm_pty.specs.Prelude.{payload, own_at, ptem_does, read_winsize, message_in, sent_of, token}
 use Rattle.strm_types.specs.Ptems.{window_set}
-use Rattle.strm_types.specs.Winsizes.{read_winsize}
-use Rattle.strm_frame.specs.Outboxes.{message_in, sent_of}
 use Rattle.strm_pty.specs.Beside.{Answers, ptem_in}
-use Rattle.strm_frame.proofs.Asked.{asked-plain}
-use Rattle.strm_frame.proofs.Behind.{window_read}
 use Rattle.strm_pty.proofs.Carried.{lone-carries}
 use Rattle.strm_pty.proofs.Replied.{read-all, read-whole, refuse-above, set-answers}
 use Rattle.strm_pty.proofs.ptem.set_window.Goals as goal
-use Rattle.strm_blocks.specs.Blocks.{token}
 
 pub payload_of-given-requires-clause-kind : goal.payload_of-given-requires-clause-kind
 payload_of-given-requires-clause-kind g c = asked-plain (g.B.Blocks.value c.args.store.now) (token c.args.message) c.requires.asked

@@ -1,15 +1,9 @@
 -- The M_IOCTL is freed, and its answer is made.
-use Rattle.std.proofs.Common.{[], ◌∷◌, ◌++◌, ap, ◌∙◌, arith}
-use Rattle.strm_types.specs.declared.ioctls.Ioc.{Ioc}
-use Rattle.strm_types.specs.declared.kinds.MsgKind.TheVariants.{Iocack}
-use Rattle.strm_types.specs.declared.names.Way.TheVariants.{Up}
-use Rattle.strm_types.specs.Ioctls.{ioc_bytes}
-use Rattle.strm_types.specs.Deliver.{onward}
-use Rattle.strm_types.specs.Typing.{bare}
+use Rattle.strm_pty.proofs.Prelude.{[], ◌∷◌, ◌++◌, ap, ◌∙◌, arith}
+use Rattle.strm_pty.specs.Prelude.{Ioc, Iocack, Up, ioc_bytes, onward, bare, token}
 use Rattle.strm_pty.proofs.Replied.{ack-plain, makes-as}
 use Rattle.strm_pty.proofs.Doing.{freed-then, room-freed}
 use Rattle.strm_pty.proofs.replies.ack.Goals as goal
-use Rattle.strm_blocks.specs.Blocks.{token}
 
 pub send-sent-requires-clause-kind : goal.send-sent-requires-clause-kind
 send-sent-requires-clause-kind g c = ack-plain

@@ -1,15 +1,11 @@
 -- The answer and what tells of it are made, and then the signal of a change.
-use Rattle.std.proofs.Common.{[], ◌∷◌, ◌++◌, sym, subst, append-nil, arith}
+use Rattle.strm_pty.proofs.Prelude.{[], ◌∷◌, ◌++◌, sym, subst, append-nil, arith}
+use Rattle.strm_pty.specs.Prelude.{Up, Down, ack_message, telling_message, onward, window_signal, token}
 use Rattle.std.specs.Option.{option_to_list}
-use Rattle.strm_types.specs.declared.names.Way.TheVariants.{Up, Down}
-use Rattle.strm_types.specs.Acks.{ack_message, telling_message}
-use Rattle.strm_types.specs.Deliver.{onward}
-use Rattle.strm_types.specs.Ptems.{window_signal}
 use Rattle.strm_pty.specs.Does.{Swaps}
 use Rattle.strm_pty.proofs.Carried.{carry-more}
 use Rattle.strm_pty.proofs.Doing.{room-left, room-less, stays-behind, swaps-both}
 use Rattle.strm_pty.proofs.replies.confirm.Goals as goal
-use Rattle.strm_blocks.specs.Blocks.{token}
 
 pub tell_both-requires-clause-room : goal.tell_both-requires-clause-room
 tell_both-requires-clause-room g c = room-less (g.B.Blocks.value c.args.store.now) 3 2 (omega arith) c.requires.room

@@ -1,15 +1,9 @@
 -- The M_IOCTL is freed; its answer is made, and then what tells of it.
-use Rattle.std.proofs.Common.{[], ◌∷◌, ◌++◌, refl, ap, ◌∙◌, arith}
-use Rattle.strm_types.specs.declared.ioctls.Ioc.{Ioc}
-use Rattle.strm_types.specs.declared.kinds.MsgKind.TheVariants.{Ioctl, Iocack}
-use Rattle.strm_types.specs.declared.names.Way.TheVariants.{Up, Down}
-use Rattle.strm_types.specs.Ioctls.{ioc_bytes}
-use Rattle.strm_types.specs.Deliver.{onward}
-use Rattle.strm_types.specs.Typing.{bare}
+use Rattle.strm_pty.proofs.Prelude.{[], ◌∷◌, ◌++◌, refl, ap, ◌∙◌, arith}
+use Rattle.strm_pty.specs.Prelude.{Ioc, Ioctl, Iocack, Up, Down, ioc_bytes, onward, bare, token}
 use Rattle.strm_pty.proofs.Replied.{ack-plain, ioctl-plain, makes-as}
 use Rattle.strm_pty.proofs.Doing.{freed-then, makes-both, room-freed, room-left}
 use Rattle.strm_pty.proofs.replies.copy_both.Goals as goal
-use Rattle.strm_blocks.specs.Blocks.{token}
 
 pub send-first-requires-clause-kind : goal.send-first-requires-clause-kind
 send-first-requires-clause-kind g c = ack-plain

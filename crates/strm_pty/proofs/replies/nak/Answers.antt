@@ -1,15 +1,10 @@
 -- The M_IOCTL is freed, and its answer is made.
-use Rattle.std.proofs.Common.{[], ◌∷◌, ap, ◌∙◌, arith}
-use Rattle.strm_types.specs.declared.ioctls.Ioc.{Ioc}
-use Rattle.strm_types.specs.declared.kinds.MsgKind.TheVariants.{Iocnak}
-use Rattle.strm_types.specs.Ioctls.{ioc_bytes}
-use Rattle.strm_types.specs.Deliver.{onward}
-use Rattle.strm_types.specs.Typing.{bare}
+use Rattle.strm_pty.proofs.Prelude.{[], ◌∷◌, ap, ◌∙◌, arith}
+use Rattle.strm_pty.specs.Prelude.{Ioc, Iocnak, ioc_bytes, onward, bare, token}
 use Rattle.strm_pty.proofs.Replied.{makes-as}
 use Rattle.strm_pty.proofs.Doing.{freed-then, room-freed}
 use Rattle.strm_pty.proofs.Made.{nak-plain}
 use Rattle.strm_pty.proofs.replies.nak.Goals as goal
-use Rattle.strm_blocks.specs.Blocks.{token}
 
 pub send-sent-requires-clause-kind : goal.send-sent-requires-clause-kind
 send-sent-requires-clause-kind g c = nak-plain

@@ -1,7 +1,6 @@
 -- The message is made, and goes to the next place.
-use Rattle.std.proofs.Common.{refl, ap}
-use Rattle.strm_types.specs.declared.spots.Spot.{Spot}
-use Rattle.strm_types.specs.Typing.{bare}
+use Rattle.strm_pty.proofs.Prelude.{refl, ap}
+use Rattle.strm_pty.specs.Prelude.{Spot, bare}
 use Rattle.strm_pty.proofs.Doing.{makes-one}
 use Rattle.strm_pty.proofs.replies.send.Goals as goal
 

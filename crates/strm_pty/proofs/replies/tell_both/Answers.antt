@@ -1,10 +1,6 @@
 -- What was parted is shared; what wasn't is as it was, and is copied.
-use Rattle.std.proofs.Common.{ℕ, List, [], ◌∷◌, drop, sym, ap, subst, ◌∙◌}
-use Rattle.strm_types.specs.declared.names.Way.TheVariants.{Up, Down}
-use Rattle.strm_types.specs.Acks.{ack_message, telling_message}
-use Rattle.strm_types.specs.Deliver.{onward}
-use Rattle.strm_blocks.specs.Blocks.{IsInHand, token}
-use Rattle.strm_frame.specs.Hands.{HasRoom}
+use Rattle.strm_pty.proofs.Prelude.{ℕ, List, [], ◌∷◌, drop, sym, ap, subst, ◌∙◌}
+use Rattle.strm_pty.specs.Prelude.{Up, Down, ack_message, telling_message, onward, IsInHand, token, HasRoom}
 use Rattle.strm_pty.specs.Does.{Swaps}
 use Rattle.strm_pty.specs.Shares.{BothCarry}
 use Rattle.strm_pty.proofs.Doing.{room-left}

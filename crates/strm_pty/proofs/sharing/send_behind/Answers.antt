@@ -1,9 +1,6 @@
 -- A block came, and the message is hung behind it.
-use Rattle.std.proofs.Common.{◌≡◌, ◌++◌, drop, sym, subst}
-use Rattle.strm_types.specs.Deliver.{toward}
-use Rattle.strm_types.specs.Typing.{bare}
-use Rattle.strm_blocks.specs.Blocks.{in_hand, token}
-use Rattle.strm_msg.specs.Bytes.{bytes_of}
+use Rattle.strm_pty.proofs.Prelude.{◌≡◌, ◌++◌, drop, sym, subst}
+use Rattle.strm_pty.specs.Prelude.{toward, bare, in_hand, token, bytes_of}
 use Rattle.strm_pty.specs.Packs.{Becomes}
 use Rattle.strm_pty.proofs.Hanging.{headed, headed-carries}
 use Rattle.strm_pty.proofs.Packing.{becomes-swaps}

@@ -1,13 +1,7 @@
 -- One after the other. The second one stays as it is while the first one is sent.
-use Rattle.std.proofs.Common.{◌≡◌, ◌<◌, [], ◌∷◌, ◌++◌, sym, ap, subst, ◌∙◌, arith}
-use Rattle.strm_types.specs.declared.ioctls.Ioc.{Ioc}
-use Rattle.strm_types.specs.declared.kinds.MsgKind.TheVariants.{Ioctl, Iocack}
-use Rattle.strm_types.specs.declared.names.Way.TheVariants.{Up, Down}
-use Rattle.strm_types.specs.Ioctls.{asking, ioc_bytes}
-use Rattle.strm_types.specs.Deliver.{onward}
-use Rattle.strm_types.specs.Typing.{bare}
-use Rattle.strm_blocks.specs.Blocks.{in_hand, token}
-use Rattle.strm_msg.specs.Bytes.{bytes_of}
+use Rattle.strm_pty.proofs.Prelude.{◌≡◌, ◌<◌, [], ◌∷◌, ◌++◌, sym, ap, subst, ◌∙◌, arith}
+use Rattle.strm_pty.specs.Prelude.{Ioc, Ioctl, Iocack, Up, Down, ioc_bytes, onward, bare, in_hand, token, bytes_of}
+use Rattle.strm_types.specs.Ioctls.{asking}
 use Rattle.strm_pty.specs.Does.{Swaps}
 use Rattle.strm_pty.proofs.Doing.{once-none, room-left}
 use Rattle.strm_pty.proofs.Hanging.{both-carry, sends-both}

@@ -1,5 +1,4 @@
-use Rattle.std.proofs.Common.{◌≡◌, ◌+◌, ◌-◌, arith, sym, ◌∙◌}
-use Rattle.std.proofs.lemmas.Bool.{cond-true, cond-false, lt-ltb, le-ltb}
+use Rattle.strm_script.proofs.Prelude.{◌≡◌, ◌+◌, ◌-◌, arith, sym, ◌∙◌, cond-true, cond-false, lt-ltb, le-ltb}
 use Rattle.strm_script.proofs.answers.hex_digit.Goals as goal
 
 pub returns-then-digit-lt10-clause-same : goal.returns-then-digit-lt10-clause-same

@@ -1,8 +1,6 @@
-use Rattle.std.proofs.Common.{◌≡◌, List, None, refl, arith, sym, ap, ◌∙◌}
-use Rattle.strm_types.specs.declared.events.Caller.{Caller}
-use Rattle.strm_types.specs.declared.events.FlushQueues.{FlushQueues}
+use Rattle.strm_script.proofs.Prelude.{◌≡◌, List, None, refl, arith, sym, ap, ◌∙◌}
+use Rattle.strm_script.specs.Prelude.{Caller, FlushQueues, Einval}
 use Rattle.strm_types.specs.declared.events.Event.TheVariants as calls
-use Rattle.strm_types.specs.declared.refusals.Refusal.TheVariants.{Einval}
 use Rattle.strm_script.specs.ScriptRun.{Supply, PlainPair, by_call, by_flush}
 use Rattle.strm_script.specs.Plain.{plain}
 use Rattle.strm_script.proofs.Events.{leads_unanswered, leads_same, flush_refused, flush_made}

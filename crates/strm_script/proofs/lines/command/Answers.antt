@@ -1,5 +1,4 @@
-use Rattle.std.proofs.Common.{◌≡◌, ℕ, List, Option, None, Some, ap, ◌∙◌}
-use Rattle.std.proofs.lemmas.Result.{IfOk-weaker}
+use Rattle.strm_script.proofs.Prelude.{◌≡◌, ℕ, List, Option, None, Some, ap, ◌∙◌, IfOk-weaker}
 use Rattle.strm_script.specs.declared.verbs.Verb.{Verb}
 use Rattle.strm_script.specs.Named.{and_then, named}
 use Rattle.strm_script.specs.Table.{verbs, form_of}

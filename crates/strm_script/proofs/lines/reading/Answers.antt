@@ -1,5 +1,4 @@
-use Rattle.std.proofs.Common.{sym, ◌∙◌}
-use Rattle.std.proofs.lemmas.Result.{IfOk-weaker}
+use Rattle.strm_script.proofs.Prelude.{sym, ◌∙◌, IfOk-weaker}
 use Rattle.strm_script.proofs.Spellings.{reading-found, reading-only}
 use Rattle.strm_script.proofs.lines.reading.Goals as goal
 

@@ -1,5 +1,4 @@
-use Rattle.std.proofs.Common.{length, sym}
-use Rattle.std.proofs.lemmas.Bool.{cond-true, lt-ltb}
+use Rattle.strm_script.proofs.Prelude.{length, sym, cond-true, lt-ltb}
 use Rattle.strm_script.specs.ScriptReading.{reading}
 use Rattle.strm_script.proofs.lines.said.Goals as goal
 

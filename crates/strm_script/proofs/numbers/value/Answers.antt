@@ -1,5 +1,4 @@
-use Rattle.std.proofs.Common.{arith, sym, ◌∙◌}
-use Rattle.std.proofs.lemmas.List.{at_drop_more}
+use Rattle.strm_script.proofs.Prelude.{arith, sym, ◌∙◌, at_drop_more}
 use Rattle.strm_script.specs.ScriptReading.{number_from}
 use Rattle.strm_script.proofs.Readings.{number_none, number_over, number_more, number_end}
 use Rattle.strm_script.proofs.numbers.value.Goals as goal

@@ -1,15 +1,10 @@
-use Rattle.std.proofs.Common.{◌≡◌, ℕ, false, List, Option, None, ap, sym, refl, ◌∙◌, unwrap_or, option_map}
-use Rattle.std.proofs.lemmas.Result.{IfOk-weaker}
-use Rattle.strm_types.specs.declared.both.Both.{Both}
-use Rattle.strm_types.specs.declared.events.Caller.{Caller}
+use Rattle.strm_script.proofs.Prelude.{◌≡◌, ℕ, false, List, Option, None, ap, sym, refl, ◌∙◌, unwrap_or, option_map, IfOk-weaker}
+use Rattle.strm_script.specs.Prelude.{Both, Caller, Enxio, PairState, Done as Nothing}
 use Rattle.strm_script.specs.ScriptRun.{Supply, PlainPair, answered, unanswered, by_open}
-use Rattle.strm_types.specs.declared.refusals.Refusal.TheVariants.{Enxio}
 use Rattle.strm_script.specs.Commands.{command_of}
-use Rattle.strm_laws.specs.Pair.{PairState}
 use Rattle.strm_script.specs.Plain.{plain}
 use Rattle.strm_script.specs.Lines.{line_of}
 use Rattle.strm_script.specs.declared.answers.Line.TheVariants.{Done}
-use Rattle.strm_types.specs.declared.answers.Answer.TheVariants.{Done as Nothing}
 use Rattle.strm_script.specs.Outcomes.{LeadsTo}
 use Rattle.strm_script.specs.declared.outcomes.Answered.{Answered}
 use Rattle.strm_script.specs.declared.commands.Command.{Command}

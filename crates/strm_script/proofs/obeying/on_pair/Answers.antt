@@ -1,22 +1,12 @@
-use Rattle.std.proofs.Common.{◌≡◌, ℕ, Bool, true, false, cond, List, [], ◌∷◌, ◌++◌, length, map, Option, None, Some, is_some, ap, sym, refl, ◌∙◌}
-use Rattle.strm_types.specs.declared.both.Both.{Both}
-use Rattle.strm_types.specs.declared.events.Caller.{Caller}
-use Rattle.strm_types.specs.declared.names.Place.TheVariants.{Ldterm}
-use Rattle.strm_types.specs.declared.names.QueueName.{QueueName}
-use Rattle.strm_types.specs.declared.names.Way.TheVariants.{Up, Down}
-use Rattle.strm_laws.specs.ModuleTurns.{place_named}
-use Rattle.strm_types.specs.Both.{get}
-use Rattle.strm_types.specs.Names.{head_of, driver_of}
-use Rattle.strm_laws.specs.State.{State, stream}
+use Rattle.strm_script.proofs.Prelude.{◌≡◌, ℕ, Bool, true, false, cond, List, [], ◌∷◌, ◌++◌, length, map, Option, None, Some, is_some, ap, sym, refl}
+use Rattle.strm_script.proofs.Prelude.{◌∙◌}
+use Rattle.strm_script.specs.Prelude.{Both, Caller, Ldterm, QueueName, Up, Down, place_named, get, head_of, driver_of, State, stream, Side}
+use Rattle.strm_script.specs.Prelude.{FlushQueues, Request, Einval, PairState}
 use Rattle.strm_script.specs.ScriptAnswers.{Sizes}
-use Rattle.strm_types.specs.declared.names.Side.{Side}
-use Rattle.strm_types.specs.declared.events.FlushQueues.{FlushQueues}
-use Rattle.strm_types.specs.Events.{Request}
 use Rattle.strm_script.specs.Script.{Call, Flush, Put, Get, Cut}
 use Rattle.strm_script.specs.declared.commands.NamedPrio.{NamedPrio}
 use Rattle.strm_script.specs.declared.commands.NamedWanted.{NamedWanted}
 use Rattle.strm_script.specs.ScriptRun.{PlainPair, answered, by_call, by_flush, by_put, by_get, by_show, by_ledger, by_cut, queues_down, size_at}
-use Rattle.strm_types.specs.declared.refusals.Refusal.TheVariants.{Einval}
 use Rattle.strm_script.specs.Commands.{command_of}
 use Rattle.strm_script.specs.Plain.{plain}
 use Rattle.strm_script.specs.Lines.{line_of, module_sizes, sizes_of}
@@ -24,7 +14,7 @@ use Rattle.strm_script.specs.Outcomes.{LeadsTo}
 use Rattle.strm_script.specs.declared.outcomes.Answered.{Answered}
 use Rattle.strm_script.specs.declared.commands.Command.{Command}
 use Rattle.strm_script.proofs.Events.{leads_unanswered, leads_looked, leads_same}
-use Rattle.strm_laws.specs.Pair.{PairState, restarted}
+use Rattle.strm_laws.specs.Pair.{restarted}
 use Rattle.strm_script.specs.declared.answers.Line.TheVariants.{Entries}
 use Rattle.strm_script.proofs.obeying.on_pair.Goals as goal
 

@@ -1,6 +1,5 @@
-use Rattle.std.proofs.Common.{◌≡◌, false, refl, ap, sym}
-use Rattle.strm_types.specs.declared.refusals.Refusal.{Refusal}
-use Rattle.strm_types.specs.declared.refusals.Refusal.TheVariants.{Einval, Eagain, Enxio, Ebadmsg, Enosr, Erange, JournalFull, NoMinor, NoMemory, StillShared, Eio}
+use Rattle.strm_script.proofs.Prelude.{◌≡◌, false, refl, ap, sym}
+use Rattle.strm_script.specs.Prelude.{Refusal, Einval, Eagain, Enxio, Ebadmsg, Enosr, Erange, JournalFull, NoMinor, NoMemory, StillShared, Eio}
 use Rattle.strm_script.specs.ScriptRun.{is_enosr}
 use Rattle.strm_script.proofs.outcomes.is_short.Goals as goal
 

@@ -1,5 +1,4 @@
-use Rattle.std.proofs.Common.{◌≡◌, ℕ, arith, refl}
-use Rattle.std.proofs.lemmas.Bool.{eq-eqb, ne_eqb}
+use Rattle.strm_script.proofs.Prelude.{◌≡◌, ℕ, arith, refl, eq-eqb, ne_eqb}
 use Rattle.strm_script.specs.ScriptReading.{Inside, Escaped, Closed, Breaks, Goes, Gives, moved_by}
 use Rattle.strm_script.proofs.texts.moved_inside.Goals as goal
 

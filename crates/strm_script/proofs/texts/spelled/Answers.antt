@@ -1,5 +1,4 @@
-use Rattle.std.proofs.Common.{◌≡◌, ◌+◌, ◌++◌, ◌≤◌, take, drop, length, length-drop, arith, sym, ap, ◌∙◌, subst}
-use Rattle.std.proofs.lemmas.List.{take_rest}
+use Rattle.strm_script.proofs.Prelude.{◌≡◌, ◌+◌, ◌++◌, ◌≤◌, take, drop, length, length-drop, arith, sym, ap, ◌∙◌, subst, take_rest}
 use Rattle.strm_script.specs.Modes.{mode_of}
 use Rattle.strm_script.specs.ScriptReading.{own_len}
 use Rattle.strm_script.proofs.Readings.{TextTo, TextTo-breaks, TextTo-goes, TextTo-gives, TextTo-own, TextTo-closed, TextTo-open, own-within}

@@ -1,5 +1,4 @@
-use Rattle.std.proofs.Common.{arith}
-use Rattle.std.proofs.lemmas.Grind.{common_steps}
+use Rattle.strm_frame.proofs.Prelude.{arith, common_steps}
 use Rattle.strm_frame.proofs.enabled.Enabled.forget.Goals as goal
 
 pub returns-in-Some : goal.returns-in-Some

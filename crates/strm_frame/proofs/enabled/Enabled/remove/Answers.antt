@@ -1,8 +1,7 @@
 -- The names that are kept are those of the list without the one.
-use Rattle.std.proofs.Common.{◌≡◌, ◌-◌, ◌∙◌, [], length, take, arith, refl, sym, ap, subst}
+use Rattle.strm_frame.proofs.Prelude.{◌≡◌, ◌-◌, ◌∙◌, [], length, take, arith, refl, sym, ap, subst, take_all}
+use Rattle.strm_frame.specs.Prelude.{without}
 use Rattle.std.specs.Bool.{OnTrue}
-use Rattle.std.proofs.lemmas.List.{take_all}
-use Rattle.strm_types.specs.Names.{without}
 use Rattle.strm_types.proofs.EnabledNames.{once-without, without-kept, without-gone}
 use Rattle.strm_frame.proofs.enabled.Enabled.remove.Goals as goal
 use Rattle.strm_frame.proofs.enabled.Enabled.remove.Goals.{then-not-is_same, else-not-is_same}

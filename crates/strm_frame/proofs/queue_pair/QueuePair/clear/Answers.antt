@@ -1,13 +1,10 @@
 -- The queue of the way is cleared, and the other one stays.
-use Rattle.std.proofs.Common.{ap, sym, ◌∙◌}
+use Rattle.strm_frame.proofs.Prelude.{ap, sym, ◌∙◌}
+use Rattle.strm_frame.specs.Prelude.{Way, Up, Down, is_met, of_all, pair_changed, way_queue}
 use Rattle.std.specs.Prelude.{length}
-use Rattle.strm_types.specs.declared.names.Way.{Way}
-use Rattle.strm_types.specs.declared.names.Way.TheVariants.{Up, Down}
-use Rattle.strm_types.specs.Dropped.{is_met}
-use Rattle.strm_types.specs.Emptied.{of_all, cells_gone, queue_behind, writer_goes}
+use Rattle.strm_types.specs.Emptied.{cells_gone, queue_behind, writer_goes}
 use Rattle.strm_types.specs.Names.{direction_at}
 use Rattle.strm_types.specs.Rules.{told_more}
-use Rattle.strm_types.specs.Standings.{pair_changed, way_queue}
 use Rattle.strm_frame.specs.Standings.{pair_in}
 use Rattle.strm_frame.proofs.Pairs.{read-lists, read-own, read-pair, read-ready, same-hand, write-lists, write-own, write-pair, write-ready}
 use Rattle.strm_frame.proofs.queue_pair.QueuePair.clear.Goals as goal

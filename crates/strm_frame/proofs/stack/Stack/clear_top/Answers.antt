@@ -1,10 +1,6 @@
 -- The modules are taken as a slice, and written back whole.
-use Rattle.std.proofs.Common.{◌∙◌, List, ap, sym, subst, [], length}
-use Rattle.strm_types.specs.declared.names.Way.TheVariants.{Down}
-use Rattle.strm_types.specs.ModuleQueues.{at_place}
-use Rattle.strm_types.specs.Standings.{messages_at}
-use Rattle.strm_types.specs.Modules.{act_among}
-use Rattle.strm_types.specs.Service.{cleared}
+use Rattle.strm_frame.proofs.Prelude.{◌∙◌, List, ap, sym, subst, [], length}
+use Rattle.strm_frame.specs.Prelude.{Down, at_place, messages_at, act_among, cleared}
 use Rattle.strm_frame.specs.Does.{Clears}
 use Rattle.strm_frame.specs.Stacks.{all_in, all_of, AreHeld}
 use Rattle.strm_frame.specs.Standings.{standing_in, Fits, owns, keeps_of}

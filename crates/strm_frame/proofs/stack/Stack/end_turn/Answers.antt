@@ -1,9 +1,6 @@
 -- The modules are written back whole.
-use Rattle.std.proofs.Common.{◌-◌, ◌∙◌, false, List, sym, ap, subst, length}
-use Rattle.strm_types.specs.ModuleQueues.{at_place}
-use Rattle.strm_types.specs.Standings.{queue_changed}
-use Rattle.strm_types.specs.Modules.{change_among}
-use Rattle.strm_types.specs.Service.{turn_ended, end_relieves, has_more}
+use Rattle.strm_frame.proofs.Prelude.{◌-◌, ◌∙◌, false, List, sym, ap, subst, length}
+use Rattle.strm_frame.specs.Prelude.{at_place, queue_changed, change_among, turn_ended, end_relieves, has_more}
 use Rattle.strm_frame.specs.Does.{EndsTurn}
 use Rattle.strm_frame.specs.Stacks.{all_in, all_of, AreHeld}
 use Rattle.strm_frame.specs.Standings.{standing_in, Fits, owns, keeps_of}

@@ -1,16 +1,14 @@
 -- The modules are taken as a slice, and written back whole.
-use Rattle.std.proofs.Common.{◌-◌, ◌∙◌, List, ap, sym, subst, length, map, arith}
-use Rattle.std.specs.Prelude.{ℕ, slice_index_or}
-use Rattle.strm_types.specs.Budgets.{own_at}
+use Rattle.strm_frame.proofs.Prelude.{◌-◌, ◌∙◌, List, ap, sym, subst, length, map, arith, slice_index_or}
+use Rattle.strm_frame.specs.Prelude.{own_at, of_part, Standing, token}
+use Rattle.std.specs.Prelude.{ℕ}
 use Rattle.strm_types.specs.Modules.{put_among}
-use Rattle.strm_types.specs.Standings.{of_part, Standing}
 use Rattle.strm_frame.specs.Does.{Puts}
 use Rattle.strm_frame.specs.Hands.{CanPut, HasRoom}
 use Rattle.strm_frame.specs.Outboxes.{message_in}
 use Rattle.strm_frame.specs.Stacks.{all_in, all_of, AreHeld}
 use Rattle.strm_frame.proofs.Beside.{refilled}
 use Rattle.strm_frame.proofs.stack.Stack.put.Goals as goal
-use Rattle.strm_blocks.specs.Blocks.{token}
 use Rattle.strm_frame.specs.Standings.{standing_in, Fits, owns, keeps_of}
 
 pub put_among-requires-clause-within : goal.put_among-requires-clause-within

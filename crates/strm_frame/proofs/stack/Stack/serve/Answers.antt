@@ -1,8 +1,6 @@
 -- The modules are written back whole.
-use Rattle.std.proofs.Common.{◌-◌, ◌∙◌, true, List, sym, ap, subst, length}
-use Rattle.std.specs.Prelude.{HoldsAt}
-use Rattle.strm_types.specs.ModuleQueues.{at_place}
-use Rattle.strm_types.specs.Standings.{of_part}
+use Rattle.strm_frame.proofs.Prelude.{◌-◌, ◌∙◌, true, List, sym, ap, subst, length, HoldsAt}
+use Rattle.strm_frame.specs.Prelude.{at_place, of_part}
 use Rattle.strm_frame.specs.Does.{Serves}
 use Rattle.strm_frame.specs.Serves.{served_among, stop_of}
 use Rattle.strm_frame.specs.Stacks.{all_in, all_of, AreHeld}

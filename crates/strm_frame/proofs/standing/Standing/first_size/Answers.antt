@@ -1,10 +1,7 @@
 -- What its queue of the way answers, where it has queues.
-use Rattle.std.proofs.Common.{ℕ, ap, sym, subst, ◌∙◌}
-use Rattle.std.specs.Prelude.{Option, IfSome}
-use Rattle.strm_types.specs.Queue.{first_size}
+use Rattle.strm_frame.proofs.Prelude.{ℕ, ap, sym, subst, ◌∙◌, Option, IfSome}
+use Rattle.strm_frame.specs.Prelude.{first_size, stood, messages_at, IsReady, queue_in}
 use Rattle.strm_types.specs.Queue as plain
-use Rattle.strm_types.specs.Standings.{stood, messages_at}
-use Rattle.strm_queue.specs.Stored.{IsReady, queue_in}
 use Rattle.strm_frame.specs.declared.queue_pair.QueuePair.{QueuePair}
 use Rattle.strm_frame.specs.Standings.{IsPairReady, queues_in}
 use Rattle.strm_frame.proofs.Flags.{way-ready, way-shown}

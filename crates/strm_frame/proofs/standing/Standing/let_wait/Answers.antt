@@ -1,8 +1,7 @@
 -- A writer waits at the queue of the way, where there are queues.
-use Rattle.std.proofs.Common.{refl, ap, sym, subst, ◌∙◌}
-use Rattle.std.specs.Prelude.{Option, Some, IfSome, option_map}
+use Rattle.strm_frame.proofs.Prelude.{refl, ap, sym, subst, ◌∙◌, Option, Some, IfSome, option_map}
+use Rattle.strm_frame.specs.Prelude.{pair_changed, stood}
 use Rattle.strm_types.specs.ModuleQueues.{with_waiting}
-use Rattle.strm_types.specs.Standings.{pair_changed, stood}
 use Rattle.strm_frame.specs.declared.queue_pair.QueuePair.{QueuePair}
 use Rattle.strm_frame.specs.Standings.{IsPairReady, lists_of, queues_in}
 use Rattle.strm_frame.proofs.Flags.{flags-fit, lists-own}

@@ -1,7 +1,6 @@
 -- What is measured of the first message is its data part, and numbers of 32 bits hold it.
-use Rattle.std.proofs.Common.{◌∙◌, ap, arith}
-use Rattle.std.specs.Prelude.{unwrap_or}
-use Rattle.strm_blocks.specs.Blocks.{list_at}
+use Rattle.strm_head.proofs.Prelude.{◌∙◌, ap, arith, unwrap_or}
+use Rattle.strm_head.specs.Prelude.{list_at}
 use Rattle.strm_head.proofs.FewWaiting.{data-few, messages-few}
 use Rattle.strm_head.proofs.Seen.{first-part}
 use Rattle.strm_head.proofs.head.Head.nread.Goals as goal

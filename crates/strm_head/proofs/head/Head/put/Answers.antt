@@ -1,17 +1,9 @@
 -- What a message does at a head, by its kind.
-use Rattle.std.proofs.Common.{ℕ, ◌≡◌, false, true, List, sym, ap, ◌∙◌}
-use Rattle.std.proofs.lemmas.Bool.{false≢true}
-use Rattle.strm_types.specs.declared.flushing.FlushAsked.{FlushAsked}
-use Rattle.strm_types.specs.declared.kinds.MsgKind.{MsgKind}
-use Rattle.strm_types.specs.Deliver.{Acted, Fate, tallied}
-use Rattle.strm_types.specs.Flush.{is_data_kind}
-use Rattle.strm_types.specs.Flushing.{is_flush}
-use Rattle.strm_types.specs.Message.{is_held}
-use Rattle.strm_types.specs.Heads.{waits_for_readers, flush_up, obeyed, head_put}
+use Rattle.strm_head.proofs.Prelude.{ℕ, ◌≡◌, false, true, List, sym, ap, ◌∙◌, false≢true}
+use Rattle.strm_head.specs.Prelude.{FlushAsked, MsgKind, Acted, tallied, is_data_kind, is_flush, is_held, waits_for_readers, flush_up, obeyed}
+use Rattle.strm_head.specs.Prelude.{head_put, StoreValue, in_hand, token, bytes_of, message_of}
+use Rattle.strm_types.specs.Deliver.{Fate}
 use Rattle.strm_types.specs.Heads as state
-use Rattle.strm_blocks.specs.Blocks.{StoreValue, in_hand, token}
-use Rattle.strm_msg.specs.Bytes.{bytes_of}
-use Rattle.strm_msg.specs.Messages.{message_of}
 use Rattle.strm_head.specs.Heads.{head_in}
 use Rattle.strm_head.proofs.Coming.{data-comes, flush-comes, other-comes, heeds-notes, heeds-gone, counts-changed, readable-still, held-data, held-other, waits-notes, waits-sent, freed-frees, frees-both}
 use Rattle.strm_head.proofs.head.Head.put.Given as given

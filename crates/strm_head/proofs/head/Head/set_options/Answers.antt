@@ -1,9 +1,7 @@
 -- Ten bytes are enough.
-use Rattle.std.proofs.Common.{◌≡◌, ap, ◌∙◌, take, replicate}
+use Rattle.strm_head.proofs.Prelude.{◌≡◌, ap, ◌∙◌, take, replicate}
+use Rattle.strm_head.specs.Prelude.{options_in, in_hand, token, bytes_of}
 use Rattle.strm_types.specs.Heads.{with_options}
-use Rattle.strm_types.specs.Options.{options_in}
-use Rattle.strm_blocks.specs.Blocks.{in_hand, token}
-use Rattle.strm_msg.specs.Bytes.{bytes_of}
 use Rattle.strm_head.specs.Heads.{head_in}
 use Rattle.strm_head.proofs.Heeding.{first-of, options-first}
 use Rattle.strm_head.proofs.head.Head.set_options.Goals as goal

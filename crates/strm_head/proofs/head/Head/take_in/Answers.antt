@@ -1,18 +1,9 @@
 -- A message waits, but for a second M_PCPROTO.
-use Rattle.std.proofs.Common.{ℕ, ◌≡◌, true, false, sym, ap, ◌∙◌}
-use Rattle.std.proofs.lemmas.Bool.{false≢true}
-use Rattle.strm_types.specs.declared.names.Way.TheVariants.{Up}
-use Rattle.strm_types.specs.declared.rules.Rule.TheVariants.{Doubled}
+use Rattle.strm_head.proofs.Prelude.{ℕ, ◌≡◌, true, false, sym, ap, ◌∙◌, false≢true}
+use Rattle.strm_head.specs.Prelude.{Up, Doubled, Acted, tallied, is_data_kind, is_pcproto, is_doubled, direction_at, told_more, in_hand, token}
+use Rattle.strm_head.specs.Prelude.{message_of, messages_on}
 use Rattle.strm_types.specs.declared.names.QueueName.{QueueName}
-use Rattle.strm_types.specs.Deliver.{Acted, tallied}
-use Rattle.strm_types.specs.Flush.{is_data_kind}
-use Rattle.strm_types.specs.Heads.{is_pcproto, is_doubled}
-use Rattle.strm_types.specs.Names.{direction_at}
-use Rattle.strm_types.specs.Rules.{told_more}
 use Rattle.strm_types.specs.Heads as state
-use Rattle.strm_blocks.specs.Blocks.{in_hand, token}
-use Rattle.strm_msg.specs.Messages.{message_of}
-use Rattle.strm_queue.specs.Stored.{messages_on}
 use Rattle.strm_head.specs.Heads.{head_in}
 use Rattle.strm_head.proofs.Coming.{no-pcproto, a-pcproto, goes-doubled, waits-there, freed-frees}
 use Rattle.strm_head.proofs.head.Head.take_in.Given as given

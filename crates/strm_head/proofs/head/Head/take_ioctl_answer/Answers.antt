@@ -1,8 +1,6 @@
 -- 272 bytes are enough.
-use Rattle.std.proofs.Common.{ap, ◌∙◌, take, replicate}
-use Rattle.strm_types.specs.Slots.{slot_answered}
-use Rattle.strm_blocks.specs.Blocks.{in_hand, token}
-use Rattle.strm_msg.specs.Bytes.{bytes_of}
+use Rattle.strm_head.proofs.Prelude.{ap, ◌∙◌, take, replicate}
+use Rattle.strm_head.specs.Prelude.{slot_answered, in_hand, token, bytes_of}
 use Rattle.strm_head.specs.Heads.{head_in, plain_slot}
 use Rattle.strm_head.proofs.Heeding.{answered-first, first-of}
 use Rattle.strm_head.proofs.head.Head.take_ioctl_answer.Goals as goal

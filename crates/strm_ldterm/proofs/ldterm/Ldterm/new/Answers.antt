@@ -1,6 +1,5 @@
 -- It keeps nothing.
-use Rattle.std.proofs.Common.{refl, arith}
-use Rattle.std.proofs.lemmas.Bool.{false≢true}
+use Rattle.strm_ldterm.proofs.Prelude.{refl, arith, false≢true}
 use Rattle.strm_ldterm.specs.Stands.{times_kept}
 use Rattle.strm_ldterm.proofs.Fresh.{new-shown}
 use Rattle.strm_ldterm.proofs.ldterm.Ldterm.new.Goals as goal

@@ -1,13 +1,9 @@
 -- By the queue of the way.
-use Rattle.std.proofs.Common.{ℕ, ◌≤◌, ap, sym, subst, ◌∙◌}
-use Rattle.std.specs.Prelude.{Option}
-use Rattle.strm_types.specs.Asking.{asked_first}
+use Rattle.strm_ldterm.proofs.Prelude.{ℕ, ◌≤◌, ap, sym, subst, ◌∙◌, Option}
+use Rattle.strm_ldterm.specs.Prelude.{asked_first, first_size, IsReady, queue_in, QueuePair}
 use Rattle.strm_types.specs.LdtermStands.{asks_there}
 use Rattle.strm_types.specs.Queue as plain
-use Rattle.strm_types.specs.Queue.{first_size}
 use Rattle.strm_types.specs.Standings.{messages_on, stood}
-use Rattle.strm_queue.specs.Stored.{IsReady, queue_in}
-use Rattle.strm_frame.specs.declared.queue_pair.QueuePair.{QueuePair}
 use Rattle.strm_frame.specs.Standings.{queues_in}
 use Rattle.strm_frame.proofs.Flags.{way-ready, way-shown}
 use Rattle.strm_ldterm.specs.Stands.{own_in}

@@ -1,8 +1,7 @@
 -- Its line is empty then, and nothing else of it changed.
-use Rattle.std.proofs.Common.{ℕ, List, ap, arith}
-use Rattle.std.specs.Prelude.{Option, None, Some, length}
-use Rattle.strm_blocks.specs.Blocks.{StoreValue}
-use Rattle.strm_frame.specs.declared.queue_pair.QueuePair.{QueuePair}
+use Rattle.strm_ldterm.proofs.Prelude.{ℕ, List, ap, arith, Option, None, Some}
+use Rattle.strm_ldterm.specs.Prelude.{StoreValue, QueuePair}
+use Rattle.std.specs.Prelude.{length}
 use Rattle.strm_ldterm.specs.declared.ldterm.Ldterm.{Ldterm}
 use Rattle.strm_ldterm.specs.Stands.{HasInHand, own_in}
 use Rattle.strm_ldterm.proofs.module.LdtermModule.clear_line.Goals as goal

@@ -1,15 +1,8 @@
-use Rattle.std.proofs.Common.{◌≤◌, ap, sym, subst}
-use Rattle.std.specs.Prelude.{Option}
+use Rattle.strm_ldterm.proofs.Prelude.{◌≤◌, ap, sym, subst, Option}
+use Rattle.strm_ldterm.specs.Prelude.{plain, made_of, ldterm_serves, as_stands, QueuePair, parcels_in, sent_of, stop_of}
 use Rattle.std.proofs.lemmas.Bool.{OnTrue_from}
-use Rattle.strm_types.specs.Cells.{plain}
-use Rattle.strm_types.specs.Input.{made_of}
-use Rattle.strm_types.specs.LdtermServes.{ldterm_serves}
-use Rattle.strm_types.specs.LdtermStands.{as_stands}
 use Rattle.strm_types.specs.Service.{most_made}
 use Rattle.strm_types.proofs.LdtermMakes.{serves-makes}
-use Rattle.strm_frame.specs.declared.queue_pair.QueuePair.{QueuePair}
-use Rattle.strm_frame.specs.Outboxes.{parcels_in, sent_of}
-use Rattle.strm_frame.specs.Serves.{stop_of}
 use Rattle.strm_ldterm.specs.ServedLaws.{again-works}
 use Rattle.strm_ldterm.specs.Stands.{ldterm_in, paired}
 use Rattle.strm_ldterm.proofs.Standing.{ServesAt, held-there, never-bare, stands-held}

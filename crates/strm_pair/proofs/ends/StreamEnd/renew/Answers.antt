@@ -1,12 +1,9 @@
 -- Nothing stands on its queues, and no module on its stack.
-use Rattle.std.proofs.Common.{◌+◌, map, ap, arith, refl, sym, subst, ◌∙◌}
-use Rattle.strm_laws.proofs.StackOnce.{none-once}
-use Rattle.strm_blocks.specs.Blocks.{list_at}
-use Rattle.strm_frame.specs.Stacks.{all_of, AreHeld}
+use Rattle.strm_pair.proofs.Prelude.{◌+◌, map, ap, arith, refl, sym, subst, ◌∙◌, none-once}
+use Rattle.strm_pair.specs.Prelude.{list_at, all_of, AreHeld, owns}
 use Rattle.strm_frame.proofs.Pairs.{empty-ready}
 use Rattle.strm_queue.proofs.Renewed.{fresh-queue}
 use Rattle.strm_pair.specs.AnyModules.{IsHeld, module_in}
-use Rattle.strm_frame.specs.Standings.{owns}
 use Rattle.strm_pair.specs.Streams.{AreApart}
 use Rattle.strm_pair.proofs.Sides.{blank-at, readable-none}
 use Rattle.strm_pair.proofs.ends.StreamEnd.renew.Goals as goal

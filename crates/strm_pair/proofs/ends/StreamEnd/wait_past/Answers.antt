@@ -1,9 +1,7 @@
 -- The modules keep their names.
-use Rattle.std.proofs.Common.{ℕ, List, map, ap, sym, ◌∙◌}
-use Rattle.std.specs.Prelude.{Option}
+use Rattle.strm_pair.proofs.Prelude.{ℕ, List, map, ap, sym, ◌∙◌, Option}
+use Rattle.strm_pair.specs.Prelude.{waits_on, Standing, module_name}
 use Rattle.strm_types.specs.ModuleQueues.{waits_at}
-use Rattle.strm_laws.specs.Past.{waits_on}
-use Rattle.strm_laws.specs.Stacked.{Standing, module_name}
 use Rattle.strm_laws.proofs.StackStays.{waits-names}
 use Rattle.strm_pair.proofs.Puttings.{side-changed}
 use Rattle.strm_pair.proofs.ends.StreamEnd.wait_past.Goals as goal

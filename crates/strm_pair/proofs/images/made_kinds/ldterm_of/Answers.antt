@@ -1,6 +1,5 @@
 -- It keeps nothing in hand, whatever its queues.
-use Rattle.std.proofs.Common.{refl, arith}
-use Rattle.std.proofs.lemmas.Bool.{false≢true}
+use Rattle.strm_pair.proofs.Prelude.{refl, arith, false≢true}
 use Rattle.strm_ldterm.specs.Stands.{times_kept}
 use Rattle.strm_pair.proofs.images.made_kinds.ldterm_of.Goals as goal
 

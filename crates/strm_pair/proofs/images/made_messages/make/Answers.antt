@@ -1,7 +1,6 @@
 -- The runs are those of the message's parts.
-use Rattle.std.proofs.Common.{ap, subst, sym, ◌∙◌}
-use Rattle.strm_blocks.specs.Blocks.{token}
-use Rattle.strm_frame.specs.Hands.{HasRoom}
+use Rattle.strm_pair.proofs.Prelude.{ap, subst, sym, ◌∙◌}
+use Rattle.strm_pair.specs.Prelude.{token, HasRoom}
 use Rattle.strm_image.specs.Texts.{parts_now}
 use Rattle.strm_pair.specs.Runs.{Joins, run_blocks}
 use Rattle.strm_pair.proofs.TextMade.{makes-joined, runs-counted}

@@ -1,8 +1,6 @@
 -- The master's stream stands first, and stays as it is.
-use Rattle.std.proofs.Common.{refl, subst, sym, ◌∙◌}
-use Rattle.strm_types.specs.declared.names.Side.TheVariants.{Master, Slave}
-use Rattle.strm_image.specs.Counts.{laid_blocks}
-use Rattle.strm_image.specs.StreamTexts.{laid_now}
+use Rattle.strm_pair.proofs.Prelude.{refl, subst, sym, ◌∙◌}
+use Rattle.strm_pair.specs.Prelude.{Master, Slave, laid_blocks, laid_now}
 use Rattle.strm_pair.specs.Laying.{IsStood, stream_now}
 use Rattle.strm_pair.specs.Streams.{IsBlank}
 use Rattle.strm_pair.proofs.PairsMade.{blank-behind, blank-last, both-sides, master-stream}

@@ -1,9 +1,6 @@
 -- All have the marks of the last one, and then one more its own.
-use Rattle.std.proofs.Common.{◌≡◌, ◌-◌, ◌+◌, suc, map, ap, arith, refl, ◌∙◌}
-use Rattle.strm_types.specs.declared.limits.TheConstants.{BANDS}
-use Rattle.strm_queue.specs.Flows.{plain_flows}
-use Rattle.strm_image.specs.FlowTexts.{flow_now}
-use Rattle.strm_image.specs.Queues.{behind_last}
+use Rattle.strm_pair.proofs.Prelude.{◌≡◌, ◌-◌, ◌+◌, suc, map, ap, arith, refl, ◌∙◌}
+use Rattle.strm_pair.specs.Prelude.{BANDS, plain_flows, flow_now, behind_last}
 use Rattle.strm_pair.proofs.FlowsSet.{all-marked, few-long, few-set, next-free, next-set, so_far}
 use Rattle.strm_pair.proofs.images.made_queues.set_few.Goals as goal
 

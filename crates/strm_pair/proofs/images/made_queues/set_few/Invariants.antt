@@ -1,11 +1,5 @@
-use Rattle.std.proofs.Common.{◌≡◌, ◌-◌, List, map}
-use Rattle.strm_types.specs.declared.limits.TheConstants.{BANDS}
-use Rattle.strm_blocks.specs.Blocks.{Block}
-use Rattle.strm_queue.specs.Flows.{plain_flows}
-use Rattle.strm_queue.specs.Kept.{AreCounted}
-use Rattle.strm_queue.specs.Queues.{OnlyCounts}
-use Rattle.strm_image.specs.FlowTexts.{flow_now}
-use Rattle.strm_image.specs.Queues.{behind_last}
+use Rattle.strm_pair.proofs.Prelude.{◌≡◌, ◌-◌, List, map}
+use Rattle.strm_pair.specs.Prelude.{BANDS, Block, plain_flows, AreCounted, OnlyCounts, flow_now, behind_last}
 use Rattle.strm_pair.proofs.FlowsSet.{so_far}
 use Rattle.strm_pair.proofs.images.made_queues.set_few.Given as goal
 

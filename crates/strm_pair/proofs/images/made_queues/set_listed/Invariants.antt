@@ -1,13 +1,7 @@
-use Rattle.std.proofs.Common.{◌≡◌, ◌-◌, List}
-use Rattle.strm_blocks.specs.Blocks.{Block}
-use Rattle.strm_queue.specs.Flows.{plain_flows}
-use Rattle.strm_queue.specs.Kept.{AreCounted}
-use Rattle.strm_queue.specs.Queues.{OnlyCounts}
-use Rattle.strm_image.specs.declared.versions.Version.TheVariants.{Second}
-use Rattle.strm_image.specs.FlowTexts.{read_flows}
-use Rattle.strm_image.specs.Format.{gather_from}
+use Rattle.strm_pair.proofs.Prelude.{◌≡◌, ◌-◌, List}
+use Rattle.strm_pair.specs.Prelude.{Block, plain_flows, AreCounted, OnlyCounts, Second, read_flows, gather_from, first_flow}
 use Rattle.strm_image.specs.Loads.{set_band}
-use Rattle.strm_image.specs.Queues.{first_flow, listed_behind, next_band}
+use Rattle.strm_image.specs.Queues.{listed_behind, next_band}
 use Rattle.strm_pair.proofs.FlowsSet.{AreFree}
 use Rattle.strm_pair.proofs.images.made_queues.set_listed.Given as goal
 

@@ -1,6 +1,5 @@
 -- The queues stand first, and then the modules.
-use Rattle.std.proofs.Common.{◌+◌, ap, arith, subst}
-use Rattle.std.specs.Prelude.{sum_by}
+use Rattle.strm_pair.proofs.Prelude.{◌+◌, ap, arith, subst, sum_by}
 use Rattle.strm_pair.specs.Placing.{AreStacked, module_blocks}
 use Rattle.strm_pair.proofs.EndsMade.{blocks-same, stood}
 use Rattle.strm_pair.proofs.images.made_streams.end_of.Goals as goal

@@ -1,11 +1,8 @@
 -- No module has no text.
-use Rattle.std.proofs.Common.{sym, ap, ◌∙◌, map}
+use Rattle.strm_pair.proofs.Prelude.{sym, ap, ◌∙◌, map, put_nothing}
+use Rattle.strm_pair.specs.Prelude.{Second, module_format, put}
 use Rattle.std.specs.List.{flat_map}
 use Rattle.std.proofs.lemmas.List.{nil_from_length}
-use Rattle.strm_image.specs.declared.versions.Version.TheVariants.{Second}
-use Rattle.strm_image.specs.Modules.{module_format}
-use Rattle.strm_image.specs.Sinks.{put}
-use Rattle.strm_image.proofs.SinkRows.{put_nothing}
 use Rattle.strm_pair.specs.AnyModules.{module_in}
 use Rattle.strm_pair.proofs.images.modules.+put_each.Goals as goal
 

@@ -1,14 +1,7 @@
 -- Its settings and both queues are its text.
-use Rattle.std.proofs.Common.{sym, ap, subst, ◌∙◌}
-use Rattle.std.specs.Prelude.{IfSome}
+use Rattle.strm_pair.proofs.Prelude.{sym, ap, subst, ◌∙◌, IfSome}
+use Rattle.strm_pair.specs.Prelude.{Second, module_format, queue, put, queue_in, IsPairReady, standing, HasInHand}
 use Rattle.strm_image.specs.declared.versions.QueueKind.TheVariants as queues
-use Rattle.strm_image.specs.declared.versions.Version.TheVariants.{Second}
-use Rattle.strm_image.specs.Modules.{module_format}
-use Rattle.strm_image.specs.Queues.{queue}
-use Rattle.strm_image.specs.Sinks.{put}
-use Rattle.strm_queue.specs.Stored.{queue_in}
-use Rattle.strm_frame.specs.Standings.{IsPairReady, standing}
-use Rattle.strm_ldterm.specs.Stands.{HasInHand}
 use Rattle.strm_pair.specs.declared.modules.AnyModule.TheVariants as kinds
 use Rattle.strm_pair.specs.AnyModules.{module_in}
 use Rattle.strm_pair.proofs.RestTexts.{ldterm_written}

@@ -1,11 +1,7 @@
 -- Its text is that of its kind, with its queues where it has some.
-use Rattle.std.proofs.Common.{◌≡◌, sym, ap, subst, ◌∙◌}
-use Rattle.std.specs.Prelude.{None}
-use Rattle.strm_blocks.specs.Blocks.{StoreValue}
-use Rattle.strm_image.specs.declared.versions.Version.TheVariants.{Second}
-use Rattle.strm_image.specs.Modules.{alone, module_format}
-use Rattle.strm_image.specs.Sinks.{put}
-use Rattle.strm_frame.specs.Standings.{standing}
+use Rattle.strm_pair.proofs.Prelude.{◌≡◌, sym, ap, subst, ◌∙◌, None}
+use Rattle.strm_pair.specs.Prelude.{StoreValue, Second, module_format, put, standing}
+use Rattle.strm_image.specs.Modules.{alone}
 use Rattle.strm_pair.specs.declared.modules.AnyModule.{AnyModule}
 use Rattle.strm_pair.specs.AnyModules.{AnyStanding, IsKindHeld, kind_in, module_in}
 use Rattle.strm_pair.proofs.images.modules.put_module.Goals as goal

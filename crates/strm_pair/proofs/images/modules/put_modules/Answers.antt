@@ -1,11 +1,7 @@
 -- Their number, and then each.
-use Rattle.std.proofs.Common.{[], ◌∷◌, length, map, sym, ap, ◌∙◌}
+use Rattle.strm_pair.proofs.Prelude.{[], ◌∷◌, length, map, sym, ap, ◌∙◌, length-map, put_both}
+use Rattle.strm_pair.specs.Prelude.{Second, module_format, put}
 use Rattle.std.specs.List.{flat_map}
-use Rattle.std.proofs.lemmas.List.{length-map}
-use Rattle.strm_image.specs.declared.versions.Version.TheVariants.{Second}
-use Rattle.strm_image.specs.Modules.{module_format}
-use Rattle.strm_image.specs.Sinks.{put}
-use Rattle.strm_image.proofs.SinkRows.{put_both}
 use Rattle.strm_image.proofs.WrittenRows.{modules_told}
 use Rattle.strm_pair.specs.AnyModules.{module_in}
 use Rattle.strm_pair.specs.Stacks.{modules_in}

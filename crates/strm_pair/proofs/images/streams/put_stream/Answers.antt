@@ -1,15 +1,10 @@
 -- Four pieces are its text.
-use Rattle.std.proofs.Common.{sym, ap, ◌∙◌}
-use Rattle.strm_head.specs.Heads.{head_in}
+use Rattle.strm_pair.proofs.Prelude.{sym, ap, ◌∙◌}
+use Rattle.strm_pair.specs.Prelude.{head_in, Second, laid_on, queue, put, queue_in}
 use Rattle.strm_image.specs.declared.versions.QueueKind.TheVariants as queues
-use Rattle.strm_image.specs.declared.versions.Version.TheVariants.{Second}
-use Rattle.strm_image.specs.Image.{laid_on}
 use Rattle.strm_image.specs.Modules.{modules}
-use Rattle.strm_image.specs.Queues.{queue}
-use Rattle.strm_image.specs.Sinks.{put}
 use Rattle.strm_image.specs.Written.{head_text}
 use Rattle.strm_image.proofs.WrittenRows.{laid_told}
-use Rattle.strm_queue.specs.Stored.{queue_in}
 use Rattle.strm_pair.specs.Stacks.{modules_in}
 use Rattle.strm_pair.specs.Streams.{stream_in}
 use Rattle.strm_pair.proofs.PairTexts.{put_four}

@@ -1,6 +1,5 @@
 -- The number in front is that of the messages.
-use Rattle.std.proofs.Common.{◌∙◌, ap}
-use Rattle.std.specs.Prelude.{min}
+use Rattle.strm_pair.proofs.Prelude.{◌∙◌, ap, min}
 use Rattle.strm_pair.proofs.ListTexts.{counted_told}
 use Rattle.strm_pair.proofs.images.texts.put_messages.Goals as goal
 

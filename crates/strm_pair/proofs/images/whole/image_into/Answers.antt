@@ -1,9 +1,6 @@
 -- A sink with nothing in it takes the text of the image.
-use Rattle.std.proofs.Common.{◌∙◌, sym, ap, rules}
-use Rattle.strm_image.specs.declared.versions.Version.TheVariants.{Second}
-use Rattle.strm_image.specs.HasImage.{imaged}
-use Rattle.strm_image.specs.Image.{image}
-use Rattle.strm_image.specs.Sinks.{put}
+use Rattle.strm_pair.proofs.Prelude.{◌∙◌, sym, ap, rules}
+use Rattle.strm_pair.specs.Prelude.{Second, imaged, image, put}
 use Rattle.strm_image.proofs.SinkRows.{count_put, lent_put}
 use Rattle.strm_pair.specs.Pairs.{state_in}
 use Rattle.strm_pair.proofs.images.whole.image_into.Goals as goal

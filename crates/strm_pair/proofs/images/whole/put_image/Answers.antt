@@ -1,13 +1,10 @@
 -- Six pieces are its text.
-use Rattle.std.proofs.Common.{sym, ap, ◌∙◌, arith, true, false}
-use Rattle.strm_types.specs.declared.names.Side.TheVariants.{Master, Slave}
-use Rattle.strm_image.specs.declared.versions.Version.TheVariants.{Second}
-use Rattle.strm_image.specs.Image.{account, enabled, laid_on}
-use Rattle.strm_image.specs.Sinks.{put}
+use Rattle.strm_pair.proofs.Prelude.{sym, ap, ◌∙◌, arith, true, false}
+use Rattle.strm_pair.specs.Prelude.{Master, Slave, Second, laid_on, put, imaged}
+use Rattle.strm_image.specs.Image.{account, enabled}
 use Rattle.strm_image.specs.Streams.{laid}
 use Rattle.strm_image.specs.Written.{front_text}
 use Rattle.strm_image.proofs.WrittenRows.{image_told}
-use Rattle.strm_image.specs.HasImage.{imaged}
 use Rattle.strm_pair.specs.Pairs.{state_in}
 use Rattle.strm_pair.specs.Streams.{stream_in}
 use Rattle.strm_pair.proofs.PairTexts.{put_six}

@@ -1,7 +1,4 @@
-use Rattle.strm_types.specs.declared.names.Side.{Side}
-use Rattle.strm_types.specs.declared.names.Side.TheVariants.{Master, Slave}
-use Rattle.strm_types.specs.Both.{get, map_both}
-use Rattle.strm_blocks.specs.Blocks.{StoreValue}
+use Rattle.strm_pair.specs.Prelude.{Side, Master, Slave, get, map_both, StoreValue}
 use Rattle.strm_image.specs.HasImage.{HasNumbers}
 use Rattle.strm_pair.specs.Streams.{stream_in}
 use Rattle.strm_pair.proofs.images.widths.know_streams.Goals as goal

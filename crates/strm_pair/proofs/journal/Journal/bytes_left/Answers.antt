@@ -1,6 +1,5 @@
 -- The bytes are counted.
-use Rattle.std.proofs.Common.{arith}
-use Rattle.strm_laws.proofs.JournalEntries.{room_used-stored}
+use Rattle.strm_pair.proofs.Prelude.{arith, room_used-stored}
 use Rattle.strm_pair.specs.Pairs.{journal_of}
 use Rattle.strm_pair.proofs.journal.Journal.bytes_left.Goals as goal
 

@@ -1,7 +1,5 @@
 -- The entries and the buffer's bytes are counted.
-use Rattle.std.proofs.Common.{◌≤◌, ◌<◌, length, arith}
-use Rattle.std.proofs.lemmas.Bool.Decides.{nat_tests}
-use Rattle.strm_laws.proofs.JournalEntries.{length-entries_in, room_used-stored}
+use Rattle.strm_pair.proofs.Prelude.{◌≤◌, ◌<◌, length, arith, nat_tests, length-entries_in, room_used-stored}
 use Rattle.strm_pair.specs.Pairs.{journal_of}
 use Rattle.strm_pair.proofs.journal.Journal.has_room.Goals as goal
 

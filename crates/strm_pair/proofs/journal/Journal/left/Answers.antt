@@ -1,6 +1,5 @@
 -- The entries are counted.
-use Rattle.std.proofs.Common.{arith}
-use Rattle.strm_laws.proofs.JournalEntries.{length-entries_in}
+use Rattle.strm_pair.proofs.Prelude.{arith, length-entries_in}
 use Rattle.strm_pair.specs.Pairs.{journal_of}
 use Rattle.strm_pair.proofs.journal.Journal.left.Goals as goal
 

@@ -1,12 +1,7 @@
 -- Each kind is new, fits queues where it has some and fits none else, and keeps nothing.
-use Rattle.std.proofs.Common.{◌≡◌, true, refl, ap}
-use Rattle.std.proofs.lemmas.Bool.{false≢true}
-use Rattle.std.specs.Prelude.{Option, None, Some, is_some}
-use Rattle.strm_laws.specs.Stacked.{OfLdterm}
-use Rattle.strm_blocks.specs.Blocks.{StoreValue}
-use Rattle.strm_frame.specs.declared.queue_pair.QueuePair.{QueuePair}
+use Rattle.strm_pair.proofs.Prelude.{◌≡◌, true, refl, ap, false≢true, Option, None, Some, is_some}
+use Rattle.strm_pair.specs.Prelude.{OfLdterm, StoreValue, QueuePair, HasInHand}
 use Rattle.strm_ldterm.specs.declared.ldterm.Ldterm.{Ldterm}
-use Rattle.strm_ldterm.specs.Stands.{HasInHand}
 use Rattle.strm_pair.proofs.MadeModules.{none-are}
 use Rattle.strm_pair.proofs.modules.AnyModule.made.Goals as goal
 

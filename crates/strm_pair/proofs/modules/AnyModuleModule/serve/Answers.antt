@@ -1,10 +1,7 @@
 -- Its kind does it; an ldterm keeps what the module does.
-use Rattle.std.proofs.Common.{true, refl, subst}
-use Rattle.std.proofs.lemmas.Bool.{false≢true}
-use Rattle.strm_types.specs.LdtermCalls.{Ends}
+use Rattle.strm_pair.proofs.Prelude.{true, refl, subst, false≢true}
+use Rattle.strm_pair.specs.Prelude.{Ends, discipline_of, AreIn}
 use Rattle.strm_types.specs.LdtermStands.{discipline_at}
-use Rattle.strm_laws.specs.TurnCalls.{discipline_of}
-use Rattle.strm_frame.specs.Hands.{AreIn}
 use Rattle.strm_ldterm.specs.Bounds.{turn_cost}
 use Rattle.strm_pair.specs.AnyModules.{kind_cost, kind_keeps}
 use Rattle.strm_pair.proofs.KindsDo.{kind-fits, kind-serves, ldterm-kind, pckt-kind, ptem-kind}

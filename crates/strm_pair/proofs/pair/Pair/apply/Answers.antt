@@ -1,5 +1,4 @@
-use Rattle.strm_types.specs.Events.{request}
-use Rattle.strm_laws.specs.Pair.{call_refused}
+use Rattle.strm_pair.specs.Prelude.{request, call_refused}
 use Rattle.strm_pair.proofs.Refusing.{allowed-over, refused-over}
 use Rattle.strm_pair.proofs.pair.Pair.apply.Goals as goal
 

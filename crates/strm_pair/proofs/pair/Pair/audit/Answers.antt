@@ -1,13 +1,10 @@
 -- What a pair's invariant says of the plain state that its blocks stand for, and of its journal.
-use Rattle.std.proofs.Common.{◌≡◌, if◌then◌else◌, subst}
-use Rattle.strm_types.specs.Cells.{plain, tagged}
+use Rattle.strm_pair.proofs.Prelude.{◌≡◌, subst}
+use Rattle.strm_pair.specs.Prelude.{plain, told_by, PairState, Restorable, AreOrdered, messages_in, replay, IsLegal}
+use Rattle.std.proofs.Common.{if◌then◌else◌}
+use Rattle.strm_types.specs.Cells.{tagged}
 use Rattle.strm_laws.specs.Based.{based}
-use Rattle.strm_laws.specs.Kept.{told_by}
 use Rattle.strm_laws.specs.Ledgers.{Balanced, is_booked, own_places_of, places_of}
-use Rattle.strm_laws.specs.Pair.{PairState}
-use Rattle.strm_laws.specs.Restorable.{Restorable}
-use Rattle.strm_laws.specs.State.{AreOrdered, messages_in}
-use Rattle.strm_laws.specs.Step.{replay, IsLegal}
 use Rattle.strm_laws.proofs.BaseSteps.{restorable-unread}
 use Rattle.strm_laws.proofs.JournalPlaces.{one-place, own-place}
 use Rattle.strm_laws.proofs.RefusedForgets.{legal-from}

@@ -1,9 +1,6 @@
 -- What is told is whether the stream has one.
-use Rattle.std.proofs.Common.{ap, ◌∙◌}
-use Rattle.std.specs.Prelude.{Option, is_some}
-use Rattle.strm_laws.specs.ModuleTurns.{place_named}
-use Rattle.strm_laws.specs.Pair.{PairState}
-use Rattle.strm_laws.specs.State.{stream}
+use Rattle.strm_pair.proofs.Prelude.{ap, ◌∙◌, Option, is_some}
+use Rattle.strm_pair.specs.Prelude.{place_named, PairState, stream}
 use Rattle.strm_pair.proofs.pair.Pair.has_queues.Goals as goal
 
 pub returns : goal.returns

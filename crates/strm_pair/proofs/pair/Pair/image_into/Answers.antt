@@ -1,11 +1,7 @@
 -- Each pair has an image, and 64 bits hold how long it is.
-use Rattle.std.proofs.Common.{◌≡◌, ◌≤◌, arith, length, subst, true}
-use Rattle.strm_image.specs.declared.versions.Version.TheVariants.{Second}
-use Rattle.strm_image.specs.HasImage.{imaged}
-use Rattle.strm_image.specs.Image.{image}
+use Rattle.strm_pair.proofs.Prelude.{◌≡◌, ◌≤◌, arith, length, subst, true, image_fits}
+use Rattle.strm_pair.specs.Prelude.{Second, imaged, image, PairState}
 use Rattle.strm_image.specs.Sinks.{most_counted}
-use Rattle.strm_image.proofs.FitImages.{image_fits}
-use Rattle.strm_laws.specs.Pair.{PairState}
 use Rattle.strm_pair.specs.BaseTexts.{start_in}
 use Rattle.strm_pair.specs.Pairs.{state_in}
 use Rattle.strm_pair.proofs.BaseRows.{image-room}

@@ -1,10 +1,6 @@
 -- The plain journal is what the stored entries and bytes say.
-use Rattle.std.proofs.Common.{ap, ◌∙◌}
-use Rattle.strm_image.specs.declared.versions.Version.TheVariants.{Second}
-use Rattle.strm_image.specs.HasImage.{imaged}
-use Rattle.strm_image.specs.Image.{image}
-use Rattle.strm_types.specs.Journal.{entries_in}
-use Rattle.strm_laws.specs.Pair.{PairState}
+use Rattle.strm_pair.proofs.Prelude.{ap, ◌∙◌}
+use Rattle.strm_pair.specs.Prelude.{Second, imaged, image, entries_in, PairState}
 use Rattle.strm_pair.specs.Pairs.{journal_of}
 use Rattle.strm_pair.proofs.pair.Pair.journal.Goals as goal
 

@@ -1,11 +1,8 @@
 -- What stands on the queues is what the balance leaves.
-use Rattle.std.proofs.Common.{ℕ, ◌≡◌, ◌+◌, ◌-◌, List, ap, ◌∙◌, arith}
-use Rattle.strm_types.specs.declared.books.Book.{Book}
+use Rattle.strm_pair.proofs.Prelude.{ℕ, ◌≡◌, ◌+◌, ◌-◌, List, ap, ◌∙◌, arith, sum_of}
+use Rattle.strm_pair.specs.Prelude.{Book, inline, queued, PairState, book}
 use Rattle.strm_types.specs.declared.ledger.Ledger.{Ledger}
-use Rattle.strm_laws.specs.Ledgers.{inline, ledger_of, queued}
-use Rattle.strm_laws.specs.Pair.{PairState}
-use Rattle.strm_laws.specs.State.{book}
-use Rattle.strm_laws.proofs.LedgerSums.{sum_of}
+use Rattle.strm_laws.specs.Ledgers.{ledger_of}
 use Rattle.strm_pair.specs.BaseTexts.{start_in}
 use Rattle.strm_pair.specs.Pairs.{state_in}
 use Rattle.strm_pair.proofs.Balanced.{balance, elsewhere-few}

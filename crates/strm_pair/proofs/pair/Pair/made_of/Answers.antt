@@ -1,9 +1,6 @@
 -- The store stands for the state of the image, and the base is written of it.
-use Rattle.std.proofs.Common.{◌≡◌, ◌∙◌, ℕ, [], ap, arith, refl, sym}
-use Rattle.strm_types.specs.declared.limits.Config.{Config}
-use Rattle.strm_types.specs.declared.rules.Fates.{Fates}
-use Rattle.strm_laws.specs.State.{State}
-use Rattle.strm_image.specs.ImageTexts.{imaged_now}
+use Rattle.strm_pair.proofs.Prelude.{◌≡◌, ◌∙◌, ℕ, [], ap, arith, refl, sym}
+use Rattle.strm_pair.specs.Prelude.{Config, Fates, State, imaged_now}
 use Rattle.strm_image.proofs.FittedImages.{image_base, image_told}
 use Rattle.strm_pair.specs.BaseTexts.{begun_at, start_in}
 use Rattle.strm_pair.specs.Restored.{fates_in}

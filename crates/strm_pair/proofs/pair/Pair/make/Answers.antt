@@ -1,8 +1,6 @@
 -- The verdict decides.
-use Rattle.std.proofs.Common.{sym, ◌∙◌, refl}
-use Rattle.strm_types.specs.Events.{request}
-use Rattle.strm_laws.specs.Pair.{call_refused}
-use Rattle.strm_laws.specs.Refusals.{stop_of}
+use Rattle.strm_pair.proofs.Prelude.{sym, ◌∙◌, refl}
+use Rattle.strm_pair.specs.Prelude.{request, call_refused, stop_of}
 use Rattle.strm_pair.proofs.Refusing.{judged-allowed, judged-refused, judged-stopped}
 use Rattle.strm_pair.proofs.pair.Pair.make.Goals as goal
 

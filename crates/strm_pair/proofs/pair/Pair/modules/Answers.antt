@@ -1,7 +1,6 @@
 -- What is told is how many modules the streams have.
-use Rattle.std.proofs.Common.{ap, ◌∙◌}
-use Rattle.strm_laws.specs.Earlier.{modules_on}
-use Rattle.strm_laws.specs.Pair.{PairState}
+use Rattle.strm_pair.proofs.Prelude.{ap, ◌∙◌}
+use Rattle.strm_pair.specs.Prelude.{modules_on, PairState}
 use Rattle.strm_pair.proofs.pair.Pair.modules.Goals as goal
 
 pub returns : goal.returns

@@ -1,8 +1,6 @@
 -- A pair over a store with nothing in it is as new.
-use Rattle.std.proofs.Common.{◌≡◌, ◌∙◌, ap, sym, refl, arith, rules}
-use Rattle.strm_types.specs.declared.limits.Config.{Config}
-use Rattle.strm_laws.specs.Refusals.{Free}
-use Rattle.strm_blocks.specs.Blocks.{empty_store}
+use Rattle.strm_pair.proofs.Prelude.{◌≡◌, ◌∙◌, ap, sym, refl, arith, rules}
+use Rattle.strm_pair.specs.Prelude.{Config, Free, empty_store}
 use Rattle.strm_pair.specs.BaseTexts.{start_in}
 use Rattle.strm_pair.specs.PairViews.{sizes_over}
 use Rattle.strm_pair.proofs.BaseRows.{is-written}

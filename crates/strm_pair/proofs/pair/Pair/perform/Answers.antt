@@ -1,23 +1,14 @@
 -- A call that isn't refused is a step, and the journal gains it with its answer.
-use Rattle.std.proofs.Common.{ℕ, ◌≡◌, ◌≤◌, ◌+◌, ◌∙◌, ◌++◌, ◌∷◌, [], length, ap, sym, refl, subst, rules, arith}
+use Rattle.strm_pair.proofs.Prelude.{ℕ, ◌≡◌, ◌≤◌, ◌+◌, ◌∙◌, ◌++◌, ◌∷◌, [], length, ap, sym, refl, subst, rules, arith, None, call-allowed}
+use Rattle.strm_pair.proofs.Prelude.{or_else-none, free_m-is}
+use Rattle.strm_pair.specs.Prelude.{Called, plain, Outcome, tallied, payload_of, request, PlainEntry, content_max, reply_in, spare, FewBooked, IsCall}
+use Rattle.strm_pair.specs.Prelude.{after, enough, blocks_asked, refused_at_once, refused_by_state, stop_of, unfit, PairState, AddsEntry}
+use Rattle.strm_pair.specs.Prelude.{call_refused, free_m}
 use Rattle.std.specs.Bool.{OnTrue}
-use Rattle.std.specs.Prelude.{None}
-use Rattle.strm_types.specs.declared.entries.Entry.TheVariants.{Called}
-use Rattle.strm_types.specs.Cells.{plain}
-use Rattle.strm_laws.specs.Calls.{Outcome, delivers}
-use Rattle.strm_types.specs.Deliver.{tallied}
-use Rattle.strm_types.specs.Events.{payload_of, request}
-use Rattle.strm_types.specs.Journal.{PlainEntry, content_max, reply_in}
-use Rattle.strm_laws.specs.Spares.{spare}
-use Rattle.strm_laws.specs.Ledgers.{FewBooked}
-use Rattle.strm_laws.specs.Step.{IsCall, after}
-use Rattle.strm_laws.specs.Refusals.{enough, blocks_asked, hold, refused_at_once, refused_by_state, stop_of, unfit}
-use Rattle.strm_laws.specs.Pair.{PairState, AddsEntry, call_refused}
+use Rattle.strm_laws.specs.Calls.{delivers}
+use Rattle.strm_laws.specs.Refusals.{hold}
 use Rattle.strm_laws.proofs.Balances.{call-few, written-by-blocks}
 use Rattle.strm_laws.proofs.StackSpares.{call-low}
-use Rattle.strm_laws.proofs.Replay.{call-allowed, or_else-none}
-use Rattle.strm_blocks.specs.Blocks.{free_m}
-use Rattle.strm_blocks.proofs.Laws.{free_m-is}
 use Rattle.strm_pair.specs.BaseTexts.{start_in}
 use Rattle.strm_pair.specs.Pairs.{state_in, journal_of, free_in}
 use Rattle.strm_pair.specs.PairViews.{pair_of}

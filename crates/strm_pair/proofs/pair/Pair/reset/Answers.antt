@@ -1,7 +1,6 @@
 -- The store is emptied in place, and what stands beside it is as new.
-use Rattle.std.proofs.Common.{◌≡◌, ◌∙◌, ap, arith}
-use Rattle.strm_laws.specs.Pair.{PairState, new_pair}
-use Rattle.strm_blocks.specs.Blocks.{empty_store}
+use Rattle.strm_pair.proofs.Prelude.{◌≡◌, ◌∙◌, ap, arith}
+use Rattle.strm_pair.specs.Prelude.{PairState, new_pair, empty_store}
 use Rattle.strm_pair.specs.BaseTexts.{start_in}
 use Rattle.strm_pair.proofs.BaseRows.{is-written}
 use Rattle.strm_pair.proofs.Fresh.{AreFresh, fresh-has-image, fresh-kept, fresh-room, fresh-shown, fresh-start}

@@ -1,9 +1,7 @@
 -- A text is the image of one state, whose blocks are free or aren't; nothing is refused behind that but memory.
-use Rattle.std.proofs.Common.{◌∙◌, ap, arith, sym}
-use Rattle.std.specs.Prelude.{None, Some}
-use Rattle.strm_types.specs.declared.limits.Config.{Config}
-use Rattle.strm_types.specs.declared.refusals.Refusal.TheVariants.{Enosr, NoMemory}
-use Rattle.strm_image.specs.ImageTexts.{imaged_now}
+use Rattle.strm_pair.proofs.Prelude.{◌∙◌, ap, arith, sym, None, Some}
+use Rattle.strm_pair.specs.Prelude.{Config, Enosr, imaged_now}
+use Rattle.strm_types.specs.declared.refusals.Refusal.TheVariants.{NoMemory}
 use Rattle.strm_pair.specs.PairViews.{sizes_over}
 use Rattle.strm_pair.specs.Pairs.{free_in}
 use Rattle.strm_pair.specs.Restored.{restored}

@@ -1,8 +1,6 @@
 -- Turn by turn.
-use Rattle.std.proofs.Common.{◌≡◌, ◌≤◌, length, ap, sym, ◌∙◌, subst, arith}
-use Rattle.std.specs.Prelude.{None, Some, slice_get}
-use Rattle.strm_types.specs.declared.limits.Config.{Config}
-use Rattle.strm_laws.specs.Pair.{PairState, RanTurns, next_refused, queue_refused}
+use Rattle.strm_pair.proofs.Prelude.{◌≡◌, ◌≤◌, length, ap, sym, ◌∙◌, subst, arith, None, Some, slice_get}
+use Rattle.strm_pair.specs.Prelude.{Config, PairState, RanTurns, next_refused, queue_refused}
 use Rattle.strm_laws.proofs.Replay.{refused-by}
 use Rattle.strm_pair.proofs.Runs.{full-refuses, next-allowed, next-is, none-first, one-more}
 use Rattle.strm_pair.proofs.pair.Pair.runqueues.Goals as goal

@@ -1,19 +1,7 @@
 -- A call that stops its caller changes nothing, and the journal gains it with that answer.
-use Rattle.std.proofs.Common.{ℕ, ◌≡◌, ◌≤◌, ◌+◌, ◌∙◌, length, ap, sym, refl, subst, arith}
-use Rattle.std.specs.Prelude.{None, Some}
-use Rattle.strm_types.specs.declared.answers.Answer.TheVariants.{Stop}
-use Rattle.strm_types.specs.declared.entries.Entry.TheVariants.{Called}
-use Rattle.strm_types.specs.Cells.{plain}
-use Rattle.strm_types.specs.Deliver.{tallied}
-use Rattle.strm_types.specs.Events.{payload_of, request}
-use Rattle.strm_types.specs.Journal.{PlainEntry, content_max}
-use Rattle.strm_laws.specs.Calls.{Outcome}
-use Rattle.strm_laws.specs.Pair.{PairState, AddsEntry, call_refused}
-use Rattle.strm_laws.specs.Refusals.{blocks_asked, enough, refused_at_once, refused_by_state, stop_of}
-use Rattle.strm_laws.specs.Step.{IsCall, after}
-use Rattle.strm_laws.proofs.Replay.{call-allowed, or_else-none}
-use Rattle.strm_blocks.specs.Blocks.{free_m}
-use Rattle.strm_blocks.proofs.Laws.{free_m-is}
+use Rattle.strm_pair.proofs.Prelude.{ℕ, ◌≡◌, ◌≤◌, ◌+◌, ◌∙◌, length, ap, sym, refl, subst, arith, None, Some, call-allowed, or_else-none, free_m-is}
+use Rattle.strm_pair.specs.Prelude.{Stop, Called, plain, tallied, payload_of, request, PlainEntry, content_max, Outcome, PairState, AddsEntry}
+use Rattle.strm_pair.specs.Prelude.{call_refused, blocks_asked, enough, refused_at_once, refused_by_state, stop_of, IsCall, after, free_m}
 use Rattle.strm_pair.specs.BaseTexts.{start_in}
 use Rattle.strm_pair.specs.Pairs.{free_in, journal_of, state_in}
 use Rattle.strm_pair.specs.PairViews.{pair_of}

@@ -1,8 +1,6 @@
 -- The queues of the state are those that the store's lists show.
-use Rattle.std.proofs.Common.{subst}
-use Rattle.strm_types.specs.declared.names.Side.TheVariants.{Master, Slave}
-use Rattle.strm_types.proofs.BySide.{each-side}
-use Rattle.strm_laws.specs.Pair.{PairState}
+use Rattle.strm_pair.proofs.Prelude.{subst, each-side}
+use Rattle.strm_pair.specs.Prelude.{Master, Slave, PairState}
 use Rattle.strm_pair.specs.BaseTexts.{start_in}
 use Rattle.strm_pair.specs.Lists.{first_list}
 use Rattle.strm_pair.specs.Pairs.{state_in}

@@ -1,10 +1,6 @@
 -- The copies are the text of the base, and the journal.
-use Rattle.std.proofs.Common.{ap, ◌∙◌}
-use Rattle.strm_image.specs.declared.versions.Version.TheVariants.{Second}
-use Rattle.strm_image.specs.HasImage.{imaged}
-use Rattle.strm_image.specs.Image.{image}
-use Rattle.strm_laws.specs.Pair.{PairState}
-use Rattle.strm_types.specs.Journal.{entries_in}
+use Rattle.strm_pair.proofs.Prelude.{ap, ◌∙◌}
+use Rattle.strm_pair.specs.Prelude.{Second, imaged, image, PairState, entries_in}
 use Rattle.strm_pair.specs.Pairs.{journal_of}
 use Rattle.strm_pair.proofs.pair.Pair.trace.Goals as goal
 

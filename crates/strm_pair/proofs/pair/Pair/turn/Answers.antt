@@ -1,14 +1,7 @@
 -- A turn that isn't refused is a step, and the journal gains it.
-use Rattle.std.proofs.Common.{◌≡◌, ◌∙◌, ap, sym, refl, subst, rules, arith}
-use Rattle.std.specs.Prelude.{None}
-use Rattle.strm_types.specs.declared.entries.Entry.TheVariants.{Turned}
-use Rattle.strm_types.specs.Cells.{plain}
-use Rattle.strm_types.specs.Journal.{PlainEntry}
-use Rattle.strm_laws.specs.Step.{IsTurn, after}
-use Rattle.strm_laws.specs.Refusals.{enough}
-use Rattle.strm_types.specs.Refused.{turn_blocks}
-use Rattle.strm_laws.specs.Pair.{PairState, AddsEntry, MovesOn, queue_refused}
-use Rattle.strm_laws.proofs.Replay.{turn-allowed}
+use Rattle.strm_pair.proofs.Prelude.{◌≡◌, ◌∙◌, ap, sym, refl, subst, rules, arith, None, turn-allowed}
+use Rattle.strm_pair.specs.Prelude.{Turned, plain, PlainEntry, after, enough, turn_blocks, PairState, AddsEntry, MovesOn, queue_refused}
+use Rattle.strm_laws.specs.Step.{IsTurn}
 use Rattle.strm_pair.specs.BaseTexts.{start_in}
 use Rattle.strm_pair.specs.Pairs.{state_in, journal_of, free_in}
 use Rattle.strm_pair.specs.PairViews.{pair_of}

@@ -1,8 +1,6 @@
 -- Each reason is the one of the plain pair.
-use Rattle.std.proofs.Common.{refl, ap, ◌∙◌}
-use Rattle.strm_types.specs.Names.{is_enabled}
-use Rattle.strm_laws.specs.Pair.{PairState}
-use Rattle.strm_laws.specs.Refusals.{in_range}
+use Rattle.strm_pair.proofs.Prelude.{refl, ap, ◌∙◌}
+use Rattle.strm_pair.specs.Prelude.{is_enabled, PairState, in_range}
 use Rattle.strm_pair.proofs.pair.Pair.turn_refusal.Goals as goal
 
 pub returns : goal.returns

@@ -1,11 +1,8 @@
 -- The first reason that holds is the one that is told.
-use Rattle.std.proofs.Common.{◌≡◌, ◌+◌, sym, ap, ◌∙◌}
-use Rattle.std.specs.Prelude.{None}
+use Rattle.strm_pair.proofs.Prelude.{◌≡◌, ◌+◌, sym, ap, ◌∙◌, None}
+use Rattle.strm_pair.specs.Prelude.{request, judged, PairState, enough, has_room, refused_at_once, refused_by_state, stop_of}
 use Rattle.strm_types.specs.declared.needs.Needs.{Needs}
-use Rattle.strm_types.specs.Events.{request}
-use Rattle.strm_types.specs.JobControl.{judged}
-use Rattle.strm_laws.specs.Pair.{PairState}
-use Rattle.strm_laws.specs.Refusals.{enough, has_room, refused_at_once, refused_by_state, stop_of, unmet}
+use Rattle.strm_laws.specs.Refusals.{unmet}
 use Rattle.strm_pair.specs.Pairs.{state_in}
 use Rattle.strm_pair.proofs.Refusing.{first-told, full-told, few-told, state-told}
 use Rattle.strm_pair.proofs.pair.Pair.verdict.Goals as goal

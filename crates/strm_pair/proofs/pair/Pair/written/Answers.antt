@@ -1,7 +1,5 @@
-use Rattle.std.proofs.Common.{ap, ◌∙◌}
-use Rattle.strm_types.specs.declared.books.Book.{Book}
-use Rattle.strm_laws.specs.Pair.{PairState}
-use Rattle.strm_laws.specs.State.{book}
+use Rattle.strm_pair.proofs.Prelude.{ap, ◌∙◌}
+use Rattle.strm_pair.specs.Prelude.{Book, PairState, book}
 use Rattle.strm_pair.proofs.pair.Pair.written.Goals as goal
 
 pub returns : goal.returns

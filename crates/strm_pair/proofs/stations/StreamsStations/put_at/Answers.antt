@@ -1,11 +1,9 @@
 -- A put takes no more than it may, of blocks and of the books.
-use Rattle.std.proofs.Common.{ap, arith}
-use Rattle.strm_laws.specs.Spares.{spare}
-use Rattle.strm_frame.specs.Outboxes.{message_in}
+use Rattle.strm_pair.proofs.Prelude.{ap, arith}
+use Rattle.strm_pair.specs.Prelude.{spare, message_in, token}
 use Rattle.strm_pair.specs.Pairs.{state_in}
 use Rattle.strm_pair.proofs.PlaceCosts.{plain-few, puts-spend}
 use Rattle.strm_pair.proofs.stations.StreamsStations.put_at.Goals as goal
-use Rattle.strm_blocks.specs.Blocks.{token}
 
 pub returns-clause-puts : goal.returns-clause-puts
 returns-clause-puts g c =

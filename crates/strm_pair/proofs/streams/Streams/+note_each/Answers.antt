@@ -1,13 +1,8 @@
 -- The first note is done, and the rest is noted behind it: the nearest earlier queues stay, as the streams do.
-use Rattle.std.proofs.Common.{◌≡◌, ◌∙◌, ℕ, List, [], ◌∷◌, ap, sym}
-use Rattle.std.specs.Prelude.{Option}
-use Rattle.strm_types.specs.declared.names.Place.{Place}
-use Rattle.strm_types.specs.declared.names.Side.{Side}
-use Rattle.strm_types.specs.declared.spots.Note.{Note}
+use Rattle.strm_pair.proofs.Prelude.{◌≡◌, ◌∙◌, ℕ, List, [], ◌∷◌, ap, sym, Option}
+use Rattle.strm_pair.specs.Prelude.{Place, Side, Note, earlier_at, noted, StoreValue}
 use Rattle.strm_types.specs.declared.spots.Note.TheVariants.{Enable, Room}
 use Rattle.strm_types.specs.Names.{enable_found}
-use Rattle.strm_laws.specs.Puts.{earlier_at, noted}
-use Rattle.strm_blocks.specs.Blocks.{StoreValue}
 use Rattle.strm_pair.specs.declared.streams.Streams.{Streams}
 use Rattle.strm_pair.specs.Pairs.{state_in}
 use Rattle.strm_pair.proofs.streams.Streams.+note_each.Goals as goal

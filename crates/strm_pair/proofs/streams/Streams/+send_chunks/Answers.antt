@@ -1,12 +1,6 @@
 -- A chunk goes, and the rest is a write of the other chunks.
-use Rattle.std.proofs.Common.{◌≡◌, ◌≤◌, ◌-◌, ◌+◌, ℕ, suc, length, sym, ap, subst, ◌∙◌, arith}
-use Rattle.strm_types.specs.Cells.{plain}
-use Rattle.strm_types.specs.Message.{data_message}
-use Rattle.strm_types.specs.Write.{chunks_of}
-use Rattle.strm_laws.specs.Writes.{Wrote, below_head, chunks_sent}
-use Rattle.strm_laws.specs.Puts.{delivered}
-use Rattle.strm_laws.proofs.ModulesIdle.{delivered-idle}
-use Rattle.strm_blocks.specs.Blocks.{free_m, free_d}
+use Rattle.strm_pair.proofs.Prelude.{◌≡◌, ◌≤◌, ◌-◌, ◌+◌, ℕ, suc, length, sym, ap, subst, ◌∙◌, arith, delivered-idle}
+use Rattle.strm_pair.specs.Prelude.{plain, data_message, chunks_of, Wrote, below_head, chunks_sent, delivered, free_m, free_d}
 use Rattle.strm_pair.specs.Pairs.{state_in}
 use Rattle.strm_pair.specs.Effects.{Delivers}
 use Rattle.strm_pair.proofs.ChunkSteps.{chunks-none, chunks-full, chunks-more}

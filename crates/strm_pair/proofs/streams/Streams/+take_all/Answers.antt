@@ -1,8 +1,6 @@
 -- The module on top is taken off, and then all others.
-use Rattle.std.proofs.Common.{ℕ, suc, ◌≡◌, ◌-◌, length, sym, subst, ◌∙◌, arith}
-use Rattle.strm_types.specs.Deliver.{Carried}
-use Rattle.strm_laws.specs.Pushes.{all_taken, top_taken}
-use Rattle.strm_laws.specs.State.{State, stream}
+use Rattle.strm_pair.proofs.Prelude.{ℕ, suc, ◌≡◌, ◌-◌, length, sym, subst, ◌∙◌, arith}
+use Rattle.strm_pair.specs.Prelude.{Carried, all_taken, top_taken, State, stream}
 use Rattle.strm_pair.specs.Pairs.{state_in}
 use Rattle.strm_pair.specs.Effects.{Leads}
 use Rattle.strm_pair.proofs.Idle.{top-idle}

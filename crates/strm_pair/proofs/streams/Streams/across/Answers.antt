@@ -1,9 +1,6 @@
 -- What stands across.
-use Rattle.std.proofs.Common.{ℕ, Bool, ap, ◌∙◌}
-use Rattle.strm_laws.specs.Earlier.{modules_on}
-use Rattle.strm_types.specs.Names.{is_open, other}
-use Rattle.strm_laws.specs.State.{Stream, stream}
-use Rattle.strm_laws.specs.Puts.{across_of}
+use Rattle.strm_pair.proofs.Prelude.{ℕ, Bool, ap, ◌∙◌}
+use Rattle.strm_pair.specs.Prelude.{modules_on, is_open, other, Stream, stream, across_of}
 use Rattle.strm_pair.specs.Pairs.{state_in}
 use Rattle.strm_pair.proofs.streams.Streams.across.Goals as goal
 

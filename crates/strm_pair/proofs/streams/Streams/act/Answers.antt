@@ -1,14 +1,6 @@
 -- What was made is told, and fits the books.
-use Rattle.std.proofs.Common.{◌<◌, ◌-◌, length, map, sym, ap, ◌∙◌, arith}
-use Rattle.std.specs.Prelude.{slice_index_or, None}
-use Rattle.strm_types.specs.declared.names.Dir.TheVariants.{MasterToSlave, SlaveToMaster}
-use Rattle.strm_types.specs.Deliver.{tallied}
-use Rattle.strm_laws.specs.Earlier.{places_of}
-use Rattle.strm_types.specs.Cells.{plain}
-use Rattle.strm_laws.specs.Puts.{earlier_at, noted}
-use Rattle.strm_laws.specs.Stacked.{module_name}
-use Rattle.strm_laws.proofs.StackStays.{serve-names}
-use Rattle.strm_laws.specs.TurnCalls.{called}
+use Rattle.strm_pair.proofs.Prelude.{◌<◌, ◌-◌, length, map, sym, ap, ◌∙◌, arith, slice_index_or, None, serve-names}
+use Rattle.strm_pair.specs.Prelude.{MasterToSlave, SlaveToMaster, tallied, places_of, plain, earlier_at, noted, module_name, called}
 use Rattle.strm_laws.specs.State as state
 use Rattle.strm_pair.specs.declared.ends.StreamEnd.{StreamEnd}
 use Rattle.strm_pair.specs.declared.service_calls.Made.{Made}

@@ -1,12 +1,7 @@
 -- The place of a module is one of a module, and what stands there is told by the modules of the side's stack.
-use Rattle.std.proofs.Common.{ℕ, ◌≡◌, length, ap, arith, subst, sym, ◌∙◌}
-use Rattle.std.specs.Prelude.{min}
-use Rattle.std.proofs.lemmas.List.{length-map}
-use Rattle.strm_types.specs.declared.limits.TheConstants.{MODULES}
-use Rattle.strm_types.specs.Names.{place_of}
-use Rattle.strm_laws.specs.Earlier.{before_among, before_by, before_modules, places_of, queue_named}
-use Rattle.strm_laws.specs.Stacked.{Standing, module_name}
-use Rattle.strm_laws.specs.State.{Stream}
+use Rattle.strm_pair.proofs.Prelude.{ℕ, ◌≡◌, length, ap, arith, subst, sym, ◌∙◌, min, length-map}
+use Rattle.strm_pair.specs.Prelude.{MODULES, place_of, before_among, before_by, places_of, Standing, module_name, Stream}
+use Rattle.strm_laws.specs.Earlier.{before_modules, queue_named}
 use Rattle.strm_frame.specs.Stacks.{IsPlace}
 use Rattle.strm_pair.specs.Stacks.{modules_in}
 use Rattle.strm_pair.proofs.streams.Streams.before.Goals as goal

@@ -1,15 +1,7 @@
 -- What the first message asks says what becomes of the turn.
-use Rattle.std.proofs.Common.{ℕ, ◌≤◌, length, refl, sym, ap, subst, ◌∙◌, arith}
-use Rattle.std.proofs.lemmas.List.{length-map}
-use Rattle.strm_types.specs.declared.answers.Turn.TheVariants.{Blocked, Idle}
+use Rattle.strm_pair.proofs.Prelude.{ℕ, ◌≤◌, length, refl, sym, ap, subst, ◌∙◌, arith, length-map}
+use Rattle.strm_pair.specs.Prelude.{Blocked, Idle, at_place, messages_at, stayed_at, module_asks, State, Stream, stream, first_size, stayed_put}
 use Rattle.strm_types.specs.declared.spots.Asks.TheVariants as asked
-use Rattle.strm_types.specs.ModuleQueues.{at_place}
-use Rattle.strm_types.specs.Standings.{messages_at}
-use Rattle.strm_laws.specs.ModuleTurns.{stayed_at}
-use Rattle.strm_laws.specs.Stacked.{module_asks}
-use Rattle.strm_laws.specs.State.{State, Stream, stream}
-use Rattle.strm_types.specs.Queue.{first_size}
-use Rattle.strm_laws.specs.TurnOutcomes.{stayed_put}
 use Rattle.strm_pair.specs.ModuleTurned.{BeginsAs}
 use Rattle.strm_pair.specs.AnyModules.{module_in}
 use Rattle.strm_pair.specs.Pairs.{state_in}

@@ -1,7 +1,6 @@
 -- What the module sent is delivered before anything else is done.
-use Rattle.std.proofs.Common.{◌<◌, ◌-◌, length, arith}
-use Rattle.strm_laws.specs.State.{stream}
-use Rattle.strm_frame.specs.Outboxes.{sent_of}
+use Rattle.strm_pair.proofs.Prelude.{◌<◌, ◌-◌, length, arith}
+use Rattle.strm_pair.specs.Prelude.{stream, sent_of}
 use Rattle.strm_pair.specs.ModuleServed.{call_of}
 use Rattle.strm_pair.specs.Pairs.{state_in}
 use Rattle.strm_pair.proofs.ServeSteps.{calls-by, calls-may}

@@ -1,11 +1,7 @@
 -- Each call goes on from what those before it led to.
-use Rattle.std.proofs.Common.{◌≡◌, ◌<◌, ◌+◌, ◌-◌, false, true, [], length, refl, sym, ap, subst, ◌∙◌, arith}
-use Rattle.std.proofs.lemmas.Bool.{false≢true}
-use Rattle.strm_types.specs.declared.limits.TheConstants.{STOP_BLOCKS}
-use Rattle.strm_laws.specs.State.{stream}
+use Rattle.strm_pair.proofs.Prelude.{◌≡◌, ◌<◌, ◌+◌, ◌-◌, false, true, [], length, refl, sym, ap, subst, ◌∙◌, arith, false≢true}
+use Rattle.strm_pair.specs.Prelude.{STOP_BLOCKS, stream, times_in, HasRoom}
 use Rattle.strm_laws.proofs.ModuleTurnCalls.{reached-first}
-use Rattle.strm_blocks.specs.Blocks.{times_in}
-use Rattle.strm_frame.specs.Hands.{HasRoom}
 use Rattle.strm_pair.specs.Framing.{rests}
 use Rattle.strm_pair.specs.Pairs.{state_in}
 use Rattle.strm_pair.proofs.CallsOn.{Along, FewAt, GoOn, Since, along, comes-closer, few-along, first-begins, first-books, first-cost, first-went, later-went, next-books, still_to_come}

@@ -1,18 +1,9 @@
 -- Plain bytes have no origin: what goes down and what comes up are the bytes themselves.
-use Rattle.std.proofs.Common.{ℕ, ◌≡◌, List, take, refl, sym, ap, ◌∙◌, arith}
+use Rattle.strm_pair.proofs.Prelude.{ℕ, ◌≡◌, List, take, refl, sym, ap, ◌∙◌, arith, option_map, unless-none}
+use Rattle.strm_pair.specs.Prelude.{Bytes, Open, Master, Einval, request, may_stand, named_by, refused_at_once, unfit, stream}
 use Rattle.std.proofs.Math.Seq.{take-length}
 use denote.Ref.{Bor}
-use Rattle.std.specs.Prelude.{option_map}
-use Rattle.strm_types.specs.declared.answers.Answer.TheVariants.{Bytes}
 use Rattle.strm_types.specs.declared.events.Event.{Event}
-use Rattle.strm_types.specs.declared.names.Openness.TheVariants.{Open}
-use Rattle.strm_types.specs.declared.names.Side.TheVariants.{Master}
-use Rattle.strm_types.specs.declared.refusals.Refusal.TheVariants.{Einval}
-use Rattle.strm_types.specs.Events.{request}
-use Rattle.strm_laws.specs.Pushes.{may_stand, named_by}
-use Rattle.strm_laws.specs.Refusals.{refused_at_once, unfit}
-use Rattle.strm_laws.specs.State.{stream}
-use Rattle.strm_laws.proofs.Replay.{unless-none}
 use Rattle.strm_pair.specs.Pairs.{state_in, end_at}
 use Rattle.strm_pair.proofs.Refusing.{few-asked, number-left, put-in_range}
 use Rattle.strm_pair.proofs.Sides.{held-with}

@@ -1,14 +1,7 @@
 -- Nothing is left on the queue that was cleared.
-use Rattle.std.proofs.Common.{ℕ, length, refl, sym, ap, ◌∙◌}
-use Rattle.strm_types.specs.declared.names.Way.TheVariants.{Down}
-use Rattle.strm_types.specs.declared.rules.Rule.TheVariants.{EndClosed}
-use Rattle.strm_types.specs.Emptied.{of_all, queue_behind, writer_goes, cells_gone}
-use Rattle.strm_types.specs.Names.{enable_some, direction_of, driver_of}
-use Rattle.strm_types.specs.Queue.{Queue}
-use Rattle.strm_types.specs.Rules.{told_more}
-use Rattle.strm_laws.specs.Earlier.{before_among, before_at, before_driver}
-use Rattle.strm_laws.specs.State.{stream, with_driver_queue, with_stream}
-use Rattle.strm_queue.specs.Stored.{queue_in, messages_on}
+use Rattle.strm_pair.proofs.Prelude.{ℕ, length, refl, sym, ap, ◌∙◌}
+use Rattle.strm_pair.specs.Prelude.{Down, EndClosed, of_all, queue_behind, writer_goes, cells_gone, enable_some, direction_of, driver_of, Queue}
+use Rattle.strm_pair.specs.Prelude.{told_more, before_among, before_at, before_driver, stream, with_driver_queue, with_stream, queue_in, messages_on}
 use Rattle.strm_pair.specs.declared.streams.Streams.{Streams}
 use Rattle.strm_pair.specs.Pairs.{end_at, state_in, with_end}
 use Rattle.strm_pair.proofs.Sides.{driver-held, driver-is, driver-went, modules-behind, only-changed}

@@ -1,14 +1,8 @@
 -- Nothing is left on the queue that was cleared.
-use Rattle.std.proofs.Common.{ℕ, length, refl, sym, ap, ◌∙◌}
-use Rattle.strm_types.specs.declared.names.Way.TheVariants.{Up}
-use Rattle.strm_types.specs.declared.rules.Rule.TheVariants.{EndClosed}
-use Rattle.strm_types.specs.Emptied.{of_all, queue_behind, writer_goes, cells_gone}
+use Rattle.strm_pair.proofs.Prelude.{ℕ, length, refl, sym, ap, ◌∙◌}
+use Rattle.strm_pair.specs.Prelude.{Up, EndClosed, of_all, queue_behind, writer_goes, cells_gone, enable_some, direction_of, head_of, told_more}
+use Rattle.strm_pair.specs.Prelude.{before_among, before_head, stream, with_head_queue, with_stream, queue_in, messages_on}
 use Rattle.strm_types.specs.Heads.{Head}
-use Rattle.strm_types.specs.Names.{enable_some, direction_of, head_of}
-use Rattle.strm_types.specs.Rules.{told_more}
-use Rattle.strm_laws.specs.Earlier.{before_among, before_head}
-use Rattle.strm_laws.specs.State.{stream, with_head_queue, with_stream}
-use Rattle.strm_queue.specs.Stored.{queue_in, messages_on}
 use Rattle.strm_pair.specs.Framing.{still}
 use Rattle.strm_pair.specs.declared.streams.Streams.{Streams}
 use Rattle.strm_pair.specs.Pairs.{end_at, kept_by, state_in, with_end}

@@ -1,17 +1,10 @@
 -- The head takes the message, and a waiting writer is let go.
-use Rattle.std.proofs.Common.{sym, ap, ◌∙◌, refl}
-use Rattle.strm_types.specs.declared.names.Way.TheVariants.{Up}
-use Rattle.strm_types.specs.Names.{enable_some}
-use Rattle.strm_types.specs.Message.{is_held}
-use Rattle.strm_laws.specs.Earlier.{before_among}
-use Rattle.strm_msg.proofs.Chains.{kind-is}
-use Rattle.strm_frame.specs.Outboxes.{message_in}
-use Rattle.strm_frame.proofs.Handing.{can-in_hand}
+use Rattle.strm_pair.proofs.Prelude.{sym, ap, ◌∙◌, refl, kind-is, can-in_hand}
+use Rattle.strm_pair.specs.Prelude.{Up, enable_some, is_held, before_among, message_in, in_hand, token}
 use Rattle.strm_pair.specs.Pairs.{end_at, kept_by, with_end}
 use Rattle.strm_pair.proofs.PutSteps.{came-by}
 use Rattle.strm_pair.proofs.Sides.{modules-behind}
 use Rattle.strm_pair.proofs.streams.Streams.come.Goals as goal
-use Rattle.strm_blocks.specs.Blocks.{in_hand, token}
 
 pub put-came-requires-clause-in_hand : goal.put-came-requires-clause-in_hand
 put-came-requires-clause-in_hand g c = can-in_hand (g.B.Blocks.value c.args.store.now) (token c.args.message) (kept_by c.args.self.now) c.audit.ensures c.requires.may.can_put

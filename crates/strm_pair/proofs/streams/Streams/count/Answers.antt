@@ -1,8 +1,6 @@
 -- What the head counts is what its queue counts, and a module's queue counts what its call says.
-use Rattle.std.proofs.Common.{ap, sym, rules, ◌∙◌}
-use Rattle.strm_types.specs.declared.names.Place.TheVariants.{Ldterm}
-use Rattle.strm_types.specs.Queue.{count_of}
-use Rattle.strm_laws.specs.State.{Stream, stream}
+use Rattle.strm_pair.proofs.Prelude.{ap, sym, rules, ◌∙◌}
+use Rattle.strm_pair.specs.Prelude.{Ldterm, count_of, Stream, stream}
 use Rattle.strm_pair.specs.Named.{messages_named}
 use Rattle.strm_pair.specs.Pairs.{state_in}
 use Rattle.strm_pair.specs.Shows.{count_in}

@@ -1,12 +1,7 @@
 -- Nothing is in hand when all is delivered.
-use Rattle.std.proofs.Common.{sym, subst, arith}
-use Rattle.strm_types.specs.Cells.{plain}
-use Rattle.strm_laws.specs.Kept.{AreIdle}
-use Rattle.strm_laws.specs.StackCosts.{stands_of}
-use Rattle.strm_laws.proofs.Budgeted.{ends, keeps-most}
-use Rattle.strm_laws.proofs.ModulesIdle.{delivered-idle}
-use Rattle.strm_blocks.specs.Blocks.{in_hand, token}
-use Rattle.strm_msg.specs.Messages.{message_of}
+use Rattle.strm_pair.proofs.Prelude.{sym, subst, arith, keeps-most, delivered-idle}
+use Rattle.strm_pair.specs.Prelude.{plain, AreIdle, stands_of, in_hand, token, message_of}
+use Rattle.strm_laws.proofs.Budgeted.{ends}
 use Rattle.strm_frame.specs.Outboxes.{spot_in}
 use Rattle.strm_frame.proofs.Handing.{alone-can, none-left}
 use Rattle.strm_pair.specs.Framing.{rests}

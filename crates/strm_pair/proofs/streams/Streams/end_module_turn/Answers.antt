@@ -1,11 +1,7 @@
 -- The nearest earlier queue is the one that it was before the turn ended, as the modules keep their names.
-use Rattle.std.proofs.Common.{ℕ, false, ap, ◌∙◌}
-use Rattle.strm_types.specs.ModuleQueues.{at_place}
-use Rattle.strm_types.specs.Names.{enable_if, enable_some}
+use Rattle.strm_pair.proofs.Prelude.{ℕ, false, ap, ◌∙◌}
+use Rattle.strm_pair.specs.Prelude.{at_place, enable_if, enable_some, before_at, queue_ended, State, stream, with_stream}
 use Rattle.strm_types.specs.Service.{end_relieves, has_more}
-use Rattle.strm_laws.specs.Earlier.{before_at}
-use Rattle.strm_laws.specs.ModuleTurns.{queue_ended}
-use Rattle.strm_laws.specs.State.{State, stream, with_stream}
 use Rattle.strm_pair.specs.declared.streams.Streams.{Streams}
 use Rattle.strm_pair.specs.Pairs.{state_in}
 use Rattle.strm_pair.proofs.NearestStays.{before-ended}

@@ -1,11 +1,6 @@
 -- The modules keep their names, and the other side stays.
-use Rattle.std.proofs.Common.{◌+◌, ◌-◌, length, map, ap, sym, ◌∙◌, arith}
-use Rattle.std.proofs.lemmas.List.{length-map}
-use Rattle.strm_types.specs.Service.{turn_ended}
-use Rattle.strm_types.specs.Names.{other}
-use Rattle.strm_types.proofs.BySide.{set-all}
-use Rattle.strm_laws.specs.Stacked.{module_name}
-use Rattle.strm_laws.proofs.StackStays.{queue-names}
+use Rattle.strm_pair.proofs.Prelude.{◌+◌, ◌-◌, length, map, ap, sym, ◌∙◌, arith, length-map, set-all, queue-names}
+use Rattle.strm_pair.specs.Prelude.{turn_ended, other, module_name}
 use Rattle.strm_pair.specs.AnyModules.{module_in}
 use Rattle.strm_pair.specs.declared.ends.StreamEnd.{StreamEnd}
 use Rattle.strm_pair.specs.Framing.{kept-parts, kept-with}

@@ -1,15 +1,8 @@
 -- A writer that waits before the driver is let go, and the queue is enabled again where more stand there.
-use Rattle.std.proofs.Common.{suc, length, ap, sym, ◌∙◌, refl}
-use Rattle.std.specs.Prelude.{min, not}
-use Rattle.strm_types.specs.declared.limits.TheConstants.{MODULES}
-use Rattle.strm_types.specs.declared.names.Way.TheVariants.{Down}
-use Rattle.strm_types.specs.Names.{driver_of, enable_if, enable_some}
+use Rattle.strm_pair.proofs.Prelude.{suc, length, ap, sym, ◌∙◌, refl, min, not}
+use Rattle.strm_pair.specs.Prelude.{MODULES, Down, driver_of, enable_if, enable_some, is_none_left, before_among, before_driver, State, stream}
+use Rattle.strm_pair.specs.Prelude.{with_driver, queue_in}
 use Rattle.strm_types.specs.Queue as plain
-use Rattle.strm_types.specs.Queue.{is_none_left}
-use Rattle.strm_laws.specs.Earlier.{before_among, before_driver}
-use Rattle.strm_laws.specs.State.{State, stream}
-use Rattle.strm_laws.specs.Turns.{with_driver}
-use Rattle.strm_queue.specs.Stored.{queue_in}
 use Rattle.strm_pair.specs.declared.streams.Streams.{Streams}
 use Rattle.strm_pair.specs.Framing.{still}
 use Rattle.strm_pair.specs.Pairs.{end_at, kept_by, state_in, with_end}

@@ -1,8 +1,6 @@
 -- What stands on a module's queue is what its call says.
-use Rattle.std.proofs.Common.{ap, sym, ◌∙◌}
-use Rattle.strm_types.specs.declared.names.Place.TheVariants.{Ldterm}
-use Rattle.strm_laws.specs.State.{Stream, stream}
-use Rattle.strm_types.specs.Queue.{first_size}
+use Rattle.strm_pair.proofs.Prelude.{ap, sym, ◌∙◌}
+use Rattle.strm_pair.specs.Prelude.{Ldterm, Stream, stream, first_size}
 use Rattle.strm_pair.specs.Named.{messages_named}
 use Rattle.strm_pair.specs.Pairs.{state_in}
 use Rattle.strm_pair.specs.Shows.{messages_in}

@@ -1,16 +1,9 @@
 -- The M_FLUSH is alone in hand.
-use Rattle.std.proofs.Common.{ℕ, ◌≡◌, ◌≤◌, Bool, true, false, cond, ap, ◌∙◌, arith}
-use Rattle.strm_types.specs.declared.flushing.FlushAsked.{FlushAsked}
-use Rattle.strm_types.specs.declared.names.Side.{Side}
-use Rattle.strm_types.specs.declared.names.Way.TheVariants.{Down}
-use Rattle.strm_types.specs.declared.spots.Spot.{Spot}
-use Rattle.strm_types.specs.Shapes.{FlushR, FlushRW, FlushW}
-use Rattle.strm_types.specs.Flushing.{asked_by, asked_of, flush_bytes, flush_message}
-use Rattle.strm_laws.specs.Spares.{spare}
-use Rattle.strm_types.specs.Budgets.{most_of, most_on}
-use Rattle.strm_laws.proofs.StackSpares.{range-spare}
-use Rattle.strm_blocks.specs.Blocks.{in_hand, token}
-use Rattle.strm_msg.specs.Messages.{message_of}
+use Rattle.strm_pair.proofs.Prelude.{ℕ, ◌≡◌, ◌≤◌, Bool, true, false, cond, ap, ◌∙◌, arith, range-spare}
+use Rattle.strm_pair.specs.Prelude.{FlushAsked, Side, Down, Spot, FlushR, FlushRW, FlushW, asked_by, flush_bytes, flush_message, spare, most_of}
+use Rattle.strm_pair.specs.Prelude.{in_hand, token, message_of}
+use Rattle.strm_types.specs.Flushing.{asked_of}
+use Rattle.strm_types.specs.Budgets.{most_on}
 use Rattle.strm_pair.specs.Pairs.{state_in}
 use Rattle.strm_pair.proofs.InHand.{made-alone, made-state, made-leads, made-left}
 use Rattle.strm_pair.proofs.PlaceCosts.{may-by}

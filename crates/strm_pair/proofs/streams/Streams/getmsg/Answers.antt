@@ -1,16 +1,10 @@
 -- What the head of a side gives.
-use Rattle.std.proofs.Common.{ℕ, refl, sym, ap, ◌∙◌}
-use Rattle.std.specs.Prelude.{min}
-use Rattle.strm_types.specs.declared.limits.TheConstants.{READ_MAX}
-use Rattle.strm_types.specs.declared.names.Way.TheVariants.{Up}
+use Rattle.strm_pair.proofs.Prelude.{ℕ, refl, sym, ap, ◌∙◌, min}
+use Rattle.strm_pair.specs.Prelude.{READ_MAX, Up, enable_some, direction_of, head_of, tallied, before_among, before_head, stream, with_head_queue}
+use Rattle.strm_pair.specs.Prelude.{with_stream, Changes, queue_in}
 use Rattle.strm_types.specs.GetQueues.{get_lets_go, get_queue, get_gone}
-use Rattle.strm_types.specs.Names.{enable_some, direction_of, head_of}
 use Rattle.strm_types.specs.Heads as heads
 use Rattle.strm_types.specs.Queue as plain
-use Rattle.strm_types.specs.Deliver.{tallied}
-use Rattle.strm_laws.specs.Earlier.{before_among, before_head}
-use Rattle.strm_laws.specs.State.{stream, with_head_queue, with_stream}
-use Rattle.strm_queue.specs.Stored.{Changes, queue_in}
 use Rattle.strm_pair.specs.declared.streams.Streams.{Streams}
 use Rattle.strm_pair.specs.Pairs.{end_at, state_in, with_end}
 use Rattle.strm_pair.proofs.Sides.{head-is, head-went, modules-behind}

@@ -1,12 +1,8 @@
 -- What was held stays held, and what is told of an ioctl or of the group books nothing.
-use Rattle.std.proofs.Common.{ℕ, refl, sym, ap, ◌∙◌, arith}
-use Rattle.strm_types.specs.Cells.{plain}
-use Rattle.strm_types.specs.Deliver.{Carried}
+use Rattle.strm_pair.proofs.Prelude.{ℕ, refl, sym, ap, ◌∙◌, arith, same-spare}
+use Rattle.strm_pair.specs.Prelude.{plain, Carried, spare, State}
 use Rattle.strm_laws.specs.Calls.{group_at, ioctl_sent, ioctl_told}
-use Rattle.strm_laws.specs.Spares.{spare}
-use Rattle.strm_laws.specs.State.{State}
 use Rattle.strm_laws.proofs.Balances.{told-books}
-use Rattle.strm_laws.proofs.StackSpares.{same-spare}
 use Rattle.strm_pair.specs.Pairs.{state_in}
 use Rattle.strm_pair.proofs.Leading.{leads-alone, leads-becoming}
 use Rattle.strm_pair.proofs.streams.Streams.ioctl.Goals as goal

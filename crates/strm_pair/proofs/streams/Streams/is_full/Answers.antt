@@ -1,8 +1,7 @@
 -- A module's queue is full where its call says so.
-use Rattle.std.proofs.Common.{false, ap, sym, ◌∙◌}
-use Rattle.strm_types.specs.declared.names.Place.TheVariants.{Ldterm}
+use Rattle.strm_pair.proofs.Prelude.{false, ap, sym, ◌∙◌}
+use Rattle.strm_pair.specs.Prelude.{Ldterm, Stream, stream}
 use Rattle.strm_types.specs.ModuleQueues as modules
-use Rattle.strm_laws.specs.State.{Stream, stream}
 use Rattle.strm_pair.specs.Named.{at_named}
 use Rattle.strm_pair.specs.Pairs.{state_in}
 use Rattle.strm_pair.specs.Shows.{full_in}

@@ -1,10 +1,7 @@
 -- The lines of the reader's modules are counted.
-use Rattle.std.proofs.Common.{ℕ, length, ap, ◌≡◌, ◌∙◌, subst, sym}
-use Rattle.std.specs.Prelude.{sum_by}
-use Rattle.strm_types.specs.declared.names.Dir.{Dir}
-use Rattle.strm_laws.specs.Ledgers.{inline}
+use Rattle.strm_pair.proofs.Prelude.{ℕ, length, ap, ◌≡◌, ◌∙◌, subst, sym, sum_by}
+use Rattle.strm_pair.specs.Prelude.{Dir, inline, Stream}
 use Rattle.strm_laws.specs.Stacked.{module_line}
-use Rattle.strm_laws.specs.State.{Stream}
 use Rattle.strm_pair.specs.Pairs.{state_in}
 use Rattle.strm_pair.proofs.streams.Streams.line_lens.Goals as goal
 

@@ -1,19 +1,11 @@
 -- The message is freed, and its bytes are told.
-use Rattle.std.proofs.Common.{[], ◌∷◌, refl, sym, ap, subst, ◌∙◌, arith}
-use Rattle.strm_types.specs.declared.names.Way.TheVariants.{Up}
-use Rattle.strm_types.specs.declared.rules.Rule.TheVariants.{EndClosed}
-use Rattle.strm_types.specs.Deliver.{Goes}
-use Rattle.strm_types.specs.Message.{cells_of}
-use Rattle.strm_types.specs.Names.{direction_at, direction_of}
-use Rattle.strm_types.specs.Rules.{told_more}
-use Rattle.strm_frame.specs.Outboxes.{message_in, sent_of}
-use Rattle.strm_frame.proofs.Handing.{can-in_hand}
+use Rattle.strm_pair.proofs.Prelude.{[], ◌∷◌, refl, sym, ap, subst, ◌∙◌, arith, can-in_hand}
+use Rattle.strm_pair.specs.Prelude.{Up, EndClosed, Goes, cells_of, direction_at, direction_of, told_more, message_in, sent_of, token}
 use Rattle.strm_pty.proofs.Doing.{swaps-freed}
 use Rattle.strm_pair.specs.Pairs.{kept_by, state_in}
 use Rattle.strm_pair.specs.PutBy.{PutBy}
 use Rattle.strm_pair.proofs.PutSteps.{closed-is, swaps-put}
 use Rattle.strm_pair.proofs.streams.Streams.lose.Goals as goal
-use Rattle.strm_blocks.specs.Blocks.{token}
 
 pub booked_size-bytes-requires-clause-in_hand : goal.booked_size-bytes-requires-clause-in_hand
 booked_size-bytes-requires-clause-in_hand g c = can-in_hand (g.B.Blocks.value c.args.store.now) (token c.args.message) (kept_by c.args.self.now) c.audit.ensures c.requires.may.can_put

@@ -1,13 +1,7 @@
 -- There is room, and none of its name stands there.
-use Rattle.std.proofs.Common.{ℕ, ◌≡◌, ◌&&◌, true, false, not, length, ap, arith, subst, sym, ◌∙◌, nat_lt}
-use Rattle.std.proofs.lemmas.Bool.Decides.{nat_tests}
-use Rattle.std.specs.Prelude.{Option}
-use Rattle.strm_types.specs.declared.limits.TheConstants.{MODULES}
-use Rattle.strm_types.specs.declared.names.ModuleName.{ModuleName}
-use Rattle.strm_types.specs.Modules.{stands}
-use Rattle.strm_laws.specs.Pushes.{may_stand, named_by}
-use Rattle.strm_laws.specs.Stacked.{module_name}
-use Rattle.strm_laws.specs.State.{Stream, stream}
+use Rattle.strm_pair.proofs.Prelude.{ℕ, ◌≡◌, true, false, length, ap, arith, subst, sym, ◌∙◌, nat_tests, Option}
+use Rattle.strm_pair.specs.Prelude.{MODULES, ModuleName, stands, may_stand, named_by, module_name, Stream, stream}
+use Rattle.std.proofs.Common.{◌&&◌, not, nat_lt}
 use Rattle.strm_pair.specs.Pairs.{state_in}
 use Rattle.strm_pair.proofs.Modes.{may-known}
 use Rattle.strm_pair.proofs.streams.Streams.may_push.Goals as goal

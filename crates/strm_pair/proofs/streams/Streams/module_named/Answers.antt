@@ -1,7 +1,6 @@
 -- The module of the side's stack is found.
-use Rattle.std.proofs.Common.{ℕ, ap, ◌∙◌}
-use Rattle.strm_laws.specs.ModuleTurns.{place_named}
-use Rattle.strm_laws.specs.State.{Stream}
+use Rattle.strm_pair.proofs.Prelude.{ℕ, ap, ◌∙◌}
+use Rattle.strm_pair.specs.Prelude.{place_named, Stream}
 use Rattle.strm_pair.proofs.streams.Streams.module_named.Goals as goal
 
 pub returns : goal.returns

@@ -1,27 +1,12 @@
 -- The message is alone in hand.
-use Rattle.std.proofs.Common.{ℕ, ◌∷◌, sym, ap, subst, ◌∙◌, arith}
-use Rattle.strm_types.specs.declared.answers.Turn.TheVariants.{Moved}
-use Rattle.strm_types.specs.declared.names.Side.{Side}
-use Rattle.strm_types.specs.declared.names.Way.TheVariants.{Up}
-use Rattle.strm_types.specs.declared.spots.Spot.{Spot}
-use Rattle.strm_types.specs.Cells.{plain}
-use Rattle.strm_types.specs.Deliver.{tallied, Carried}
-use Rattle.strm_laws.specs.Kept.{AreIdle}
-use Rattle.strm_types.specs.Message.{size_of}
-use Rattle.strm_types.specs.Names.{other}
-use Rattle.strm_laws.specs.Puts.{delivered}
-use Rattle.strm_laws.specs.Earlier.{modules_on}
-use Rattle.strm_types.specs.Queue.{left_with}
-use Rattle.strm_laws.specs.Spares.{spare}
-use Rattle.strm_laws.specs.State.{stream, State}
+use Rattle.strm_pair.proofs.Prelude.{ℕ, ◌∷◌, sym, ap, subst, ◌∙◌, arith, range-spare}
+use Rattle.strm_pair.specs.Prelude.{Moved, Side, Up, Spot, plain, tallied, Carried, AreIdle, size_of, other, delivered, modules_on, left_with, spare}
+use Rattle.strm_pair.specs.Prelude.{stream, State, message_of, in_hand, token}
 use Rattle.strm_laws.specs.Turns.{turn_ended}
-use Rattle.strm_laws.proofs.StackSpares.{range-spare}
-use Rattle.strm_msg.specs.Messages.{message_of}
 use Rattle.strm_msg.proofs.Bounds.{bytes-few}
 use Rattle.strm_msg.proofs.Chains.{size-shown}
 use Rattle.strm_pair.specs.Pairs.{state_in}
 use Rattle.strm_pair.proofs.TurnSteps.{ended-spare, taken-idle, taken-spare, up-few}
-use Rattle.strm_blocks.specs.Blocks.{in_hand, token}
 use Rattle.strm_pair.proofs.streams.Streams.move_across.Goals as goal
 
 pub deliver_alone-requires-clause-alone : goal.deliver_alone-requires-clause-alone

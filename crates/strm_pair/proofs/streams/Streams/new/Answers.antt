@@ -1,8 +1,6 @@
 -- Streams over a store with nothing in it.
-use Rattle.std.proofs.Common.{refl, sym, subst}
-use Rattle.strm_blocks.specs.Blocks.{empty_store}
-use Rattle.strm_types.specs.declared.both.Both.{Both}
-use Rattle.strm_types.proofs.BySide.{each-side}
+use Rattle.strm_pair.proofs.Prelude.{refl, sym, subst, each-side}
+use Rattle.strm_pair.specs.Prelude.{empty_store, Both}
 use Rattle.strm_pair.specs.declared.ends.StreamEnd.{StreamEnd}
 use Rattle.strm_pair.specs.Lists.{first_list}
 use Rattle.strm_pair.specs.Streams.{IsBlank, IsSide}

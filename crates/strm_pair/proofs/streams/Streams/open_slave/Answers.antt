@@ -1,10 +1,7 @@
 -- The head is as new, and the driver stays.
-use Rattle.std.proofs.Common.{ℕ, not, refl, sym, ap, ◌∙◌, arith}
-use Rattle.strm_types.specs.declared.names.Openness.TheVariants.{Open}
-use Rattle.strm_types.specs.declared.names.Side.TheVariants.{Master, Slave}
-use Rattle.strm_types.specs.Heads.{new_head}
-use Rattle.strm_types.specs.Names.{driver_of, enable, enable_if}
-use Rattle.strm_laws.specs.State.{State, stream, with_stream}
+use Rattle.strm_pair.proofs.Prelude.{ℕ, refl, sym, ap, ◌∙◌, arith}
+use Rattle.strm_pair.specs.Prelude.{Open, Master, Slave, new_head, driver_of, enable, enable_if, State, stream, with_stream}
+use Rattle.std.proofs.Common.{not}
 use Rattle.strm_pair.specs.Pairs.{state_in}
 use Rattle.strm_pair.proofs.Sides.{none-left, renewed-beside, renewed-state}
 use Rattle.strm_pair.proofs.streams.Streams.open_slave.Goals as goal

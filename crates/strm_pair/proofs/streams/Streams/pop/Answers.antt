@@ -1,11 +1,8 @@
 -- The module on top goes, and then the head is told its read mode.
-use Rattle.std.specs.Prelude.{Option}
-use Rattle.std.proofs.Common.{ℕ, ◌≡◌, ap, sym, subst, ◌∙◌, arith}
-use Rattle.strm_types.specs.declared.rules.Rule.TheVariants.{ModulePopped}
-use Rattle.strm_types.specs.declared.modes.ReadMode.{ReadMode}
-use Rattle.strm_types.specs.Dropped.{is_met, number_sought}
-use Rattle.strm_laws.specs.Pushes.{below_top, ioctl_dropped, mode_behind, mode_put, top_on, top_taken}
-use Rattle.strm_laws.specs.State.{State, Stream, stream}
+use Rattle.strm_pair.proofs.Prelude.{Option, ℕ, ◌≡◌, ap, sym, subst, ◌∙◌, arith}
+use Rattle.strm_pair.specs.Prelude.{ModulePopped, ReadMode, is_met, number_sought, below_top, mode_behind, mode_put, top_on, top_taken, State, Stream}
+use Rattle.strm_pair.specs.Prelude.{stream}
+use Rattle.strm_laws.specs.Pushes.{ioctl_dropped}
 use Rattle.strm_pair.specs.Pairs.{state_in}
 use Rattle.strm_pair.specs.Effects.{Leads}
 use Rattle.strm_pair.proofs.Dropping.{same-sought, slot-stays}

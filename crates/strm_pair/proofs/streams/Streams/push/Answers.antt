@@ -1,10 +1,6 @@
 -- The head is told its mode, the module stands there, and what waits before it may come.
-use Rattle.std.proofs.Common.{ℕ, ◌≡◌, ◌∷◌, ap, sym, subst, ◌∙◌}
-use Rattle.std.specs.Prelude.{Option, Some, IfSome, is_some}
-use Rattle.strm_types.specs.Deliver.{Carried, tallied}
-use Rattle.strm_laws.specs.Pushes.{may_stand, mode_put, named_by, with_modules}
-use Rattle.strm_types.specs.Names.{place_of}
-use Rattle.strm_laws.specs.State.{State, stream}
+use Rattle.strm_pair.proofs.Prelude.{ℕ, ◌≡◌, ◌∷◌, ap, sym, subst, ◌∙◌, Option, Some, IfSome, is_some}
+use Rattle.strm_pair.specs.Prelude.{Carried, tallied, may_stand, mode_put, named_by, with_modules, place_of, State, stream}
 use Rattle.strm_pair.specs.declared.streams.Streams.{Streams}
 use Rattle.std.specs.List.{AllByRecursion}
 use Rattle.strm_pair.specs.AnyModules.{HasAsNamed, all-have}

@@ -1,18 +1,10 @@
 -- What stands at a place takes the message: the head, a module, or behind the modules what is below them.
-use Rattle.std.proofs.Common.{ℕ, ◌≡◌, ◌≤◌, ◌<◌, true, false, sym, subst, arith}
-use Rattle.std.specs.Prelude.{◌==◌, nat_le}
-use Rattle.std.proofs.lemmas.Bool.Decides.{nat_tests}
-use Rattle.strm_types.specs.declared.names.Way.TheVariants.{Up, Down}
-use Rattle.strm_types.specs.Tables.{driver_own}
-use Rattle.strm_laws.specs.Puts.{put_at_driver}
-use Rattle.strm_laws.proofs.PutsOwn.{place-makes, place-own}
-use Rattle.strm_frame.specs.Hands.{HasRoom}
-use Rattle.strm_frame.specs.Outboxes.{message_in, sent_of}
+use Rattle.strm_pair.proofs.Prelude.{ℕ, ◌≡◌, ◌≤◌, ◌<◌, true, false, sym, subst, arith, ◌==◌, nat_le, nat_tests, place-makes, place-own}
+use Rattle.strm_pair.specs.Prelude.{Up, Down, driver_own, put_at_driver, HasRoom, message_in, sent_of, token}
 use Rattle.strm_pair.specs.Pairs.{state_in}
 use Rattle.strm_pair.specs.PutBy.{PutBy}
 use Rattle.strm_pair.proofs.PutSteps.{behind-put, behind-room, head-put, head-room, module-put}
 use Rattle.strm_pair.proofs.streams.Streams.put.Goals as goal
-use Rattle.strm_blocks.specs.Blocks.{token}
 
 stands-at : (at count : ℕ) → at ≤ count → nat_le at count ≡ true
 stands-at at count low = grind (arith, nat_tests)

@@ -1,24 +1,12 @@
 -- The driver takes the message, and what it says of its queues is done.
-use Rattle.std.proofs.Common.{ℕ, ◌≡◌, refl, ap, subst, ◌∙◌}
-use Rattle.std.specs.Prelude.{Some}
-use Rattle.strm_types.specs.declared.names.Place.TheVariants.{Driver}
-use Rattle.strm_types.specs.declared.spots.Across.{Across}
-use Rattle.strm_types.specs.Deliver.{Acted, tallied}
-use Rattle.strm_types.specs.Drivers.{driver_put}
-use Rattle.strm_types.specs.Queue.{Queue}
-use Rattle.strm_laws.specs.Earlier.{before_among}
-use Rattle.strm_laws.specs.Pair.{IsKeptAhead}
-use Rattle.strm_laws.specs.Puts.{earlier_at, noted}
-use Rattle.strm_frame.specs.Outboxes.{message_in, parcels_in, sent_of}
-use Rattle.strm_frame.proofs.Handing.{can-in_hand}
-use Rattle.strm_pty.specs.Does.{OnlyQueue}
-use Rattle.strm_queue.specs.Stored.{queue_in}
+use Rattle.strm_pair.proofs.Prelude.{ℕ, ◌≡◌, refl, ap, subst, ◌∙◌, Some, can-in_hand}
+use Rattle.strm_pair.specs.Prelude.{Driver, Across, Acted, tallied, driver_put, Queue, before_among, IsKeptAhead, earlier_at, noted, message_in}
+use Rattle.strm_pair.specs.Prelude.{parcels_in, sent_of, OnlyQueue, queue_in, token}
 use Rattle.strm_pair.specs.declared.ends.StreamEnd.{StreamEnd}
 use Rattle.strm_pair.specs.Pairs.{end_at, kept_by, state_in, with_end}
 use Rattle.strm_pair.proofs.PutSteps.{driver-by, driver-room}
 use Rattle.strm_pair.proofs.Sides.{modules-behind}
 use Rattle.strm_pair.proofs.streams.Streams.put_driver.Goals as goal
-use Rattle.strm_blocks.specs.Blocks.{token}
 
 pub put-acts-requires-clause-in_hand : goal.put-acts-requires-clause-in_hand
 put-acts-requires-clause-in_hand g c = can-in_hand (g.B.Blocks.value c.args.store.now) (token c.args.message) (kept_by c.args.self.now) c.audit.ensures c.requires.may.can_put

@@ -1,17 +1,9 @@
 -- What goes down is made behind the put.
-use Rattle.std.proofs.Common.{ℕ, ◌≡◌, false, cond, sym, ap, ◌∙◌, arith}
-use Rattle.std.proofs.lemmas.Bool.{false≢true}
-use Rattle.strm_types.specs.Names.{is_open}
-use Rattle.strm_types.specs.Reads.{is_there}
-use Rattle.strm_head.specs.Heads.{sent_down}
-use Rattle.strm_frame.specs.Outboxes.{message_in, sent_of}
-use Rattle.strm_types.specs.Costs.{head_takes}
+use Rattle.strm_pair.proofs.Prelude.{ℕ, ◌≡◌, false, cond, sym, ap, ◌∙◌, arith, false≢true}
+use Rattle.strm_pair.specs.Prelude.{is_open, is_there, sent_down, message_in, sent_of, head_takes, put_at_head, Stream, stream, token}
 use Rattle.strm_pair.specs.Pairs.{state_in}
-use Rattle.strm_laws.specs.Puts.{put_at_head}
-use Rattle.strm_laws.specs.State.{Stream, stream}
 use Rattle.strm_pair.proofs.PutSteps.{came-put, down-takes, head-open}
 use Rattle.strm_pair.proofs.streams.Streams.put_head.Goals as goal
-use Rattle.strm_blocks.specs.Blocks.{token}
 
 pub returns-clause-does : goal.returns-clause-does
 returns-clause-does g c =

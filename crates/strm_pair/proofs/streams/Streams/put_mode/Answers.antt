@@ -1,17 +1,7 @@
 -- The M_SETOPTS is alone in hand.
-use Rattle.std.proofs.Common.{ℕ, ◌≡◌, ◌≤◌, false, List, [], ◌∷◌, refl, ap, subst, ◌∙◌, arith}
-use Rattle.strm_types.specs.declared.names.Side.{Side}
-use Rattle.std.specs.Prelude.{None}
+use Rattle.strm_pair.proofs.Prelude.{ℕ, ◌≡◌, ◌≤◌, false, List, [], ◌∷◌, refl, ap, subst, ◌∙◌, arith, None}
+use Rattle.strm_pair.specs.Prelude.{Side, Carried, is_data_kind, mode_message, head_above, spare, most_of, State, in_hand, token, message_of}
 use Rattle.strm_types.specs.declared.kinds.MsgKind.TheVariants.{Setopts}
-use Rattle.strm_types.specs.Deliver.{Carried}
-use Rattle.strm_types.specs.Flush.{is_data_kind}
-use Rattle.strm_types.specs.Options.{mode_message}
-use Rattle.strm_laws.specs.Pushes.{head_above}
-use Rattle.strm_laws.specs.Spares.{spare}
-use Rattle.strm_types.specs.Budgets.{most_of}
-use Rattle.strm_laws.specs.State.{State}
-use Rattle.strm_blocks.specs.Blocks.{in_hand, token}
-use Rattle.strm_msg.specs.Messages.{message_of}
 use Rattle.strm_pair.specs.Pairs.{state_in}
 use Rattle.strm_pair.specs.Effects.{Leads}
 use Rattle.strm_pair.proofs.Modes.{mode-delivered}

@@ -1,15 +1,7 @@
 -- The module takes the message, what it says of its queues is done by how the stream was before, and what it made is told, and fits the books.
-use Rattle.std.proofs.Common.{◌-◌, map, sym, ap, ◌∙◌, arith}
-use Rattle.std.specs.Prelude.{slice_index_or, None}
-use Rattle.strm_types.specs.declared.names.Dir.TheVariants.{MasterToSlave, SlaveToMaster}
-use Rattle.strm_types.specs.Deliver.{tallied}
-use Rattle.strm_laws.specs.Earlier.{places_of}
-use Rattle.strm_types.specs.Cells.{plain}
-use Rattle.strm_laws.specs.Puts.{earlier_at, noted}
-use Rattle.strm_laws.specs.Stacked.{module_name}
+use Rattle.strm_pair.proofs.Prelude.{◌-◌, map, sym, ap, ◌∙◌, arith, slice_index_or, None, keep-names}
+use Rattle.strm_pair.specs.Prelude.{MasterToSlave, SlaveToMaster, tallied, places_of, plain, earlier_at, noted, module_name, message_in, token}
 use Rattle.strm_laws.specs.State as state
-use Rattle.strm_laws.proofs.StackStays.{keep-names}
-use Rattle.strm_frame.specs.Outboxes.{message_in}
 use Rattle.strm_pair.specs.declared.service_calls.Made.{Made}
 use Rattle.strm_pair.specs.declared.streams.Streams.{Streams}
 use Rattle.strm_pair.specs.ModuleServed.{between, with_more}
@@ -21,7 +13,6 @@ use Rattle.strm_pair.proofs.NearestStays.{before-stays}
 use Rattle.strm_pair.proofs.PlaceCosts.{plain-few}
 use Rattle.strm_pair.proofs.Sides.{modules-are}
 use Rattle.strm_pair.proofs.streams.Streams.put_module.Goals as goal
-use Rattle.strm_blocks.specs.Blocks.{token}
 
 pub book_made-requires-clause-master : goal.book_made-requires-clause-master
 book_made-requires-clause-master g c =

@@ -1,7 +1,6 @@
 -- The module stands on its side's stack.
-use Rattle.std.proofs.Common.{ap, sym, ◌∙◌}
-use Rattle.std.specs.Prelude.{Some}
-use Rattle.strm_laws.specs.Pushes.{may_stand, named_by}
+use Rattle.strm_pair.proofs.Prelude.{ap, sym, ◌∙◌, Some}
+use Rattle.strm_pair.specs.Prelude.{may_stand, named_by}
 use Rattle.strm_pair.specs.declared.ends.StreamEnd.{StreamEnd}
 use Rattle.strm_pair.specs.Pairs.{end_at}
 use Rattle.strm_pair.proofs.Puttings.{put-state, held-put, pushed-once}

@@ -1,10 +1,6 @@
 -- The stack of the side takes the message, as its put says.
-use Rattle.std.proofs.Common.{length, ap, sym, subst, ◌∙◌, arith}
-use Rattle.std.proofs.lemmas.List.{length-map}
-use Rattle.strm_types.specs.ModuleQueues.{at_place}
-use Rattle.strm_laws.specs.StackCosts.{module_takes}
-use Rattle.strm_frame.specs.Hands.{HasRoom}
-use Rattle.strm_frame.specs.Outboxes.{message_in}
+use Rattle.strm_pair.proofs.Prelude.{length, ap, sym, subst, ◌∙◌, arith, length-map}
+use Rattle.strm_pair.specs.Prelude.{at_place, module_takes, HasRoom, message_in, token}
 use Rattle.strm_pair.specs.AnyModules.{module_in}
 use Rattle.strm_pair.specs.declared.ends.StreamEnd.{StreamEnd}
 use Rattle.strm_pair.specs.Framing.{kept-parts}
@@ -13,7 +9,6 @@ use Rattle.strm_pair.specs.PutBy.{StackTakes}
 use Rattle.strm_pair.specs.Stacks.{modules_in, stack_keeps}
 use Rattle.strm_pair.proofs.Sides.{modules-are, stack-there}
 use Rattle.strm_pair.proofs.streams.Streams.put_on_stack.Goals as goal
-use Rattle.strm_blocks.specs.Blocks.{token}
 
 pub put-requires : goal.put-requires
 put-requires g c =

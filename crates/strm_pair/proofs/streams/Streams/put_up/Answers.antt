@@ -1,24 +1,12 @@
 -- What was sent across is for the driver, and all else goes on.
-use Rattle.std.proofs.Common.{ℕ, ◌≡◌, Bool, true, false, cond, List, refl, sym, ap, subst, ◌∙◌, arith}
-use Rattle.std.proofs.lemmas.Bool.{false≢true}
-use Rattle.std.proofs.lemmas.Bool.Decides.{nat_tests}
-use Rattle.std.specs.Prelude.{◌&&◌, ◌==◌, not}
-use Rattle.strm_types.specs.declared.kinds.MsgKind.{MsgKind}
-use Rattle.strm_types.specs.declared.kinds.MsgKind.TheVariants.{Flush, Data, Proto, Pcproto}
-use Rattle.strm_types.specs.Flush.{is_data_kind}
+use Rattle.strm_pair.proofs.Prelude.{ℕ, ◌≡◌, Bool, true, false, cond, List, refl, sym, ap, subst, ◌∙◌, arith, false≢true, nat_tests, ◌&&◌, ◌==◌, not}
+use Rattle.strm_pair.proofs.Prelude.{kind-is, parts-same, can-in_hand}
+use Rattle.strm_pair.specs.Prelude.{MsgKind, Flush, Data, is_data_kind, has_parts, passed_up, put_at_driver, Block, block_at, in_hand, token, IsChain}
+use Rattle.strm_pair.specs.Prelude.{message_of, HasRoom, message_in, sent_of, driver_own}
+use Rattle.strm_types.specs.declared.kinds.MsgKind.TheVariants.{Proto, Pcproto}
 use Rattle.strm_types.specs.Flushing.{is_flush, is_bare_flush}
-use Rattle.strm_types.specs.Message.{has_parts}
-use Rattle.strm_laws.specs.Puts.{passed_up, put_at_driver}
 use Rattle.strm_laws.proofs.Staying.{no-flush}
-use Rattle.strm_blocks.specs.Blocks.{Block, block_at, in_hand, token}
-use Rattle.strm_msg.specs.Messages.{IsChain, message_of}
-use Rattle.strm_msg.proofs.Chains.{kind-is}
-use Rattle.strm_msg.proofs.MadePlain.{parts-same}
-use Rattle.strm_frame.specs.Hands.{HasRoom}
-use Rattle.strm_frame.specs.Outboxes.{message_in, sent_of}
-use Rattle.strm_frame.proofs.Handing.{can-in_hand}
 use Rattle.strm_types.specs.Costs.{is_across}
-use Rattle.strm_types.specs.Tables.{driver_own}
 use Rattle.strm_pair.specs.Pairs.{kept_by, state_in}
 use Rattle.strm_pair.specs.PutBy.{PutBy}
 use Rattle.strm_pair.proofs.streams.Streams.put_up.Goals as goal

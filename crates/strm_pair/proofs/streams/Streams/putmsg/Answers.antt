@@ -1,22 +1,8 @@
 -- The message is alone in hand.
-use Rattle.std.proofs.Common.{ℕ, ◌≡◌, ◌+◌, length, List, Option, Bor, false, refl, ap, ◌∙◌, arith}
-use Rattle.std.specs.Prelude.{None, Some, option_map}
-use Rattle.strm_types.specs.declared.books.Book.{Book}
-use Rattle.strm_types.specs.declared.modes.Prio.{Prio}
-use Rattle.strm_types.specs.declared.modes.Prio.TheVariants.{High, Band}
-use Rattle.strm_types.specs.declared.names.Side.{Side}
-use Rattle.strm_types.specs.Books.{with_written}
-use Rattle.strm_types.specs.Names.{direction_from}
-use Rattle.strm_types.specs.PutMsg.{no_parts, put_message}
-use Rattle.strm_laws.specs.Spares.{spare}
-use Rattle.strm_types.specs.Budgets.{most_of}
-use Rattle.strm_laws.specs.State.{State, book, with_book}
-use Rattle.strm_laws.proofs.Balances.{parts-few}
-use Rattle.strm_blocks.specs.Blocks.{in_hand, token}
-use Rattle.strm_msg.specs.Messages.{message_of}
-use Rattle.strm_types.specs.Message.{part, Message}
-use Rattle.strm_types.specs.declared.names.Way.TheVariants.{Down}
-use Rattle.strm_types.specs.declared.spots.Spot.{Spot}
+use Rattle.strm_pair.proofs.Prelude.{ℕ, ◌≡◌, ◌+◌, length, List, false, refl, ap, ◌∙◌, arith, None, Some, option_map, parts-few}
+use Rattle.strm_pair.specs.Prelude.{Book, Prio, High, Band, Side, with_written, direction_from, no_parts, put_message, spare, most_of, State, book}
+use Rattle.strm_pair.specs.Prelude.{with_book, in_hand, token, message_of, part, Message, Down, Spot}
+use Rattle.std.proofs.Common.{Option, Bor}
 use Rattle.strm_pair.specs.Pairs.{state_in}
 use Rattle.strm_pair.proofs.InHand.{made-alone, made-state, made-leads, made-left}
 use Rattle.strm_pair.proofs.PlaceCosts.{may-by}

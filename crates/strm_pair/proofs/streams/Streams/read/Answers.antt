@@ -1,11 +1,6 @@
 -- What the head of a side gives.
-use Rattle.std.proofs.Common.{ap, ◌∙◌, refl}
-use Rattle.strm_types.specs.declared.names.Way.TheVariants.{Up}
-use Rattle.strm_types.specs.Deliver.{tallied}
-use Rattle.strm_types.specs.Names.{direction_of, enable_some}
-use Rattle.strm_types.specs.Reads.{read_gone}
-use Rattle.strm_laws.specs.Earlier.{before_among}
-use Rattle.strm_queue.specs.Stored.{messages_on}
+use Rattle.strm_pair.proofs.Prelude.{ap, ◌∙◌, refl}
+use Rattle.strm_pair.specs.Prelude.{Up, tallied, direction_of, enable_some, read_gone, before_among, messages_on}
 use Rattle.strm_pair.specs.Pairs.{end_at, state_in, with_end}
 use Rattle.strm_pair.proofs.ReadSteps.{read-answer, read-told, read-beside, read-state}
 use Rattle.strm_pair.proofs.Sides.{modules-behind}

@@ -1,12 +1,6 @@
 -- The chunk is alone in hand.
-use Rattle.std.proofs.Common.{ℕ, ◌≡◌, List, ap, ◌∙◌, arith}
-use Rattle.strm_types.specs.declared.names.Side.{Side}
-use Rattle.strm_types.specs.Message.{Message, data_message}
-use Rattle.strm_laws.specs.Spares.{spare}
-use Rattle.strm_types.specs.Budgets.{most_of}
-use Rattle.strm_laws.specs.Writes.{below_head}
-use Rattle.strm_blocks.specs.Blocks.{in_hand, token}
-use Rattle.strm_msg.specs.Messages.{message_of}
+use Rattle.strm_pair.proofs.Prelude.{ℕ, ◌≡◌, List, ap, ◌∙◌, arith}
+use Rattle.strm_pair.specs.Prelude.{Side, Message, data_message, spare, most_of, below_head, in_hand, token, message_of}
 use Rattle.strm_pair.specs.Pairs.{state_in}
 use Rattle.strm_pair.proofs.ChunkSteps.{chunk-free}
 use Rattle.strm_pair.proofs.InHand.{made-alone, made-leads, made-left}

@@ -1,21 +1,10 @@
 -- The M_IOCTL is alone in hand.
-use Rattle.std.proofs.Common.{ℕ, ◌≡◌, ◌≤◌, List, [], ◌∷◌, refl, sym, ap, subst, ◌∙◌, arith}
+use Rattle.strm_pair.proofs.Prelude.{ℕ, ◌≡◌, ◌≤◌, List, [], ◌∷◌, refl, sym, ap, subst, ◌∙◌, arith, range-spare}
+use Rattle.strm_pair.specs.Prelude.{Side, Down, Spot, plain, AreIdle, Message, delivered, spare, most_of, State, in_hand, token, StoreValue}
+use Rattle.strm_pair.specs.Prelude.{message_of}
 use Rattle.strm_types.specs.declared.ioctls.Ioc.{Ioc}
-use Rattle.strm_types.specs.declared.names.Side.{Side}
-use Rattle.strm_types.specs.declared.names.Way.TheVariants.{Down}
-use Rattle.strm_types.specs.declared.spots.Spot.{Spot}
-use Rattle.strm_types.specs.Cells.{plain}
 use Rattle.strm_laws.specs.Calls.{ioctl_begun}
 use Rattle.strm_types.specs.Ioctls.{asking, ioctl_message}
-use Rattle.strm_laws.specs.Kept.{AreIdle}
-use Rattle.strm_types.specs.Message.{Message}
-use Rattle.strm_laws.specs.Puts.{delivered}
-use Rattle.strm_laws.specs.Spares.{spare}
-use Rattle.strm_types.specs.Budgets.{most_of}
-use Rattle.strm_laws.specs.State.{State}
-use Rattle.strm_laws.proofs.StackSpares.{range-spare}
-use Rattle.strm_blocks.specs.Blocks.{in_hand, token, StoreValue}
-use Rattle.strm_msg.specs.Messages.{message_of}
 use Rattle.strm_head.specs.Sending.{ioctl_blocks}
 use Rattle.strm_pair.specs.declared.streams.Streams.{Streams}
 use Rattle.strm_pair.specs.Pairs.{state_in}

@@ -1,11 +1,6 @@
 -- The stack of the side serves, as its call says.
-use Rattle.std.proofs.Common.{◌-◌, length, ap, sym, subst, ◌∙◌, arith}
-use Rattle.std.proofs.lemmas.List.{length-map}
-use Rattle.std.specs.Prelude.{HoldsAt}
-use Rattle.strm_types.specs.ModuleQueues.{at_place}
-use Rattle.strm_types.specs.Standings.{HoldsOfPart}
-use Rattle.strm_laws.specs.State.{stream}
-use Rattle.strm_frame.specs.Hands.{HasRoom}
+use Rattle.strm_pair.proofs.Prelude.{◌-◌, length, ap, sym, subst, ◌∙◌, arith, length-map, HoldsAt}
+use Rattle.strm_pair.specs.Prelude.{at_place, HoldsOfPart, stream, HasRoom}
 use Rattle.strm_pair.specs.AnyModules.{MayServe, module_in, turn_cost}
 use Rattle.strm_pair.specs.declared.ends.StreamEnd.{StreamEnd}
 use Rattle.strm_pair.specs.Framing.{kept-parts}

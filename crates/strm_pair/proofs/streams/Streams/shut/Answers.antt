@@ -1,10 +1,7 @@
 -- What goes from the queues, one after the other, and then the side is closed.
-use Rattle.std.proofs.Common.{sym, subst}
-use Rattle.strm_types.specs.declared.names.Side.TheVariants.{Master, Slave}
-use Rattle.strm_types.specs.declared.rules.Rule.TheVariants.{EndClosed}
-use Rattle.strm_types.specs.declared.names.Side.{Side}
-use Rattle.strm_laws.specs.Closes.{and_then, closed_at, driver_emptied, ended, head_emptied, hung_up_at, stream_emptied}
-use Rattle.strm_types.specs.Emptied.{of_all}
+use Rattle.strm_pair.proofs.Prelude.{sym, subst}
+use Rattle.strm_pair.specs.Prelude.{Master, Slave, EndClosed, Side, head_emptied, of_all}
+use Rattle.strm_laws.specs.Closes.{and_then, closed_at, driver_emptied, ended, hung_up_at, stream_emptied}
 use Rattle.strm_laws.specs.Pushes.{modules_emptied}
 use Rattle.strm_pair.specs.Pairs.{state_in}
 use Rattle.strm_pair.specs.Effects.{Leads}

@@ -1,9 +1,7 @@
 -- Nothing of a turn is under way at the modules, so that their stack keeps nothing in hand.
-use Rattle.std.proofs.Common.{◌≡◌, ap, sym, subst, ◌∙◌}
-use Rattle.std.specs.Prelude.{Option, None, Some, IfNone, IfSome, MatchOption, is_some, true, ◌+◌}
-use Rattle.strm_types.specs.Dropped.{is_met}
-use Rattle.strm_laws.specs.Pushes.{below_top}
-use Rattle.strm_laws.proofs.ModulesIdle.{AllIdle}
+use Rattle.strm_pair.proofs.Prelude.{◌≡◌, ap, sym, subst, ◌∙◌, Option, None, Some, IfSome, MatchOption, is_some, AllIdle}
+use Rattle.strm_pair.specs.Prelude.{is_met, below_top}
+use Rattle.std.specs.Prelude.{IfNone, true, ◌+◌}
 use Rattle.strm_pair.specs.declared.ends.StreamEnd.{StreamEnd}
 use Rattle.strm_pair.specs.Lists.{first_list}
 use Rattle.strm_pair.specs.Pairs.{end_at, with_end}

@@ -1,9 +1,6 @@
 -- The module on top is taken off its stack, its queues are no longer enabled, and those before it are.
-use Rattle.std.proofs.Common.{ap, ◌∙◌}
-use Rattle.strm_laws.proofs.Noted.{noted-same}
-use Rattle.strm_types.specs.Modules.{without_module}
-use Rattle.strm_laws.specs.Puts.{earlier_at, noted}
-use Rattle.strm_types.specs.Names.{place_of}
+use Rattle.strm_pair.proofs.Prelude.{ap, ◌∙◌, noted-same}
+use Rattle.strm_pair.specs.Prelude.{without_module, earlier_at, noted, place_of}
 use Rattle.strm_pair.specs.declared.streams.Streams.{Streams}
 use Rattle.strm_pair.specs.Nearest.{earlier_of}
 use Rattle.strm_pair.specs.Pairs.{state_in}

@@ -1,12 +1,6 @@
 -- A driver's turn makes little: what becomes packets of its message.
-use Rattle.std.proofs.Common.{ap, sym, subst, arith}
-use Rattle.strm_types.specs.Cells.{plain}
-use Rattle.strm_laws.specs.Ledgers.{FewBooked}
-use Rattle.strm_laws.specs.Spares.{spare}
-use Rattle.strm_laws.specs.State.{stream}
-use Rattle.strm_laws.specs.Turns.{driver_turned}
-use Rattle.strm_laws.proofs.Balances.{turn-few}
-use Rattle.strm_laws.proofs.StackSpares.{range-spare, spare-low}
+use Rattle.strm_pair.proofs.Prelude.{ap, sym, subst, arith, turn-few, range-spare, spare-low}
+use Rattle.strm_pair.specs.Prelude.{plain, FewBooked, spare, stream, driver_turned}
 use Rattle.strm_laws.proofs.StepBooks.{serves-books}
 use Rattle.strm_pair.specs.Pairs.{free_in, state_in}
 use Rattle.strm_pair.proofs.MovingOn.{driver-moves, moves-taken}

@@ -1,19 +1,7 @@
 -- What is seen of the first message says what becomes of it.
-use Rattle.std.proofs.Common.{ℕ, Bool, true, false, [], refl, sym, ap, subst, ◌∙◌, arith}
-use Rattle.std.specs.Prelude.{not, ◌&&◌}
-use Rattle.strm_types.specs.declared.names.Way.TheVariants.{Up}
-use Rattle.strm_types.specs.declared.names.Side.{Side}
-use Rattle.strm_types.specs.declared.rules.Fates.{Fates}
-use Rattle.strm_types.specs.Deliver.{tallied}
-use Rattle.strm_laws.specs.Earlier.{driver_place}
-use Rattle.strm_types.specs.Message.{is_held}
-use Rattle.strm_types.specs.Names.{other}
-use Rattle.strm_laws.specs.Past.{has_room_past, writer_waits}
-use Rattle.strm_laws.specs.Spares.{spare}
-use Rattle.strm_laws.specs.State.{stream}
-use Rattle.strm_laws.specs.TurnOutcomes.{TurnOutcome}
-use Rattle.strm_laws.specs.Turns.{with_driver}
-use Rattle.strm_blocks.specs.Blocks.{StoreValue}
+use Rattle.strm_pair.proofs.Prelude.{ℕ, Bool, true, false, [], refl, sym, ap, subst, ◌∙◌, arith, not, ◌&&◌}
+use Rattle.strm_pair.specs.Prelude.{Up, Side, Fates, tallied, driver_place, is_held, other, has_room_past, writer_waits, spare, stream, TurnOutcome}
+use Rattle.strm_pair.specs.Prelude.{with_driver, StoreValue}
 use Rattle.strm_pair.specs.declared.streams.Streams.{Streams}
 use Rattle.strm_pair.specs.Pairs.{state_in, end_at, AreHeld}
 use Rattle.strm_pair.specs.Effects.{Becomes, Delivers}

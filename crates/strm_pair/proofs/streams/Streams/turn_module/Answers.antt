@@ -1,19 +1,9 @@
 -- Where the module may serve, its calls are those of the turn's definition.
-use Rattle.std.proofs.Common.{ℕ, ◌≡◌, false, [], refl, sym, ap, subst, ◌∙◌, arith}
-use Rattle.std.specs.Prelude.{not, ◌==◌}
-use Rattle.strm_types.specs.declared.answers.Turn.TheVariants.{Moved}
-use Rattle.strm_types.specs.Cells.{plain}
-use Rattle.strm_types.specs.Deliver.{tallied}
-use Rattle.strm_laws.specs.Kept.{AreIdle}
-use Rattle.strm_laws.specs.ModuleTurns.{module_turn_ended, module_turned}
-use Rattle.strm_laws.specs.Ledgers.{FewBooked}
-use Rattle.strm_laws.specs.Spares.{spare}
-use Rattle.strm_types.specs.LdtermCalls.{bytes_left}
-use Rattle.strm_laws.specs.TurnCalls.{discipline_of, module_at}
-use Rattle.strm_laws.specs.TurnOutcomes.{TurnOutcome}
-use Rattle.strm_laws.proofs.Balances.{range-low, turn-few}
+use Rattle.strm_pair.proofs.Prelude.{ℕ, ◌≡◌, false, [], refl, sym, ap, subst, ◌∙◌, arith, not, ◌==◌, turn-few, range-spare, same-spare, spare-low}
+use Rattle.strm_pair.specs.Prelude.{Moved, plain, tallied, AreIdle, module_turn_ended, module_turned, FewBooked, spare, bytes_left, discipline_of}
+use Rattle.strm_pair.specs.Prelude.{module_at, TurnOutcome}
+use Rattle.strm_laws.proofs.Balances.{range-low}
 use Rattle.strm_laws.proofs.InOrder.{BooksMade}
-use Rattle.strm_laws.proofs.StackSpares.{range-spare, same-spare, spare-low}
 use Rattle.strm_laws.proofs.StepBooks.{ended-books, module-books}
 use Rattle.strm_laws.proofs.ModuleTurnKeeps.{module_turned-rests}
 use Rattle.strm_frame.proofs.Handing.{no-hand}

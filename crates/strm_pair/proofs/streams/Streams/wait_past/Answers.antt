@@ -1,6 +1,5 @@
 -- The other side stays.
-use Rattle.strm_types.specs.ModuleQueues.{place_past}
-use Rattle.strm_laws.specs.Past.{waits_on}
+use Rattle.strm_pair.specs.Prelude.{place_past, waits_on}
 use Rattle.strm_pair.specs.Lists.{first_list}
 use Rattle.strm_pair.proofs.Becoming.{side-becomes}
 use Rattle.strm_pair.proofs.streams.Streams.wait_past.Goals as goal

@@ -1,17 +1,8 @@
 -- A write is its chunks, delivered one after the other, and what they took is booked.
-use Rattle.std.proofs.Common.{ℕ, sym, ap, ◌∙◌, arith}
-use Rattle.strm_types.specs.declared.answers.Answer.TheVariants.{Count}
-use Rattle.strm_types.specs.declared.books.Book.{Book}
-use Rattle.strm_types.specs.Books.{with_written}
-use Rattle.strm_laws.specs.Calls.{Outcome}
-use Rattle.strm_types.specs.Cells.{plain}
-use Rattle.strm_types.specs.Deliver.{tallied}
-use Rattle.strm_types.specs.Names.{direction_from}
-use Rattle.strm_laws.specs.Spares.{spare}
-use Rattle.strm_laws.specs.State.{State, book, with_book}
-use Rattle.strm_types.specs.Write.{chunk_count, chunks_of}
+use Rattle.strm_pair.proofs.Prelude.{ℕ, sym, ap, ◌∙◌, arith, free_m-is}
+use Rattle.strm_pair.specs.Prelude.{Count, Book, with_written, Outcome, plain, tallied, direction_from, spare, State, book, with_book, chunk_count}
+use Rattle.strm_pair.specs.Prelude.{chunks_of}
 use Rattle.strm_laws.proofs.Balances.{chunks-book}
-use Rattle.strm_blocks.proofs.Laws.{free_m-is}
 use Rattle.strm_pair.specs.Pairs.{state_in}
 use Rattle.strm_pair.proofs.ChunkSteps.{chunks-written, wrote-chunks}
 use Rattle.strm_pair.proofs.PutBooks.{book-low, written-spare}

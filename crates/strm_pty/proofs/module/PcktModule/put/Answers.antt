@@ -1,14 +1,11 @@
 -- What a put did, in the frame's words.
-use Rattle.std.proofs.Common.{ℕ, refl, rules, subst, sym}
+use Rattle.strm_pty.proofs.Prelude.{ℕ, refl, rules, subst, sym, can-in_hand}
+use Rattle.strm_pty.specs.Prelude.{HasRoom, Spends, message_in, token}
 use Rattle.strm_types.proofs.PcktWithin.{pckt-own}
-use Rattle.strm_frame.specs.Hands.{HasRoom, Spends}
-use Rattle.strm_frame.specs.Outboxes.{message_in}
-use Rattle.strm_frame.proofs.Handing.{can-in_hand}
 use Rattle.strm_pty.proofs.PacketCosts.{packs-hands, packs-spends}
 use Rattle.strm_pty.specs.Packs.{pckt_in}
 use Rattle.strm_pty.proofs.Alone.{alone-ready, alone-stands}
 use Rattle.strm_pty.proofs.module.PcktModule.put.Goals as goal
-use Rattle.strm_blocks.specs.Blocks.{token}
 
 pub put-requires-clause-in_hand : goal.put-requires-clause-in_hand
 put-requires-clause-in_hand g c = can-in_hand (g.B.Blocks.value c.args.store.now) (token c.args.message) (λ _. 0) c.audit.ensures c.requires.can_put

@@ -1,6 +1,5 @@
 -- Nothing is done.
-use Rattle.std.proofs.Common.{rules}
-use Rattle.strm_frame.proofs.Handing.{still-hands, none-hands, none-chains, no-parts, no-room}
+use Rattle.strm_pty.proofs.Prelude.{rules, still-hands, none-hands, none-chains, no-parts, no-room}
 use Rattle.strm_pty.proofs.module.PcktModule.serve.Goals as goal
 
 pub returns : goal.returns

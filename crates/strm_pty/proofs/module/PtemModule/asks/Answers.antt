@@ -1,10 +1,6 @@
 -- Nothing stands on queues that it hasn't.
-use Rattle.std.proofs.Common.{◌≤◌, sym, subst, arith}
-use Rattle.std.specs.Prelude.{Option}
-use Rattle.strm_types.specs.Queue.{first_size}
-use Rattle.strm_types.specs.Standings.{messages_on}
-use Rattle.strm_frame.specs.declared.queue_pair.QueuePair.{QueuePair}
-use Rattle.strm_frame.specs.Standings.{queues_in}
+use Rattle.strm_pty.proofs.Prelude.{◌≤◌, sym, subst, arith, Option}
+use Rattle.strm_pty.specs.Prelude.{first_size, messages_on, QueuePair, queues_in}
 use Rattle.strm_pty.proofs.module.PtemModule.asks.Goals as goal
 
 pub returns-clause-few : goal.returns-clause-few

@@ -1,13 +1,10 @@
 -- What a put did, in the frame's words.
-use Rattle.std.proofs.Common.{ap, rules, sym}
-use Rattle.strm_types.specs.Deliver.{tallied}
-use Rattle.strm_frame.specs.Outboxes.{message_in}
+use Rattle.strm_pty.proofs.Prelude.{ap, rules, sym, can-in_hand}
+use Rattle.strm_pty.specs.Prelude.{tallied, message_in, token}
 use Rattle.strm_pty.specs.Beside.{ptem_in}
 use Rattle.strm_types.proofs.PtemPuts.{puts-gone}
-use Rattle.strm_frame.proofs.Handing.{can-in_hand}
 use Rattle.strm_pty.proofs.Alone.{alone-ready, alone-stands}
 use Rattle.strm_pty.proofs.module.PtemModule.put.Goals as goal
-use Rattle.strm_blocks.specs.Blocks.{token}
 
 pub put-requires-clause-in_hand : goal.put-requires-clause-in_hand
 put-requires-clause-in_hand g c = can-in_hand (g.B.Blocks.value c.args.store.now) (token c.args.message) (λ _. 0) c.audit.ensures c.requires.can_put

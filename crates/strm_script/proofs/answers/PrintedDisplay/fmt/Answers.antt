@@ -1,5 +1,4 @@
-use Rattle.std.proofs.Common.{◌≡◌, ℕ, ◌≤◌, subst, arith}
-use Rattle.std.proofs.lemmas.Bool.{ne_eqb, le-leb}
+use Rattle.strm_script.proofs.Prelude.{◌≡◌, ℕ, ◌≤◌, subst, arith, ne_eqb, le-leb}
 use Rattle.std.proofs.lemmas.Str.{encode_ascii}
 use Rattle.std.proofs.Math.Utf8.{encode}
 use Rattle.std.specs.Fmt.{HasWritten}

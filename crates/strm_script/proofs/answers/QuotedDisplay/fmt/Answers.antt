@@ -1,5 +1,4 @@
-use Rattle.std.proofs.Common.{◌≡◌, ◌≤◌, ◌+◌, ◌∷◌, ◌++◌, sym, take, drop, length, length-drop, refl, arith, ap, ◌∙◌}
-use Rattle.std.proofs.lemmas.List.{take_rest}
+use Rattle.strm_script.proofs.Prelude.{◌≡◌, ◌≤◌, ◌+◌, ◌∷◌, ◌++◌, sym, take, drop, length, length-drop, refl, arith, ap, ◌∙◌, take_rest}
 use Rattle.std.proofs.lemmas.Grind.{put_two}
 use Rattle.std.specs.List.{flat_map, position_or_len}
 use Rattle.strm_script.specs.ScriptAnswers.{is_escaped, printed}

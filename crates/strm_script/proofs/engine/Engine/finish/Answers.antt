@@ -1,6 +1,5 @@
-use Rattle.std.proofs.Common.{length, sym, ap, ◌∙◌, arith}
+use Rattle.strm_script.proofs.Prelude.{length, sym, ap, ◌∙◌, arith, nil_from_length}
 use Rattle.std.proofs.lemmas.Bool.{eqb-true, eqb-false}
-use Rattle.std.proofs.lemmas.List.{nil_from_length}
 use Rattle.strm_script.specs.Steps.{value_of}
 use Rattle.strm_script.proofs.EngineSteps.{finished_none, finished_last}
 use Rattle.strm_script.proofs.engine.Engine.finish.Goals as goal

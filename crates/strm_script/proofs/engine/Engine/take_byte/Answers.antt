@@ -1,5 +1,4 @@
-use Rattle.std.proofs.Common.{◌≤◌, refl, sym, ◌∙◌, length, arith}
-use Rattle.std.proofs.lemmas.Bool.{cond-true}
+use Rattle.strm_script.proofs.Prelude.{◌≤◌, refl, sym, ◌∙◌, length, arith, cond-true}
 use Rattle.strm_script.proofs.EngineSteps.{fails_none, refused_long, took_byte}
 use Rattle.strm_script.proofs.engine.Engine.take_byte.Goals as goal
 

@@ -1,5 +1,4 @@
-use Rattle.std.proofs.Common.{◌+◌, arith, rules}
-use Rattle.std.proofs.lemmas.Bool.{false≢true}
+use Rattle.strm_script.proofs.Prelude.{◌+◌, arith, rules, false≢true}
 use Rattle.strm_script.proofs.Known.{Appends-slice, slices, WritesOut-at}
 use Rattle.strm_script.proofs.sink.Sink.write_out.Goals as goal
 
