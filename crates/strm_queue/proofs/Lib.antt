@@ -25,6 +25,7 @@ pub mod Finding
 pub mod Lowest
 pub mod Next
 pub mod RowFlows
+pub mod AllRows
 pub mod Passing
 pub mod FreshRows
 pub mod Gaps

@@ -1,5 +1,5 @@
 -- How the flow control of the bands above 0 is kept: what they have in common, and a row for each.
-use Rattle.std.specs.Prelude.{ℕ, suc, ◌≡◌, ◌+◌, nat_le, if◌then◌else◌, List, [], ◌∷◌, length, slice_index_or}
+use Rattle.std.specs.Prelude.{ℕ, suc, ◌≡◌, ◌+◌, ◌-◌, ◌++◌, nat_le, if◌then◌else◌, List, [], ◌∷◌, length, replicate, slice_index_or}
 use Rattle.strm_types.specs.declared.limits.TheConstants.{BANDS}
 use Rattle.strm_queue.specs.declared.flow.Flow.{Flow}
 use Rattle.strm_queue.specs.declared.common.Row.{Row}
@@ -39,6 +39,10 @@ flows_from c at (row ∷ rows) = row_flow c at row ∷ flows_from c (suc at) row
 
 abbrev pub row_at : ℕ → List Row → Row
 row_at at rows = slice_index_or rows at no_row
+
+-- the rows of all bands above 0, where some of them are written: in the others nothing counts
+abbrev pub all_rows : List Row → List Row
+all_rows rows = rows ++ replicate (255 - length rows) no_row
 
 -- there is a row for each band above 0
 pub record AreRows (rows : List Row) : Type 0 where

@@ -10,7 +10,7 @@ ghost use Rattle.strm_queue.specs.Kept.{AllRest, FewBytes, flow_at};
 ghost use Rattle.strm_queue.specs.Sets.{has};
 
 use crate::bandset::BandSet;
-use crate::common::{Common, Row};
+use crate::common::Common;
 use crate::flow::Flow;
 use crate::flush::Flush;
 use crate::table::Table;
@@ -21,7 +21,7 @@ use strm_types::{BANDS, Marks};
 #[derive(Drop)]
 pub(crate) struct Banded {
     common: Common,
-    rows: Vec<Row>,
+    table: Table,
 }
 
 impl Model for Banded {
@@ -30,11 +30,11 @@ impl Model for Banded {
 
     ghost Value = { List Flow };
 
-    ghost use Rattle.strm_queue.specs.Rows.{flows_from, AreRows};
+    ghost use Rattle.strm_queue.specs.Rows.{all_rows, flows_from, AreRows};
 
-    ghost view = { λ b. flows_from b.common 0 b.rows.items };
+    ghost view = { λ b. flows_from b.common 0 (all_rows b.table.rows.items) };
 
-    ghost invariant = { λ b. AreRows b.rows.items };
+    ghost invariant = { λ b. AreRows (all_rows b.table.rows.items) };
 }
 
 impl Banded {
@@ -52,7 +52,7 @@ impl Banded {
     {
         Banded {
             common: Common::new(high, low),
-            rows: table.rows,
+            table,
         }
     }
 
@@ -73,7 +73,7 @@ impl Banded {
 
     /// Gives the room back.
     pub fn into_table(self) -> Table {
-        Table { rows: self.rows }
+        self.table
     }
 
     /// The flow control of a band.
@@ -83,7 +83,7 @@ impl Banded {
         ensures flow { result ≡ flow_at at self.now }
         ensures marked { IsMarked result }
     {
-        self.common.flow(at, self.rows[at])
+        self.common.flow(at, self.table.row(at))
     }
 
     /// Sets the flow control of a band.
@@ -93,7 +93,8 @@ impl Banded {
         requires marked { IsMarked flow }
         ensures { self.new ≡ slice_set self.old at flow }
     {
-        self.rows[at] = self.common.set(at, flow);
+        let row = self.common.set(at, flow);
+        self.table.write(at, row);
     }
 
     /// Sets the same marks in each band, whatever their number.
@@ -109,7 +110,7 @@ impl Banded {
         ensures marked { (at : ℕ) → at + 1 < BANDS → IsMarked (flow_at at self.now) }
         ensures each { length self.now + 1 ≡ BANDS }
     {
-        let _ = &self.rows;
+        let _ = &self.table;
         self.common.filled
     }
 
@@ -118,7 +119,7 @@ impl Banded {
         ensures waits { (at : ℕ) → at + 1 < BANDS → has result at ≡ (flow_at at self.now).want_write }
         ensures each { length self.now + 1 ≡ BANDS }
     {
-        let _ = &self.rows;
+        let _ = &self.table;
         self.common.waiting
     }
 
