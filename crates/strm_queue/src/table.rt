@@ -13,7 +13,7 @@ const OTHERS: usize = BANDS - 1;
 /// Room for the counts and marks of a queue's bands above 0: 255 rows of 16 bytes, on the heap. A queue has one from its making
 /// on, and gives it back by `Queue::into_table`. So queues come and go without memory being asked for, and each band has its place
 /// whatever the others hold: a queue that is restored may have marks of its own in every band. Rows are written up to that of the highest band
-/// which was used, so the memory of a table whose queue has no band above 0 is never touched.
+/// that was used, so none is where all messages are of band 0 or of high priority.
 #[derive(Drop)]
 pub struct Table {
     rows: Vec<Row>,
