@@ -111,10 +111,11 @@ impl<P: Object> Lock<P> {
     pub fn open<R: Wait>(&self, rt: &R) -> Result<End<P>, NotOpened<P>>
         ensures { MatchResult result (IsOpened self.now) (λ n. IsRefusedOpen self.now n.visit n.refusal) }
     {
+        let mut tries = 0;
         for _ in rt.forever() {
             match self.try_open(&Wakes) {
                 Ok(opened) => return opened,
-                Err(Busy) => self.wait(rt),
+                Err(Busy) => self.wait(rt, &mut tries),
             }
         }
         unreachable!()
@@ -133,10 +134,11 @@ impl<P: Object> Lock<P> {
         requires { IsOf self.now end.old }
         ensures { Calls end.old (request event.now) out.old.items out.new.items result end.new }
     {
+        let mut tries = 0;
         for _ in rt.forever() {
             match self.try_call(&Wakes, end, event, out) {
                 Ok(answer) => return answer,
-                Err(Busy) => self.wait(rt),
+                Err(Busy) => self.wait(rt, &mut tries),
             }
         }
         unreachable!()
@@ -149,10 +151,11 @@ impl<P: Object> Lock<P> {
         requires { IsOf self.now end.old }
         ensures { CallsSlave (λ e. e) end.old result end.new }
     {
+        let mut tries = 0;
         for _ in rt.forever() {
             match self.try_open_slave(&Wakes, end) {
                 Ok(opened) => return opened,
-                Err(Busy) => self.wait(rt),
+                Err(Busy) => self.wait(rt, &mut tries),
             }
         }
         unreachable!()
@@ -246,12 +249,13 @@ impl<P: Object> Lock<P> {
             (λ back. (end.parts ≢ ALL_PARTS) × (back.1 ≡ end)) }
     {
         let mut mine = end;
+        let mut tries = 0;
         for _ in rt.forever() {
             match self.try_settle(&Wakes, mine) {
                 Ok(settled) => return settled,
                 Err((Busy, back)) => mine = back,
             }
-            self.wait(rt);
+            self.wait(rt, &mut tries);
         }
         unreachable!()
     }

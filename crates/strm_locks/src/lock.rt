@@ -13,6 +13,7 @@ use crate::object::Object;
 use crate::rule::{Board, Empty, Give, Halves, Look, Pass, Place, Sit, Take};
 use atomic_table::{Refused, Table};
 use std::alloc::{AllocError, Global};
+use std::hint::spin_loop;
 use std::marker::Model;
 use std::snapshot::Snapshot;
 use std::sync::Wait;
@@ -24,10 +25,14 @@ const WORDS: usize = 16;
 
 const WORD: usize = 8;
 
+// How often a thread tries again before it parks. Its pauses come to 63 of the processor's then, some microseconds.
+const PAUSES: u32 = 6;
+
 /// A pair under its lock, which threads share by a `&`. One thread at a time has the pair, and with it the book of what all ends were told.
 ///
-/// A call that takes the lock waits until it is free: it parks, and is woken where the lock is given back. Nothing is said of which thread
-/// gets it, nor when. An end that is handed in is of this lock: it was opened with it, or split or joined from such.
+/// A call that takes the lock waits until it is free: it tries again for some microseconds, then it parks, and is woken where the lock is given
+/// back. Nothing is said of which thread gets it, nor when. An end that is handed in is of this lock: it was opened with it, or split or joined
+/// from such.
 ///
 /// Contracts see which lock it is, and the sizes of its pair, which stay.
 #[derive(Drop)]
@@ -91,17 +96,32 @@ impl<P: Object> Lock<P> {
         ensures same { IsSame seat.old seat.new }
         ensures lock { (k : Kept) × HasLock seat.old.me.0 k seat.new }
     {
+        let mut tries = 0;
         for _ in rt.forever() {
             if self.try_take(seat) {
                 return;
             }
-            self.wait(rt);
+            self.wait(rt, &mut tries);
         }
         unreachable!()
     }
 
+    // Waits for another try, whose number it counts. Who has the lock gives it back within a call or a turn, mostly in less time than it takes to
+    // park: so the first tries are made after a pause, each twice as long as the one before, and behind these the thread parks.
+    pub(crate) fn wait<R: Wait>(&self, rt: &R, tries: &mut u32) {
+        if *tries < PAUSES {
+            for _ in 0..1u32 << *tries {
+                spin_loop();
+            }
+            *tries += 1;
+            return;
+        }
+        self.park(rt);
+    }
+
     // Parks while the word is 1. It is noted before: who gives the lock back sees the note, or this thread sees the word at 0.
-    pub(crate) fn wait<R: Wait>(&self, rt: &R) {
+    #[cold]
+    fn park<R: Wait>(&self, rt: &R) {
         self.waiting.fetch_add(1, Ordering::SeqCst);
         self.table.shared.park(rt, WORD, 1);
         self.waiting.fetch_sub(1, Ordering::SeqCst);

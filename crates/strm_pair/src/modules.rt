@@ -3,7 +3,7 @@
 ghost use Rattle.std.specs.Prelude.{ℕ, ◌≡◌};
 ghost use Rattle.strm_types.specs.Ptems.{new_ptem};
 ghost use Rattle.strm_laws.specs.Pushes.{kind_named};
-ghost use Rattle.strm_laws.specs.Stacked.{OfPtem};
+ghost use Rattle.strm_laws.specs.Stacked.{OfPtem, without_kind_line};
 ghost use Rattle.strm_blocks.specs.Blocks.{StoreValue};
 ghost use Rattle.strm_pair.specs.AnyModules.{IsBare, IsFresh, kind_in};
 
@@ -43,9 +43,10 @@ impl AnyModule {
         }
     }
 
-    /// Lets the unfinished line go, before the module is taken off.
+    /// Lets the unfinished line go, before the module is taken off. All else stays.
     pub(crate) fn wipe(&mut self)
         ensures bare { IsBare self.new }
+        ensures lineless { (s : StoreValue) → kind_in s self.new ≡ without_kind_line (kind_in s self.old) }
     {
         if let AnyModule::Ldterm(ldterm) = self {
             let _ = ldterm.line.clear();
