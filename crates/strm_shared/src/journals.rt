@@ -32,7 +32,7 @@ pub(crate) fn go_on<P: Object, R: Wait + Abort>(rt: &R, system: &System<P>, open
 }
 
 // Cuts the pair of an end, and once more where memory is refused.
-fn is_cut<P: Object, R: Wait + Abort>(
+pub(crate) fn is_cut<P: Object, R: Wait + Abort>(
     rt: &R,
     alloc: Global,
     system: &System<P>,
@@ -49,6 +49,34 @@ fn is_cut<P: Object, R: Wait + Abort>(
     trace
 }
 
+// Cuts a pair by each of its ends.
+fn cut_twice<P: Object, R: Wait + Abort>(
+    rt: &R,
+    alloc: Global,
+    system: &System<P>,
+    master: &PairEnd<P>,
+    slave: &PairEnd<P>,
+) -> (Trace, Trace)
+    requires master { IsOne system.now master.now }
+    requires slave { IsOne system.now slave.now }
+{
+    let first = is_cut(rt, alloc, system, master);
+    (first, is_cut(rt, alloc, system, slave))
+}
+
+fn four_calls_are_told<P: Object, R: Wait + Abort>(
+    rt: &R,
+    system: &System<P>,
+    master: PairEnd<P>,
+    slave: PairEnd<P>,
+)
+    requires master { IsOne system.now master }
+    requires slave { IsOne system.now slave }
+{
+    let settled = settled(rt, system, master, slave);
+    assert!(rt; settled.told.calls == 4 && settled.ms.written == 3);
+}
+
 // Cuts a pair behind a write, and again: the base of the second trace is the state that the first cut found.
 fn writes_and_is_cut<P: Object, R: Wait + Abort>(
     rt: &R,
@@ -61,11 +89,9 @@ fn writes_and_is_cut<P: Object, R: Wait + Abort>(
 {
     let (mut master, slave) = opened(rt, system, opener);
     assert!(rt; writes(rt, system, &mut master, b"abc"));
-    let first = is_cut(rt, alloc, system, &master);
-    let second = is_cut(rt, alloc, system, &slave);
-    let settled = settled(rt, system, master, slave);
-    assert!(rt; settled.told.calls == 4 && settled.ms.written == 3);
-    (first, second)
+    let traces = cut_twice(rt, alloc, system, &master, &slave);
+    four_calls_are_told(rt, system, master, slave);
+    traces
 }
 
 fn same(one: &Trace, two: &Trace) -> bool {

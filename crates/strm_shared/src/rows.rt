@@ -7,6 +7,7 @@ ghost use Rattle.strm_locks.specs.Systems.{IsOne};
 use crate::steps::{call, halves, opened, rejoined, settled_with, turn};
 use std::process::Abort;
 use std::sync::Wait;
+use std::sync::atomic::{AtomicU64, Ordering};
 use std::thread::{Threads, join};
 use strm_locks::{Object, PairEnd, Settled, System};
 use strm_minors::Opener;
@@ -20,52 +21,49 @@ pub(crate) const AMPLE: Config = Config {
     journal_bytes: 262144,
 };
 
-// What a side's threads counted of their own calls: those that were granted, and how many bytes they wrote and read.
-#[derive(Clone, Copy)]
-struct Counted {
-    calls: u64,
-    wrote: u64,
-    read: u64,
+// What the threads of a side counted of their own calls: those that were granted, and how many bytes they wrote and read.
+#[derive(Drop)]
+struct Tally {
+    calls: AtomicU64,
+    wrote: AtomicU64,
+    read: AtomicU64,
 }
 
-impl Counted {
-    fn nothing() -> Counted {
-        Counted {
-            calls: 0,
-            wrote: 0,
-            read: 0,
+impl Tally {
+    fn none() -> Tally {
+        Tally {
+            calls: AtomicU64::new(0),
+            wrote: AtomicU64::new(0),
+            read: AtomicU64::new(0),
         }
     }
 
     // Counts a call that is granted.
-    fn note(&mut self, answer: &Result<Answer<u32>, Refusal>) {
+    fn note(&self, answer: &Result<Answer<u32>, Refusal>) {
         let (wrote, read) = match answer {
             Ok(Answer::Count(n)) => (*n, 0),
             Ok(Answer::Bytes(n)) => (0, *n),
             Ok(_) => (0, 0),
             Err(_) => return,
         };
-        self.calls = self.calls.saturating_add(1);
-        self.wrote = self.wrote.saturating_add(wrote as u64);
-        self.read = self.read.saturating_add(read as u64);
+        self.calls.fetch_add(1, Ordering::SeqCst);
+        self.wrote.fetch_add(wrote as u64, Ordering::SeqCst);
+        self.read.fetch_add(read as u64, Ordering::SeqCst);
     }
 
-    // What both counted.
-    fn with(&self, more: &Counted) -> Counted {
-        Counted {
-            calls: self.calls.saturating_add(more.calls),
-            wrote: self.wrote.saturating_add(more.wrote),
-            read: self.read.saturating_add(more.read),
-        }
+    // How many calls, bytes written and bytes read.
+    fn told(&self) -> (u64, u64, u64) {
+        let calls = self.calls.load(Ordering::SeqCst);
+        let wrote = self.wrote.load(Ordering::SeqCst);
+        (calls, wrote, self.read.load(Ordering::SeqCst))
     }
 }
 
-// An end of parts of both sides, and what the threads of each counted.
+// Those of both sides.
 #[derive(Drop)]
-struct Both<P: Object> {
-    end: PairEnd<P>,
-    masters: Counted,
-    slaves: Counted,
+struct Tallies {
+    masters: Tally,
+    slaves: Tally,
 }
 
 fn event_at(at: u32) -> Event<&'static [u8]> {
@@ -82,80 +80,73 @@ fn event_at(at: u32) -> Event<&'static [u8]> {
 }
 
 // A thousand calls, writes, reads and a flush in turn, and a visit of the pair behind each.
-fn work<P: Object, R: Wait>(rt: &R, system: &System<P>, end: PairEnd<P>) -> (PairEnd<P>, Counted)
-    requires { IsOne system.now end }
-    ensures { IsOne system.now result.0 }
-{
-    let mut end = end;
-    let mut own = Counted::nothing();
-    for at in 0..1000u32 {
-        let answer = call(rt, system, &mut end, &event_at(at), &mut Content::new());
-        own.note(&answer);
-        turn(rt, system, &end);
-    }
-    (end, own)
-}
-
-// An end of each side, a thread each, and one end of both.
-fn work_both<P: Object + Send, R: Threads + Wait + Sync + Abort>(
+fn work<P: Object, R: Wait>(
     rt: &R,
     system: &System<P>,
-    master: PairEnd<P>,
-    slave: PairEnd<P>,
-) -> Both<P>
-    requires master { IsOne system.now master }
-    requires slave { IsOne system.now slave }
-    ensures { IsOne system.now result.end }
+    tally: &Tally,
+    end: PairEnd<P>,
+) -> PairEnd<P>
+    requires { IsOne system.now end }
+    ensures { IsOne system.now result }
 {
-    let ((master, masters), (slave, slaves)) = join(
-        rt,
-        || -> (PairEnd<P>, Counted)
-            requires { IsOne system.now master }
-            ensures { IsOne system.entry.now result.0 }
-        { work(rt, system, master) },
-        || -> (PairEnd<P>, Counted)
-            requires { IsOne system.now slave }
-            ensures { IsOne system.entry.now result.0 }
-        { work(rt, system, slave) },
-    );
-    Both {
-        end: rejoined(rt, system, master, slave),
-        masters,
-        slaves,
+    let mut end = end;
+    for at in 0..1000u32 {
+        let answer = call(rt, system, &mut end, &event_at(at), &mut Content::new());
+        tally.note(&answer);
+        turn(rt, system, &end);
     }
+    end
 }
 
-// Two ends of each side, a thread each, and one of all.
+// Two threads of one side, each with half of its end.
+fn two_work<P: Object + Send, R: Threads + Wait + Sync + Abort>(
+    rt: &R,
+    system: &System<P>,
+    tally: &Tally,
+    end: PairEnd<P>,
+) -> PairEnd<P>
+    requires { IsOne system.now end }
+    ensures { IsOne system.now result }
+{
+    let (first, second) = halves(rt, system, end);
+    let (first, second) = join(
+        rt,
+        || -> PairEnd<P>
+            requires { IsOne system.now first }
+            ensures { IsOne system.entry.now result }
+        { work(rt, system, tally, first) },
+        || -> PairEnd<P>
+            requires { IsOne system.now second }
+            ensures { IsOne system.entry.now result }
+        { work(rt, system, tally, second) },
+    );
+    rejoined(rt, system, first, second)
+}
+
+// Two threads of each side, and one end of all.
 fn four_work<P: Object + Send, R: Threads + Wait + Sync + Abort>(
     rt: &R,
     system: &System<P>,
+    tallies: &Tallies,
     master: PairEnd<P>,
     slave: PairEnd<P>,
-) -> Both<P>
+) -> PairEnd<P>
     requires master { IsOne system.now master }
     requires slave { IsOne system.now slave }
-    ensures { IsOne system.now result.end }
+    ensures { IsOne system.now result }
 {
-    let (m1, m2) = halves(rt, system, master);
-    let (s1, s2) = halves(rt, system, slave);
-    let (one, two) = join(
+    let (master, slave) = join(
         rt,
-        || -> Both<P>
-            requires { IsOne system.now m1 × IsOne system.now s1 }
-            ensures { IsOne system.entry.now result.end }
-        { work_both(rt, system, m1, s1) },
-        || -> Both<P>
-            requires { IsOne system.now m2 × IsOne system.now s2 }
-            ensures { IsOne system.entry.now result.end }
-        { work_both(rt, system, m2, s2) },
+        || -> PairEnd<P>
+            requires { IsOne system.now master }
+            ensures { IsOne system.entry.now result }
+        { two_work(rt, system, &tallies.masters, master) },
+        || -> PairEnd<P>
+            requires { IsOne system.now slave }
+            ensures { IsOne system.entry.now result }
+        { two_work(rt, system, &tallies.slaves, slave) },
     );
-    let masters = one.masters.with(&two.masters);
-    let slaves = one.slaves.with(&two.slaves);
-    Both {
-        end: rejoined(rt, system, one.end, two.end),
-        masters,
-        slaves,
-    }
+    rejoined(rt, system, master, slave)
 }
 
 // Whether all bytes of a ledger are somewhere. No sum of 23 numbers of 64 bits saturates one of 128.
@@ -186,15 +177,24 @@ fn audits<P: Object, R: Wait>(rt: &R, system: &System<P>, times: u32) -> u32 {
 }
 
 // Whether the ends were told what the threads counted and the three calls that opened the pair, and both ledgers balance.
-fn agrees(settled: &Settled, masters: &Counted, slaves: &Counted) -> bool {
+fn agrees(settled: &Settled, tallies: &Tallies) -> bool {
     let told = &settled.told;
-    told.calls == masters.with(slaves).calls.saturating_add(3)
-        && told.written.from_master == masters.wrote
-        && told.written.from_slave == slaves.wrote
-        && told.read.from_master == slaves.read
-        && told.read.from_slave == masters.read
+    let (calls, wrote, read) = tallies.masters.told();
+    let (more, slaves_wrote, slaves_read) = tallies.slaves.told();
+    told.calls == calls.saturating_add(more).saturating_add(3)
+        && told.written.from_master == wrote
+        && told.written.from_slave == slaves_wrote
+        && told.read.from_master == slaves_read
+        && told.read.from_slave == read
         && balances(&settled.ms)
         && balances(&settled.sm)
+}
+
+// The threads of both sides made calls that were granted, and wrote.
+fn have_worked(tallies: &Tallies) -> bool {
+    let (calls, wrote, _) = tallies.masters.told();
+    let (more, slaves_wrote, _) = tallies.slaves.told();
+    calls.saturating_add(more) > 1000 && wrote > 0 && slaves_wrote > 0
 }
 
 pub(crate) fn all_is_told<P: Object + Send, R: Threads + Wait + Sync + Abort>(
@@ -204,24 +204,22 @@ pub(crate) fn all_is_told<P: Object + Send, R: Threads + Wait + Sync + Abort>(
 )
     requires { IsOf system.now.minors opener.old }
 {
+    let tallies = Tallies {
+        masters: Tally::none(),
+        slaves: Tally::none(),
+    };
     let (master, slave) = opened(rt, system, opener);
-    let (all, good) = join(
+    let (end, good) = join(
         rt,
-        || -> Both<P>
+        || -> PairEnd<P>
             requires { IsOne system.now master × IsOne system.now slave }
-            ensures { IsOne system.entry.now result.end }
-        { four_work(rt, system, master, slave) },
+            ensures { IsOne system.entry.now result }
+        { four_work(rt, system, &tallies, master, slave) },
         || audits(rt, system, 1000),
     );
-    assert!(rt; good == 1000);
-    let Both {
-        end,
-        masters,
-        slaves,
-    } = all;
-    assert!(rt; masters.with(&slaves).calls > 1000 && masters.wrote > 0 && slaves.wrote > 0);
+    assert!(rt; good == 1000 && have_worked(&tallies));
     let Some((settled, _minor)) = settled_with(rt, system, end) else {
         panic!(rt; "shared")
     };
-    assert!(rt; agrees(&settled, &masters, &slaves));
+    assert!(rt; agrees(&settled, &tallies));
 }

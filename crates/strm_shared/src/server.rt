@@ -1,10 +1,10 @@
 //! A server: on each of eight pairs a thread has the master's end, and another the slave's.
 
-ghost use Rattle.std.specs.Prelude.{◌<◌, length};
+ghost use Rattle.std.specs.Prelude.{◌<◌, IfOk, length};
 ghost use Rattle.strm_minors.specs.Openers.{IsOf};
 ghost use Rattle.strm_locks.specs.Systems.{IsOne};
 
-use crate::steps::claimed;
+use crate::steps::{claimed, makes, told, turn, writes};
 use std::process::Abort;
 use std::sync::Wait;
 use std::test::Fail;
@@ -19,8 +19,7 @@ fn greet<P: Object, R: Wait>(rt: &R, system: &System<P>, end: PairEnd<P>) -> Pai
     ensures { IsOne system.now result }
 {
     let mut end = end;
-    let bytes = b"login: ".as_slice();
-    let _ = system.call(rt, &mut end, &Event::Write { bytes }, &mut Content::new());
+    let _ = writes(rt, system, &mut end, b"login: ");
     end
 }
 
@@ -31,13 +30,41 @@ fn listen<P: Object, R: Wait>(rt: &R, system: &System<P>, end: PairEnd<P>) -> Pa
 {
     let mut end = end;
     for _ in rt.forever() {
-        if end.end().told().read.from_master == 7 {
+        if told(&end).read.from_master == 7 {
             return end;
         }
-        let _ = system.turn(rt, end.pair());
-        let _ = system.call(rt, &mut end, &Event::Read { n: 64 }, &mut Content::new());
+        turn(rt, system, &end);
+        let _ = makes(rt, system, &mut end, &Event::Read { n: 64 });
     }
     unreachable!()
+}
+
+// Gives each end to a thread, and joins them again.
+fn talk<P: Object + Send, R: Threads + Wait + Sync>(
+    rt: &R,
+    system: &System<P>,
+    master: PairEnd<P>,
+    slave: PairEnd<P>,
+) -> Result<PairEnd<P>, Refusal>
+    requires master { IsOne system.now master }
+    requires slave { IsOne system.now slave }
+    ensures { IfOk result (λ end. IsOne system.now end) }
+{
+    let (master, slave) = join(
+        rt,
+        || -> PairEnd<P>
+            requires { IsOne system.now master }
+            ensures { IsOne system.entry.now result }
+        { greet(rt, system, master) },
+        || -> PairEnd<P>
+            requires { IsOne system.now slave }
+            ensures { IsOne system.entry.now result }
+        { listen(rt, system, slave) },
+    );
+    match system.join_ends(master, slave) {
+        Ok(both) => Ok(both),
+        Err(_) => Err(Refusal::StillShared),
+    }
 }
 
 // Opens a pair, gives its ends to two threads, and settles it: how many calls they made, and the minor.
@@ -54,20 +81,7 @@ fn serve<P: Object + Send, R: Threads + Wait + Sync>(
     };
     system.call(rt, &mut master, &Event::Unlock, &mut Content::new())?;
     let slave = system.open_slave(rt, &mut master)?;
-    let (master, slave) = join(
-        rt,
-        || -> PairEnd<P>
-            requires { IsOne system.now master }
-            ensures { IsOne system.entry.now result }
-        { greet(rt, system, master) },
-        || -> PairEnd<P>
-            requires { IsOne system.now slave }
-            ensures { IsOne system.entry.now result }
-        { listen(rt, system, slave) },
-    );
-    let Ok(both) = system.join_ends(master, slave) else {
-        return Err(Refusal::StillShared);
-    };
+    let both = talk(rt, system, master, slave)?;
     match system.settle(rt, both) {
         Ok((closed, minor)) => Ok((closed.settled.told.calls, minor)),
         Err(_) => Err(Refusal::StillShared),

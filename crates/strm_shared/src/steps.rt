@@ -1,6 +1,6 @@
 //! What ends do in tests. Behind a step a test has to know that the ends are of their system still, and no more.
 
-ghost use Rattle.std.specs.Prelude.{◌<◌, IfOk, IfSome, MatchResult, length};
+ghost use Rattle.std.specs.Prelude.{◌<◌, IfOk, IfSome, length};
 ghost use Rattle.strm_minors.specs.Openers.{IsOf};
 ghost use Rattle.strm_locks.specs.Systems.{IsOne};
 
@@ -9,7 +9,7 @@ use std::process::Abort;
 use std::sync::Wait;
 use std::thread::Threads;
 use strm_image::Trace;
-use strm_locks::{Gate, Object, PairEnd, Report, Settled, System};
+use strm_locks::{Gate, Object, PairEnd, Report, Settled, System, Told};
 use strm_minors::{Minor, Opener};
 use strm_types::{Answer, Content, Event, Refusal};
 
@@ -134,6 +134,11 @@ pub(crate) fn call<P: Object, R: Wait>(
     system.call(rt, end, event, out)
 }
 
+// What an end was told.
+pub(crate) fn told<P: Object>(end: &PairEnd<P>) -> Told {
+    end.end().told()
+}
+
 // Makes a call without an answer's bytes; whether it was granted.
 pub(crate) fn makes<P: Object, R: Wait>(
     rt: &R,
@@ -182,16 +187,6 @@ pub(crate) fn turn<P: Object, R: Wait>(rt: &R, system: &System<P>, end: &PairEnd
     let _ = system.turn(rt, end.pair());
 }
 
-pub(crate) fn split<P: Object>(
-    system: &System<P>,
-    end: PairEnd<P>,
-) -> Result<(PairEnd<P>, PairEnd<P>), PairEnd<P>>
-    requires { IsOne system.now end }
-    ensures { MatchResult result (λ two. IsOne system.now two.0 × IsOne system.now two.1) (IsOne system.now) }
-{
-    system.split_end(end)
-}
-
 // Both halves of an end.
 pub(crate) fn halves<P: Object, R: Abort>(
     rt: &R,
@@ -202,7 +197,7 @@ pub(crate) fn halves<P: Object, R: Abort>(
     ensures first { IsOne system.now result.0 }
     ensures second { IsOne system.now result.1 }
 {
-    let Ok(two) = split(system, end) else {
+    let Ok(two) = system.split_end(end) else {
         panic!(rt; "one part")
     };
     two

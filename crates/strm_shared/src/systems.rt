@@ -4,9 +4,10 @@ ghost use Rattle.std.specs.Prelude.{◌<◌, length};
 ghost use Rattle.strm_minors.specs.Openers.{IsOf};
 ghost use Rattle.strm_locks.specs.Systems.{IsOne};
 
+use crate::journals::is_cut;
 use crate::steps::{
-    call, claimed, cut, halves, makes, no_slave, opened, opened_master, reads, rejoined, settled,
-    settled_with, slave_of, split, tried, unlock, worked, writes,
+    call, claimed, halves, makes, no_slave, opened, opened_master, reads, rejoined, settled,
+    settled_with, slave_of, told, tried, unlock, worked, writes,
 };
 use std::alloc::Global;
 use std::process::Abort;
@@ -14,7 +15,7 @@ use std::sync::Wait;
 use std::test::Fail;
 use std::thread::Threads;
 use strm_image::Trace;
-use strm_locks::{ALL_PARTS, NoGate, Object, PairEnd, Settled, System};
+use strm_locks::{ALL_PARTS, NoGate, Object, PairEnd, Settled, System, Told};
 use strm_minors::{Minor, Minors, Opener};
 use strm_system::{host, system};
 use strm_types::{Answer, Config, Content, Event, Refusal, StopSignal, TIOCSPGRP};
@@ -43,11 +44,29 @@ pub(crate) fn opens_and_refuses<P: Object, R: Wait + Abort>(
 {
     let mut master = opened_master(rt, system, opener);
     assert!(rt; no_slave(rt, system, &mut master) == Some(Refusal::Eagain));
-    assert!(rt; master.end().told().calls == 1);
+    assert!(rt; told(&master).calls == 1);
     unlock(rt, system, &mut master);
-    assert!(rt; master.end().told().calls == 2);
+    assert!(rt; told(&master).calls == 2);
     let slave = slave_of(rt, system, &mut master);
-    assert!(rt; master.end().told().calls == 3 && slave.end().told().calls == 0);
+    assert!(rt; told(&master).calls == 3 && told(&slave).calls == 0);
+}
+
+fn isnt_opened<P: Object, R: Wait + Abort>(rt: &R, system: &System<P>, minor: Minor)
+    requires { minor < length system.now.locks }
+{
+    let Err((why, _)) = tried(rt, system, minor) else {
+        panic!(rt; "opened twice")
+    };
+    assert!(rt; why == Refusal::Einval);
+}
+
+fn opens_again<P: Object, R: Wait + Abort>(rt: &R, system: &System<P>, end: PairEnd<P>)
+    requires { IsOne system.now end }
+{
+    let Some((settled, minor)) = settled_with(rt, system, end) else {
+        panic!(rt; "shared")
+    };
+    assert!(rt; settled.told.calls == 1 && tried(rt, system, minor).is_ok());
 }
 
 // A pair that was opened isn't opened by a minor of the same number, till it settles. Its own minor comes back then, and opens it again.
@@ -63,14 +82,8 @@ fn is_opened_twice<P: Object, R: Wait + Abort>(
     let Ok(end) = tried(rt, system, first) else {
         panic!(rt; "refused")
     };
-    let Err((why, _)) = tried(rt, system, second) else {
-        panic!(rt; "opened twice")
-    };
-    assert!(rt; why == Refusal::Einval);
-    let Some((told, minor)) = settled_with(rt, system, end) else {
-        panic!(rt; "shared")
-    };
-    assert!(rt; told.told.calls == 1 && tried(rt, system, minor).is_ok());
+    isnt_opened(rt, system, second);
+    opens_again(rt, system, end);
 }
 
 pub(crate) fn strange_minor<P: Object, R: Wait + Abort>(
@@ -107,6 +120,17 @@ fn sizes_are_refused(rt: HostRuntime) {
     }
 }
 
+// A worker makes one turn at its one visit.
+fn makes_a_turn<P: Object + Send, R: Threads + Wait + Sync + Abort>(
+    rt: &R,
+    alloc: Global,
+    system: &System<P>,
+) {
+    let report = worked(rt, alloc, system, (1, 1), &NoGate);
+    assert!(rt; report.started == 1 && report.turns == 1);
+    assert!(rt; report.blocked == 0 && report.refused == 0 && report.idle == 0);
+}
+
 // The master writes, a worker makes the turn, and the slave reads.
 fn carries<P: Object + Send, R: Threads + Wait + Sync + Abort>(
     rt: &R,
@@ -121,11 +145,9 @@ fn carries<P: Object + Send, R: Threads + Wait + Sync + Abort>(
     ensures slave { IsOne system.now slave.new }
 {
     assert!(rt; writes(rt, system, master, b"abc"));
-    let report = worked(rt, alloc, system, (1, 1), &NoGate);
-    assert!(rt; report.started == 1 && report.turns == 1);
-    assert!(rt; report.blocked == 0 && report.refused == 0 && report.idle == 0);
+    makes_a_turn(rt, alloc, system);
     assert!(rt; reads(rt, system, slave, b"abc"));
-    assert!(rt; master.end().told().calls == 4 && slave.end().told().read.from_master == 3);
+    assert!(rt; told(master).calls == 4 && told(slave).read.from_master == 3);
 }
 
 pub(crate) fn carries_and_settles<P: Object + Send, R: Threads + Wait + Sync + Abort>(
@@ -159,17 +181,14 @@ pub(crate) fn carries_and_is_cut<P: Object + Send, R: Threads + Wait + Sync + Ab
 {
     let (mut master, mut slave) = opened(rt, system, opener);
     carries(rt, alloc, system, &mut master, &mut slave);
-    let first = cut(rt, alloc, system, &master);
-    let second = cut(rt, alloc, system, &slave);
-    has_all_and_none(rt, first, second);
+    let first = is_cut(rt, alloc, system, &master);
+    let second = is_cut(rt, alloc, system, &slave);
+    has_all_and_none(rt, &first, &second);
     all_is_told(rt, &settled(rt, system, master, slave));
 }
 
 // The first trace has all six entries, and the second begins behind them.
-fn has_all_and_none<R: Abort>(rt: &R, first: Option<Trace>, second: Option<Trace>) {
-    let (Some(trace), Some(rest)) = (first, second) else {
-        panic!(rt; "no memory")
-    };
+fn has_all_and_none<R: Abort>(rt: &R, trace: &Trace, rest: &Trace) {
     assert!(rt; trace.entries.len() == 6 && trace.bytes.as_slice() == b"abcabc".as_slice());
     assert!(rt; rest.entries.is_empty() && rest.bytes.is_empty());
     assert!(rt; trace.base.as_slice() != rest.base.as_slice());
@@ -186,6 +205,13 @@ pub(crate) fn runs_out_of_minors<P: Object, R: Wait + Abort>(
     let second = claimed(rt, system, opener);
     assert!(rt; first.number() == 0 && second.number() == 1);
     assert!(rt; system.claim(opener).is_err());
+    has_no_room(rt, system, second);
+}
+
+// The second minor comes back.
+fn has_no_room<P: Object, R: Wait + Abort>(rt: &R, system: &System<P>, second: Minor)
+    requires { second < length system.now.locks }
+{
     let Err((why, minor)) = tried(rt, system, second) else {
         panic!(rt; "opened")
     };
@@ -201,11 +227,24 @@ pub(crate) fn joins_two_pairs<P: Object, R: Wait + Abort>(
 {
     let first = opened_master(rt, system, opener);
     let second = opened_master(rt, system, opener);
+    come_back(rt, system, first, second);
+}
+
+// Ends of the first two pairs.
+fn come_back<P: Object, R: Wait + Abort>(
+    rt: &R,
+    system: &System<P>,
+    first: PairEnd<P>,
+    second: PairEnd<P>,
+)
+    requires first { IsOne system.now first }
+    requires second { IsOne system.now second }
+{
     let Err((first, second)) = system.join_ends(first, second) else {
         panic!(rt; "joined")
     };
     assert!(rt; first.pair() == 0 && second.pair() == 1);
-    assert!(rt; first.end().told().calls == 1 && second.end().told().calls == 1);
+    assert!(rt; told(&first).calls == 1 && told(&second).calls == 1);
 }
 
 // Cuts an end in two so often, first halves first, and joins all again. The last one has one part, and opens no slave.
@@ -226,15 +265,23 @@ fn splits_and_joins<P: Object, R: Wait + Abort>(
     rejoined(rt, system, first, second)
 }
 
+// The end, which can't be split.
+fn unsplit<P: Object, R: Abort>(rt: &R, system: &System<P>, end: PairEnd<P>) -> PairEnd<P>
+    requires { IsOne system.now end }
+    ensures { IsOne system.now result }
+{
+    let Err(end) = system.split_end(end) else {
+        panic!(rt; "split")
+    };
+    end
+}
+
 // An end of one part.
 fn is_last<P: Object, R: Wait + Abort>(rt: &R, system: &System<P>, end: PairEnd<P>) -> PairEnd<P>
     requires { IsOne system.now end }
     ensures { IsOne system.now result }
 {
-    let Err(end) = split(system, end) else {
-        panic!(rt; "split")
-    };
-    let mut end = end;
+    let mut end = unsplit(rt, system, end);
     assert!(rt; end.end().parts() == 1);
     assert!(rt; no_slave(rt, system, &mut end) == Some(Refusal::Erange));
     end
@@ -280,12 +327,25 @@ fn stops_the_job<P: Object, R: Wait + Abort>(
     requires shell { IsOne system.now shell.old }
     requires job { IsOne system.now job.old }
 {
+    assert!(rt; is_stopped(rt, system, job));
+    assert!(rt; reads(rt, system, shell, b"abc"));
+    are_told(rt, &told(shell), &told(job));
+}
+
+// Whether a read stops its caller by SIGTTIN.
+fn is_stopped<P: Object, R: Wait>(rt: &R, system: &System<P>, job: &mut PairEnd<P>) -> bool
+    requires { IsOne system.now job.old }
+    ensures { IsOne system.now job.new }
+{
     let read = Event::Read { n: 10 };
     let stopped = call(rt, system, job, &read, &mut Content::new());
-    assert!(rt; matches!(&stopped, Ok(Answer::Stop(StopSignal::Ttin))));
-    assert!(rt; reads(rt, system, shell, b"abc"));
-    assert!(rt; job.end().told().calls == 1 && job.end().told().read.from_master == 0);
-    assert!(rt; shell.end().told().calls == 2 && shell.end().told().read.from_master == 3);
+    matches!(&stopped, Ok(Answer::Stop(StopSignal::Ttin)))
+}
+
+// The job was told of its stop alone, and the shell of what it read.
+fn are_told<R: Abort>(rt: &R, shell: &Told, job: &Told) {
+    assert!(rt; job.calls == 1 && job.read.from_master == 0);
+    assert!(rt; shell.calls == 2 && shell.read.from_master == 3);
 }
 
 pub(crate) fn job_reads<P: Object + Send, R: Threads + Wait + Sync + Abort>(

@@ -3,13 +3,13 @@
 ghost use Rattle.strm_minors.specs.Openers.{IsOf};
 ghost use Rattle.strm_locks.specs.Systems.{IsOne};
 
-use crate::steps::{makes, opened, opened_master, settled, turn, worked, writes};
+use crate::steps::{makes, opened, opened_master, settled, told, turn, worked, writes};
 use std::alloc::Global;
 use std::process::Abort;
 use std::sync::Wait;
 use std::sync::atomic::{AtomicU64, Ordering};
 use std::thread::{Threads, join, yield_now};
-use strm_locks::{Gate, Object, PairEnd, System};
+use strm_locks::{Gate, Object, PairEnd, Settled, System};
 use strm_minors::Opener;
 use strm_types::Event;
 
@@ -23,7 +23,7 @@ fn write_all<P: Object, R: Wait>(rt: &R, system: &System<P>, end: PairEnd<P>) ->
 {
     let mut end = end;
     for _ in rt.forever() {
-        if end.end().told().written.from_master >= ALL {
+        if told(&end).written.from_master >= ALL {
             return end;
         }
         let _ = writes(rt, system, &mut end, b"hello");
@@ -38,7 +38,7 @@ fn read_all<P: Object, R: Wait>(rt: &R, system: &System<P>, end: PairEnd<P>) -> 
 {
     let mut end = end;
     for _ in rt.forever() {
-        if end.end().told().read.from_master >= ALL {
+        if told(&end).read.from_master >= ALL {
             return end;
         }
         turn(rt, system, &end);
@@ -95,7 +95,10 @@ pub(crate) fn hand_over<P: Object + Send, R: Threads + Wait + Sync + Abort>(
             ensures { IsOne system.entry.now result }
         { read_beside(rt, system, slave) },
     );
-    let settled = settled(rt, system, slave, master);
+    is_handed_over(rt, &settled(rt, system, slave, master));
+}
+
+fn is_handed_over<R: Abort>(rt: &R, settled: &Settled) {
     assert!(rt; settled.told.written.from_master == ALL && settled.told.read.from_master == ALL);
     assert!(rt; settled.ms.written == ALL && settled.ms.queued == 0);
 }
@@ -151,6 +154,14 @@ pub(crate) fn workers_meet<P: Object + Send, R: Threads + Wait + Sync + Abort>(
     let mut second = opened_master(rt, system, opener);
     let _ = writes(rt, system, &mut first, b"x");
     let _ = writes(rt, system, &mut second, b"y");
+    meet(rt, alloc, system);
+}
+
+fn meet<P: Object + Send, R: Threads + Wait + Sync + Abort>(
+    rt: &R,
+    alloc: Global,
+    system: &System<P>,
+) {
     let gate = Meeting {
         came: AtomicU64::new(0),
         done: AtomicU64::new(0),

@@ -37,6 +37,15 @@ pub(crate) fn visits_two<P: Object + Send, R: Threads + Wait + Sync + Abort>(
     assert!(rt; report.started == 0 && report.idle == 0);
 }
 
+// Opens a pair and writes there, which enables a queue.
+fn is_enabled<P: Object, R: Wait + Abort>(rt: &R, system: &System<P>, opener: &mut Opener)
+    requires { IsOf system.now.minors opener.old }
+    ensures { IsOf system.now.minors opener.new }
+{
+    let (mut master, _slave) = opened(rt, system, opener);
+    assert!(rt; writes(rt, system, &mut master, b"x"));
+}
+
 // One worker visits three pairs round, and the first two of them twice. At those a queue is enabled, till its turn is made.
 pub(crate) fn visits_round<P: Object + Send, R: Threads + Wait + Sync + Abort>(
     rt: &R,
@@ -46,9 +55,8 @@ pub(crate) fn visits_round<P: Object + Send, R: Threads + Wait + Sync + Abort>(
 )
     requires { IsOf system.now.minors opener.old }
 {
-    let (mut first, _slave) = opened(rt, system, opener);
-    let (mut second, _slave) = opened(rt, system, opener);
-    assert!(rt; writes(rt, system, &mut first, b"x") && writes(rt, system, &mut second, b"y"));
+    is_enabled(rt, system, opener);
+    is_enabled(rt, system, opener);
     let report = worked(rt, alloc, system, (1, 5), &NoGate);
     assert!(rt; report.started == 1 && report.turns == 2 && report.idle == 3);
     assert!(rt; report.blocked == 0 && report.refused == 0);
