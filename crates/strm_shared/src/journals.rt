@@ -49,6 +49,22 @@ pub(crate) fn is_cut<P: Object, R: Wait + Abort>(
     trace
 }
 
+// Both ends of a new pair, behind a write.
+fn written<P: Object, R: Wait + Abort>(
+    rt: &R,
+    system: &System<P>,
+    opener: &mut Opener,
+) -> (PairEnd<P>, PairEnd<P>)
+    requires { IsOf system.now.minors opener.old }
+    ensures opener { IsOf system.now.minors opener.new }
+    ensures master { IsOne system.now result.0 }
+    ensures slave { IsOne system.now result.1 }
+{
+    let (mut master, slave) = opened(rt, system, opener);
+    assert!(rt; writes(rt, system, &mut master, b"abc"));
+    (master, slave)
+}
+
 // Cuts a pair by each of its ends.
 fn cut_twice<P: Object, R: Wait + Abort>(
     rt: &R,
@@ -87,8 +103,7 @@ fn writes_and_is_cut<P: Object, R: Wait + Abort>(
     requires { IsOf system.now.minors opener.old }
     ensures { IsOf system.now.minors opener.new }
 {
-    let (mut master, slave) = opened(rt, system, opener);
-    assert!(rt; writes(rt, system, &mut master, b"abc"));
+    let (master, slave) = written(rt, system, opener);
     let traces = cut_twice(rt, alloc, system, &master, &slave);
     four_calls_are_told(rt, system, master, slave);
     traces

@@ -2,6 +2,7 @@
 //! system, which is made with `Global`.
 
 ghost use Rattle.strm_minors.specs.Openers.{IsOf};
+ghost use Rattle.strm_locks.specs.Systems.{IsOne};
 
 use crate::steps::{cut, opened, settled, writes};
 use std::alloc::{AllocError, Global};
@@ -9,7 +10,7 @@ use std::process::Abort;
 use std::sync::Wait;
 use std::test::Fail;
 use strm_blocks::Reserve;
-use strm_locks::{Object, System};
+use strm_locks::{Object, PairEnd, System};
 use strm_minors::Opener;
 use strm_system::{Store, host_over, system_over};
 use strm_types::{Config, Refusal};
@@ -55,6 +56,42 @@ fn refused<B: Reserve>(alloc: Global) -> (Option<Refusal>, Option<Refusal>) {
     (system, host)
 }
 
+fn has_crew<P: Object>(system: &System<P>, alloc: Global) -> bool {
+    system.crew(alloc, 3).is_ok()
+}
+
+// Whether a cut, workers, a system and a host are refused by name, and a write isn't.
+fn are_refused<P: Object, R: Wait>(
+    rt: &R,
+    alloc: Global,
+    system: &System<P>,
+    master: &mut PairEnd<P>,
+) -> bool
+    requires { IsOne system.now master.old }
+    ensures { IsOne system.now master.new }
+{
+    let was_cut = cut(rt, alloc, system, master).is_some();
+    let has_crew = has_crew(system, alloc);
+    let (no_system, no_host) = refused::<Store>(alloc);
+    let wrote = writes(rt, system, master, b"abc");
+    let by_name = no_system == Some(Refusal::NoMemory) && no_host == Some(Refusal::NoMemory);
+    wrote && !was_cut && !has_crew && by_name
+}
+
+// Whether none of them is.
+fn are_had<P: Object, R: Wait>(
+    rt: &R,
+    alloc: Global,
+    system: &System<P>,
+    master: &PairEnd<P>,
+) -> bool
+    requires { IsOne system.now master.now }
+{
+    let was_cut = cut(rt, alloc, system, master).is_some();
+    let (no_system, no_host) = refused::<Store>(alloc);
+    was_cut && has_crew(system, alloc) && no_system.is_none() && no_host.is_none()
+}
+
 // A pair is cut, and workers are had, once there is memory.
 pub(crate) fn is_short<P: Object, R: Wait + Abort>(
     rt: &R,
@@ -66,16 +103,10 @@ pub(crate) fn is_short<P: Object, R: Wait + Abort>(
 {
     let (mut master, slave) = opened(rt, system, opener);
     let taken = all_memory(alloc)?;
-    let cut_short = cut(rt, alloc, system, &master).is_none();
-    let no_crew = system.crew(alloc, 3).is_err();
-    let (no_system, no_host) = refused::<Store>(alloc);
-    let wrote = writes(rt, system, &mut master, b"abc");
+    let are_short = are_refused(rt, alloc, system, &mut master);
     drop(taken);
-    assert!(rt; cut_short && no_crew && wrote);
-    assert!(rt; no_system == Some(Refusal::NoMemory) && no_host == Some(Refusal::NoMemory));
-    assert!(rt; cut(rt, alloc, system, &master).is_some() && system.crew(alloc, 3).is_ok());
-    let (no_system, no_host) = refused::<Store>(alloc);
-    assert!(rt; no_system.is_none() && no_host.is_none());
+    assert!(rt; are_short);
+    assert!(rt; are_had(rt, alloc, system, &master));
     assert!(rt; settled(rt, system, master, slave).told.calls == 4);
     Ok(())
 }
