@@ -6,8 +6,6 @@ mod laws;
 mod locked;
 mod storms;
 mod systems;
-#[cfg(test)]
-mod tests;
 
 pub use hosts::{host, host_over};
 pub use laws::entries_are_tallied;

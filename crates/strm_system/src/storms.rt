@@ -6,8 +6,8 @@ ghost use Rattle.strm_system.specs.Storms.{IsStorm, all_counted};
 
 mod counts;
 mod crew;
-pub(crate) mod dealing;
-pub(crate) mod hands;
+mod dealing;
+mod hands;
 mod plans;
 mod random;
 

@@ -1,8 +1,9 @@
 -- Pairs that stand for images.
 use Rattle.std.proofs.Common.{◌≡◌, ◌∙◌, ◌-◌, ℕ, true, leb, sym, ap, subst, List}
-use Rattle.std.specs.Prelude.{Result, Ok, Err, OnOk}
+use Rattle.std.specs.Prelude.{Option, None, Some, Result, Ok, Err, OnOk}
 use Rattle.std.proofs.lemmas.Bool.{and_parts, leb-true}
 use Rattle.strm_types.specs.declared.limits.Config.{Config}
+use Rattle.strm_types.specs.declared.refusals.Refusal.{Refusal}
 use Rattle.strm_laws.specs.Pair.{PairState}
 use Rattle.strm_laws.specs.Refusals.{enough}
 use Rattle.strm_blocks.specs.Blocks.{StoreValue, empty_store}
@@ -29,6 +30,13 @@ pair_over x s limits mblks dblks p blank of_m of_d few is =
       free_mblks = ap (λ (q : PairState). q.free.mblks) is ∙ ap (λ n. n - image_blocks x) (of_m ∙ ap (λ (t : StoreValue). t.mblks) blank);
       free_dblks = ap (λ (q : PairState). q.free.dblks) is ∙ ap (λ n. n - image_blocks x) (of_d ∙ ap (λ (t : StoreValue). t.dblks) blank);
     }
+
+-- a call that was refused by one name isn't refused by another, and one that wasn't is by none
+pub same_why : {A : Type 0} → (e : Result A Refusal) (why other : Refusal) → e ≡ Err why → e ≡ Err other → why ≡ other
+same_why e why other one two = cc
+
+pub not_refused : (why : Refusal) (r : Option Refusal) → r ≡ None → r ≡ Some why → ⊥
+not_refused why r none some = cc
 
 pub on_ok : {A E : Type 0} (r : Result A E) (P Q : Type 0) → (P → Q) → OnOk r P → OnOk r Q
 on_ok (Ok x) P Q so p = so p

@@ -72,6 +72,16 @@ fn takes<B: Reserve>(
     Ok(())
 }
 
+// Why no pair is made of a text over so many blocks, if none is.
+fn refusal<B: Reserve>(alloc: Global, text: &[u8], mblks: usize, dblks: usize) -> Option<Refusal>
+    requires some_mblks { 0 < mblks }
+    requires few_mblks { mblks ≤ 65536 }
+    requires some_dblks { 0 < dblks }
+    requires few_dblks { dblks ≤ 65536 }
+{
+    restored::<B>(alloc, text, mblks, dblks).err()
+}
+
 // A text wants more blocks than these.
 fn is_short<B: Reserve>(
     alloc: Global,
@@ -84,10 +94,10 @@ fn is_short<B: Reserve>(
     requires some_dblks { 0 < dblks }
     requires few_dblks { dblks ≤ 65536 }
 {
-    match restored::<B>(alloc, text, mblks, dblks) {
-        Ok(_) => Err(Difference::Enough { mblks, dblks }),
-        Err(Refusal::Enosr) => Ok(()),
-        Err(why) => Err(Difference::Refused(why)),
+    match refusal::<B>(alloc, text, mblks, dblks) {
+        None => Err(Difference::Enough { mblks, dblks }),
+        Some(Refusal::Enosr) => Ok(()),
+        Some(why) => Err(Difference::Refused(why)),
     }
 }
 

@@ -28,8 +28,8 @@ pub(crate) struct Job<P: Object> {
     pub calls: u32,
 }
 
-/// Both ends of the pair of a new minor, which is unlocked. The master's hand counts the three calls of that.
-pub(crate) fn opened<P: Object, R: Wait>(
+// Both ends of the pair of a new minor, which is unlocked. The master's hand counts the three calls of that.
+fn opened<P: Object, R: Wait>(
     rt: &R,
     system: &System<P>,
     opener: &mut Opener,

@@ -71,8 +71,8 @@ impl<P: Object> Hand<P> {
         }
     }
 
-    /// Makes a call. One that is granted is counted.
-    pub fn make<R: Wait>(
+    // Makes a call. One that is granted is counted.
+    fn make<R: Wait>(
         &mut self,
         rt: &R,
         system: &System<P>,
@@ -155,8 +155,8 @@ fn same(one: &Each, two: &Each) -> bool {
     one.from_master == two.from_master && one.from_slave == two.from_slave
 }
 
-/// Whether all bytes of a ledger are somewhere. No sum of 23 numbers of 64 bits saturates one of 128.
-pub(crate) fn balances(ledger: &Ledger) -> bool {
+// Whether all bytes of a ledger are somewhere. No sum of 23 numbers of 64 bits saturates one of 128.
+fn balances(ledger: &Ledger) -> bool {
     let mut there = ledger.queued as u128 + ledger.inline as u128;
     for gone in ledger.fates {
         there = there.saturating_add(gone as u128);

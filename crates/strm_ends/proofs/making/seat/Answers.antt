@@ -12,6 +12,6 @@ pub returns : goal.returns
 returns c =
     let none : c.args.made.now.held.kept ≡ None = closes c.args.made.now.held.kept (sym c.is_open.ensures ∙ c.if-is_open.false) in
     let before : c.args.handle.now.held.kept ≡ Some c.as_mut.result.now = cc (c.in-Some.ensures.taken, c.as_mut.ensures.value) in
-    let behind : c.put.new.self.held.kept ≡ Some c.seat-outcome.new.self = (cc) in
+    let behind : c.put.new.self.held.kept ≡ Some c.seat-outcome.new.self = c.put.ensures in
     with_made Seats c.args.handle.now.held.kept c.put.new.self.held.kept c.args.made.now.held.kept c.seat-outcome.new.made.held.kept
     c.as_mut.result.now c.seat-outcome.new.self c.seat-outcome.result c.number.result none before behind c.number.ensures c.seat-outcome.ensures

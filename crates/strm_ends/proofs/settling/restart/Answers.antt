@@ -7,6 +7,6 @@ use Rattle.strm_ends.proofs.settling.restart.Goals as goal
 pub returns : goal.returns
 returns c =
     let before : c.args.handle.now.held.kept ≡ Some c.as_ref.result.now = cc (c.in-Some.ensures.taken, c.as_ref.ensures) in
-    let behind : c.put.new.self.held.kept ≡ Some c.as_ref.result.now = (cc) in
+    let behind : c.put.new.self.held.kept ≡ Some c.as_ref.result.now = cc (c.put.ensures, c.as_ref.ensures) in
     at_member (Unit {0}) (Restarts) c.args.handle.now.held.kept c.put.new.self.held.kept c.as_ref.result.now c.as_ref.result.now
     c.restart-outcome.result c.number.result before behind c.number.ensures c.restart-outcome.ensures

@@ -12,7 +12,7 @@ use Rattle.strm_ends.proofs.member.Member.claim.Goals as goal
 pub returns-in-Ok : goal.returns-in-Ok
 returns-in-Ok c =
     let host = arc_value c.self.inside.host in
-    let here : c.deref.result.now ≡ host = (cc) in
+    let here : c.deref.result.now ≡ host = cc (c.deref.ensures) in
     let claims : Claims host c.in-Some.opener c.in-Ok.minor.system c.in-Ok.minor.minor c.claim.new.opener =
     subst (λ (h : List Plan). Claims h c.in-Some.opener c.in-Ok.minor.system c.in-Ok.minor.minor c.claim.new.opener) here c.in-Ok.ensures.claimed in
     let number : c.pair_number.result ≡ c.in-Ok.minor.system * 64 + c.in-Ok.minor.minor = cc (c.pair_number.ensures, c.number.ensures.value) in
@@ -23,7 +23,7 @@ returns-in-Ok c =
 pub returns-in-Err : goal.returns-in-Err
 returns-in-Err c =
     let host = arc_value c.self.inside.host in
-    let here : c.deref.result.now ≡ host = (cc) in
+    let here : c.deref.result.now ≡ host = cc (c.deref.ensures) in
     let passes : Passes host c.in-Some.opener (length host) c.claim.new.opener =
     subst (λ (h : List Plan). Passes h c.in-Some.opener (length h) c.claim.new.opener) here c.in-Err.ensures.claimed in
     subst (λ (r : Outcome). ClaimsMinor c.args.pair.now c.args.pair.now c.args.self.now r (seated host (Some c.claim.new.opener) c.self.inside.hold))

@@ -15,7 +15,7 @@ prove-unreachable-requires c =
     let plan : Plan = c.at.result.now in
     let hand : HasEnd host c.self.inside.opener c.in-End.system e =
     subst (λ (h : Hold). HasInHand host c.self.inside.opener h) c.in-End.is c.self.invariant.hand in
-    let here : c.deref.result.now ≡ host = (cc) in
+    let here : c.deref.result.now ≡ host = cc (c.deref.ensures) in
     let at : slice_get host c.in-End.system ≡ Some plan = subst (λ (h : List Plan). slice_get h c.in-End.system ≡ Some plan) here c.at.ensures in
     let within : e.pair < length plan.locks =
     get_within plan.locks e.pair e.end.lock (in_system host c.in-End.system e.pair plan e.end.lock at hand.0) in

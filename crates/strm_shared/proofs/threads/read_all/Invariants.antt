@@ -1,0 +1,5 @@
+use Rattle.strm_locks.specs.Systems.{IsOne}
+use Rattle.strm_shared.proofs.threads.read_all.Given as goal
+
+abbrev pub invariant-loop : goal.invariant-loop
+invariant-loop g l = IsOne l.system l.end

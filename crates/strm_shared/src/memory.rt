@@ -1,0 +1,112 @@
+//! Where all memory is taken: whatever asks for more is refused by name, and goes well once there is some. No allocator that counts can stand in a
+//! system, which is made with `Global`.
+
+ghost use Rattle.strm_minors.specs.Openers.{IsOf};
+ghost use Rattle.strm_locks.specs.Systems.{IsOne};
+
+use crate::steps::{cut, opened, settled, writes};
+use std::alloc::{AllocError, Global};
+use std::process::Abort;
+use std::sync::Wait;
+use std::test::Fail;
+use strm_blocks::Reserve;
+use strm_locks::{Object, PairEnd, System};
+use strm_minors::Opener;
+use strm_system::{Store, host_over, system_over};
+use strm_types::{Config, Refusal};
+
+// More blocks than a heap has that gives them as large as the machine's memory.
+const MOST_TAKEN: usize = 131072;
+
+// One of the least pairs that do anything.
+const LEAST: Config = Config {
+    mblks: 1,
+    dblks: 1,
+    journal_events: 1,
+    journal_bytes: 1,
+};
+
+// Takes blocks of a size until one is refused.
+fn take_all(alloc: Global, size: usize, taken: &mut Vec<Vec<u8>>) -> Result<(), AllocError> {
+    for _ in taken.len()..MOST_TAKEN {
+        let Ok(block) = Vec::with_capacity(alloc, size) else {
+            break;
+        };
+        taken.push(block)?;
+    }
+    Ok(())
+}
+
+// Takes all memory that the process can have, the largest blocks first, and small ones by each size.
+fn all_memory(alloc: Global) -> Result<Vec<Vec<u8>>, AllocError> {
+    let mut taken = Vec::with_capacity(alloc, MOST_TAKEN)?;
+    for halved in 0..35u32 {
+        take_all(alloc, (1usize << 47) >> halved, &mut taken)?;
+    }
+    for less in 0..4096usize {
+        take_all(alloc, 4096 - less, &mut taken)?;
+    }
+    Ok(taken)
+}
+
+// Why no system is made of two of the least pairs, and no host of a hundred.
+fn refused<B: Reserve>(alloc: Global) -> (Option<Refusal>, Option<Refusal>) {
+    let system = system_over::<B>(alloc, 2, LEAST).err();
+    let host = host_over::<B>(alloc, 100, LEAST).err();
+    (system, host)
+}
+
+fn has_crew<P: Object>(system: &System<P>, alloc: Global) -> bool {
+    system.crew(alloc, 3).is_ok()
+}
+
+// Whether a cut, workers, a system and a host are refused by name, and a write isn't.
+fn are_refused<P: Object, R: Wait>(
+    rt: &R,
+    alloc: Global,
+    system: &System<P>,
+    master: &mut PairEnd<P>,
+) -> bool
+    requires { IsOne system.now master.old }
+    ensures { IsOne system.now master.new }
+{
+    let was_cut = cut(rt, alloc, system, master).is_some();
+    let has_crew = has_crew(system, alloc);
+    let (no_system, no_host) = refused::<Store>(alloc);
+    let wrote = writes(rt, system, master, b"abc");
+    let by_name = no_system == Some(Refusal::NoMemory) && no_host == Some(Refusal::NoMemory);
+    wrote && !was_cut && !has_crew && by_name
+}
+
+// Whether none of them is.
+fn are_had<P: Object, R: Wait>(
+    rt: &R,
+    alloc: Global,
+    system: &System<P>,
+    master: &PairEnd<P>,
+) -> bool
+    requires { IsOne system.now master.now }
+{
+    let was_cut = cut(rt, alloc, system, master).is_some();
+    let (no_system, no_host) = refused::<Store>(alloc);
+    was_cut && has_crew(system, alloc) && no_system.is_none() && no_host.is_none()
+}
+
+// A pair is cut, and workers are had, once there is memory.
+pub(crate) fn is_short<P: Object, R: Wait + Abort>(
+    rt: &R,
+    alloc: Global,
+    system: &System<P>,
+    opener: &mut Opener,
+) -> Result<(), Fail>
+    requires { IsOf system.now.minors opener.old }
+{
+    let (mut master, slave) = opened(rt, system, opener);
+    let taken = all_memory(alloc)?;
+    let are_short = are_refused(rt, alloc, system, &mut master);
+    drop(taken);
+    assert!(rt; are_short);
+    assert!(rt; are_had(rt, alloc, system, &master));
+    assert!(rt; settled(rt, system, master, slave).told.calls == 4);
+    Ok(())
+}

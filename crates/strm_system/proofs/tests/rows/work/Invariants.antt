@@ -1,5 +1,0 @@
-use Rattle.strm_locks.specs.Systems.{IsOne}
-use Rattle.strm_system.proofs.tests.rows.work.Given as goal
-
-abbrev pub invariant-loop-at : goal.invariant-loop-at
-invariant-loop-at g l = IsOne l.system l.hand.end

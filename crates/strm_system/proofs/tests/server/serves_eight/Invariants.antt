@@ -1,5 +1,0 @@
-use Rattle.strm_minors.specs.Openers.{IsOf}
-use Rattle.strm_system.proofs.tests.server.serves_eight.Given as goal
-
-abbrev pub invariant-loop : goal.invariant-loop
-invariant-loop g l = IsOf l.system.minors l.opener

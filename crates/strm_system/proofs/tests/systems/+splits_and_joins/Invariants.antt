@@ -1,4 +1,0 @@
-use Rattle.strm_system.proofs.tests.systems.+splits_and_joins.Given as goal
-
-abbrev pub decreases-splits_and_joins : goal.decreases-splits_and_joins
-decreases-splits_and_joins g l = l.times

@@ -1,5 +1,0 @@
-use Rattle.strm_locks.specs.Systems.{IsOne}
-use Rattle.strm_system.proofs.tests.threads.write_all.Given as goal
-
-abbrev pub invariant-loop : goal.invariant-loop
-invariant-loop g l = IsOne l.system l.end
