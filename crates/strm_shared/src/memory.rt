@@ -102,6 +102,8 @@ pub(crate) fn is_short<P: Object, R: Wait + Abort>(
     requires { IsOf system.now.minors opener.old }
 {
     let (mut master, slave) = opened(rt, system, opener);
+    // (where all addresses are taken the stack can't grow, so all of it is asked for before)
+    assert!(rt; are_had(rt, alloc, system, &master));
     let taken = all_memory(alloc)?;
     let are_short = are_refused(rt, alloc, system, &mut master);
     drop(taken);
