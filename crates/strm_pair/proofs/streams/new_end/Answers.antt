@@ -19,3 +19,30 @@ returns-clause-side c = λ s blank.
       spare = search rules;
       shelf = λ none. refl;
     }
+
+pub returns-clause-stream : goal.returns-clause-stream
+returns-clause-stream c = λ s blank.
+    let head = c.new-2.ensures in
+    let own = c.new.ensures in
+    let driver = c.new-4.ensures in
+    rw (
+      head.queue,
+      head.read_mode,
+      head.control_mode,
+      head.tostop,
+      head.group,
+      head.hung_up,
+      head.signals,
+      head.ioctl,
+      own.list,
+      own.flows,
+      own.want_read,
+      own.no_enable,
+      driver.list,
+      driver.flows,
+      driver.want_read,
+      driver.no_enable,
+      c.new-3.ensures,
+      blank.head,
+      blank.driver,
+    ) refl
