@@ -7,7 +7,7 @@ use Rattle.strm_laws.specs.Puts.{made_above, put_at_driver, put_at_head, put_at_
 use Rattle.strm_laws.specs.StackCosts.{Stands, stands_of}
 use Rattle.strm_laws.specs.Stacked.{Standing, module_name, module_puts, module_serves}
 use Rattle.strm_laws.specs.State.{State, Stream, book, stream, with_book, with_stream, with_driver_queue}
-use Rattle.strm_laws.proofs.PutParts.{acted-holds, either-holds, parts-hold}
+use Rattle.strm_laws.proofs.PutParts.{NamesHold, acted-holds, either-holds, parts-hold}
 use Rattle.strm_laws.proofs.LawfulKinds.{lawful}
 
 module _ {C : Type 0} where
@@ -54,8 +54,8 @@ module _ {C : Type 0} where
     abbrev pub Stand : State C → Type 0
     Stand s = stands_of s ≡ all
 
-    names-stand : (names : List QueueName) (s : State C) → Stand s → Stand (record s { enabled = names })
-    names-stand names s is = is
+    names-stand : NamesHold Stand
+    names-stand names s adds is = is
 
     books-stand : (dir : Dir) (n : ℕ) (s : State C) → Stand s → Stand (with_book dir (with_made n (book dir s)) s)
     books-stand dir n s is = is
