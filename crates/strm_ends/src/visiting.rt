@@ -1,6 +1,7 @@
 //! Visits to any pair of the host: turns, looks and audits.
 
-ghost use Rattle.std.specs.Prelude.{◌≡◌, ◌<◌, ◌≤◌, None, IfNone, IfSome, length, slice_get};
+ghost use Rattle.std.specs.Prelude.{◌≡◌, ◌<◌, ◌≤◌, None, IfNone, IfSome, length, slice_get, true};
+ghost use Rattle.strm_types.specs.Names.{has_queues_at};
 ghost use Rattle.strm_laws.specs.Refusals.{enough};
 ghost use Rattle.strm_locks.specs.Systems.{Plan};
 ghost use Rattle.strm_pair.specs.Readiness.{readiness};
@@ -26,8 +27,8 @@ use strm_types::{QueueName, Refusal, Side};
 
 // A queue's number, or that of none.
 fn number_of_queue(queue: Option<QueueName>) -> u32
-    ensures queue { queue_at result ≡ queue }
-    ensures few { result ≤ 12 }
+    ensures queue { IfSome queue (λ name. has_queues_at name.place ≡ true) → queue_at result ≡ queue }
+    ensures few { IfSome queue (λ name. has_queues_at name.place ≡ true) → result ≤ 12 }
 {
     match queue {
         Some(name) => queue_number(name),
@@ -70,6 +71,7 @@ fn prospect(object: &Object, side: Side) -> Prospect
 {
     let pair = &object.pair;
     let has_blocks = has_blocks(pair, WRITE_BLOCKS_MOST, 0);
+    pair.enabled_are_queues();
     Prospect {
         bits: bits_of(pair.ready(side), has_blocks),
         queue: number_of_queue(pair.first_enabled()),

@@ -23,6 +23,7 @@ pub fn enabled(alloc: Global, handle: &mut Handle, place: usize) -> u32
     let Some(kept) = handle.take(alloc) else {
         return NO_QUEUE;
     };
+    kept.pair.enabled_are_queues();
     let queue = match kept.pair.enabled().get(place) {
         Some(name) => queue_number(*name),
         None => NO_QUEUE,

@@ -272,7 +272,7 @@ module _ {C : Type 0} (all : Stands) where
         at : (place : Place) (s : State C) → Enabled s → Enabled (turned_at cells place name turn s).state
         at Driver s is = serves-driver name.side (stream name.side s).driver.queue.messages s is
         at Head s is = is
-        at (places.Module module) s is = named-enabled turn s (place_named name.place (stream name.side s).modules) is
+        at (places.Module owner) s is = named-enabled turn s (place_named name.place (stream name.side s).modules) is
 
   -- of a queue that is enabled
   pub turn-enabled : (cells : Cells C) (name : QueueName) (turn : Turn) (s : State C) → is_enabled name s.enabled ≡ true → Enabled s → Enabled (turned cells name turn s).state

@@ -2,7 +2,7 @@
 use Rattle.strm_laws.proofs.Prelude.{ℕ, zero, suc, ◌≡◌, ◌+◌, ◌-◌, ◌*◌, Bool, true, false, cond, List, [], ◌∷◌, ◌==◌, not, is_some, Option, None, Some}
 use Rattle.strm_laws.specs.Prelude.{Turn, MsgKind, HOPS, Place, Driver, QueueName, Side, Way, Up, Down, Asks, Spot, Cells, carried, in_turn}
 use Rattle.strm_laws.specs.Prelude.{Message, band_of, size_of, at_place, place_past, with_waiting, waits_there, QueuePair, pair_changed}
-use Rattle.strm_laws.specs.Prelude.{queue_changed, stood, change_among, is_open, other, place_of, without, IsOrdered, Queue, left_with, relieved}
+use Rattle.strm_laws.specs.Prelude.{queue_changed, stood, change_among, is_open, other, have_queues, without, IsOrdered, Queue, left_with, relieved}
 use Rattle.strm_laws.specs.Prelude.{turn_ended}
 use Rattle.std.specs.List.{AllByRecursion}
 use Rattle.strm_types.specs.declared.names.Place.TheVariants.{Head}
@@ -164,4 +164,4 @@ module _ {C : Type 0} (cells : Cells C) where
       at : (place : Place) (s : State C) → AreStreams s → AreStreams (turned_at cells place name turn s).state
       at Driver s all = serves-driver name.side (stream name.side s).driver.queue.messages s (all.0 name.side).driver.messages (all.0 name.side).driver.order all
       at Head s all = all
-      at (places.Module module) s all = named-good name turn s (place_named name.place (stream name.side s).modules) all
+      at (places.Module owner) s all = named-good name turn s (place_named name.place (stream name.side s).modules) all

@@ -29,7 +29,7 @@ module _ {C : Type 0} (cells : Cells C) (p : Dir → C → Bool) (numbered : Num
       at : (place : Place) → tests_at cells p place
       at Head = tt
       at Driver = tt
-      at (places.Module module) = ignores
+      at (places.Module owner) = ignores
 
   -- a journal from any state: what it adds to the books is what stands and has gone more
   pub follows : (s : State C) → NothingUnread s → AreIdle s → (entries : List PlainEntry) → IsLegal cells s entries

@@ -49,8 +49,8 @@ noted-adds side place earlier (Room way ∷ notes) names =
 
 pub without-adds : (name : QueueName) (names : List QueueName) → AddsNone names (without name names)
 without-adds name [] = omega arith
-without-adds name (x ∷ names) = at (not (same_queue x name))
+without-adds name (x ∷ names) = at (not (same_queue x name)) (without-adds name names)
   where
-    at : (stays : Bool) → count_others (cond stays (x ∷ without name names) (without name names)) ≤ count_others (x ∷ names)
-    at true = omega (arith, one-other x names, one-other x (without name names), without-adds name names)
-    at false = omega (arith, one-other x names, without-adds name names)
+    at : (stays : Bool) → count_others (without name names) ≤ count_others names → count_others (cond stays (x ∷ without name names) (without name names)) ≤ count_others (x ∷ names)
+    at true more = omega (arith, one-other x names, one-other x (without name names), more)
+    at false more = omega (arith, one-other x names, more)

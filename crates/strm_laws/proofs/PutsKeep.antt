@@ -1,7 +1,7 @@
 -- A put in a pair loses no cell, makes none that it doesn't tell, and leaves a side that isn't open nothing to be read.
 use Rattle.strm_laws.proofs.Prelude.{ℕ, zero, suc, ◌≡◌, ◌<◌, ◌≤◌, ◌+◌, ◌-◌, Bool, true, false, cond, List, [], ◌∷◌, length, refl, ap, ◌∙◌, arith}
 use Rattle.strm_laws.proofs.Prelude.{◌==◌, ◌&&◌, not, min, nat_le, nat_tests, weight-whole, set-all}
-use Rattle.strm_laws.specs.Prelude.{MODULES, Side, Way, Up, Down, Spot, Dir, with_made, Cells, Acted, Comes, Fate, Goes, Took, is_flush}
+use Rattle.strm_laws.specs.Prelude.{QueueName, MODULES, Side, Way, Up, Down, Spot, Dir, with_made, Cells, Acted, Comes, Fate, Goes, Took, is_flush}
 use Rattle.strm_laws.specs.Prelude.{is_bare_flush, Message, has_parts, weight_of, direction_at, is_open, put_among, head_put, driver_put}
 use Rattle.strm_laws.specs.Earlier.{driver_place, modules_on}
 use Rattle.strm_laws.specs.Kept.{state_weight}

@@ -210,21 +210,21 @@ module _ {C : Type 0} where
 
   module _ (cells : Cells C) (name : QueueName) (turn : Turn) where
     -- a turn of a module's queue
-    module-leaves : (all : Stands) (module : ModuleName) (s : State C) → EchoesOnce all → stands_of s ≡ all → AreStreams s → (module_turned cells (record name { place = places.Module module }) turn s).turn ≡ turn
-        → Leaves all (moves all s) s.enabled (module_turned cells (record name { place = places.Module module }) turn s).state
-    module-leaves all module s once is good answered = named (place_named (places.Module module) (stream name.side s).modules) refl answered
+    module-leaves : (all : Stands) (owner : ModuleName) (s : State C) → EchoesOnce all → stands_of s ≡ all → AreStreams s → (module_turned cells (record name { place = places.Module owner }) turn s).turn ≡ turn
+        → Leaves all (moves all s) s.enabled (module_turned cells (record name { place = places.Module owner }) turn s).state
+    module-leaves all owner s once is good answered = named (place_named (places.Module owner) (stream name.side s).modules) refl answered
       where
         called : QueueName
-        called = record name { place = places.Module module }
+        called = record name { place = places.Module owner }
 
-        named : (o : Option ℕ) → place_named (places.Module module) (stream name.side s).modules ≡ o → (turned_named cells called turn s o).turn ≡ turn → Leaves all (moves all s) s.enabled (turned_named cells called turn s o).state
+        named : (o : Option ℕ) → place_named (places.Module owner) (stream name.side s).modules ≡ o → (turned_named cells called turn s o).turn ≡ turn → Leaves all (moves all s) s.enabled (turned_named cells called turn s o).state
         named None none answered = (is, inr (omega arith, refl))
         named (Some at) there answered =
             let here : Spot = record { side = name.side; at = at; way = name.way } in
-            there-leaves all cells (posts_of all) (fits-once all once) here (named-least (places.Module module) 1 (places_of (take MODULES (stream name.side s).modules)) at there) called turn s is good (answers turn answered)
+            there-leaves all cells (posts_of all) (fits-once all once) here (named-least (places.Module owner) 1 (places_of (take MODULES (stream name.side s).modules)) at there) called turn s is good (answers turn answered)
           where
             answers : (turn : Turn) → (turned_there cells (record { side = name.side; at = at; way = name.way }) called turn s).turn ≡ turn
-                → Answers all cells (posts_of all) (fits-once all once) (record { side = name.side; at = at; way = name.way }) (named-least (places.Module module) 1 (places_of (take MODULES (stream name.side s).modules)) at there) turn (turned_there cells (record { side = name.side; at = at; way = name.way }) called turn s)
+                → Answers all cells (posts_of all) (fits-once all once) (record { side = name.side; at = at; way = name.way }) (named-least (places.Module owner) 1 (places_of (take MODULES (stream name.side s).modules)) at there) turn (turned_there cells (record { side = name.side; at = at; way = name.way }) called turn s)
             answers (Moved bytes) answered = tt
             answers Blocked answered = answered
             answers Idle answered = answered
@@ -233,19 +233,19 @@ module _ {C : Type 0} where
         (turned_at cells place called turn s).turn ≡ turn → Leaves all (moves all s) s.enabled (turned_at cells place called turn s).state
     turned-leaves all Head s once is good answered = (is, inr (omega arith, refl))
     turned-leaves all Driver s once is good answered = driver-leaves all cells (posts_of all) (fits-once all once) name.side (stream name.side s).driver.queue.messages s is refl
-    turned-leaves all (places.Module module) s once is good answered = module-leaves all module s once is good answered
+    turned-leaves all (places.Module owner) s once is good answered = module-leaves all owner s once is good answered
 
     -- where no ldterm stands each turn is a driver's, or does nothing
     plain-leaves : (all : Stands) (place : Place) (s : State C) → EchoesOnce all → NoLdterm all → stands_of s ≡ all → let called = record name { place = place } in
         Leaves all (moves all s) s.enabled (turned_at cells place called turn s).state
     plain-leaves all Head s once none is = (is, inr (omega arith, refl))
     plain-leaves all Driver s once none is = driver-leaves all cells (posts_of all) (fits-once all once) name.side (stream name.side s).driver.queue.messages s is refl
-    plain-leaves all (places.Module module) s once none is = named (place_named (places.Module module) (stream name.side s).modules) nowhere
+    plain-leaves all (places.Module owner) s once none is = named (place_named (places.Module owner) (stream name.side s).modules) nowhere
       where
-        nowhere : place_named (places.Module module) (stream name.side s).modules ≡ None
-        nowhere = named-none (places.Module module) MODULES 1 (stream name.side s).modules (ap (λ (ns : List ModuleName). list_any is_ldterm ns) (names-on all name.side s is) ∙ none name.side)
+        nowhere : place_named (places.Module owner) (stream name.side s).modules ≡ None
+        nowhere = named-none (places.Module owner) MODULES 1 (stream name.side s).modules (ap (λ (ns : List ModuleName). list_any is_ldterm ns) (names-on all name.side s is) ∙ none name.side)
 
-        named : (o : Option ℕ) → o ≡ None → Leaves all (moves all s) s.enabled (turned_named cells (record name { place = places.Module module }) turn s o).state
+        named : (o : Option ℕ) → o ≡ None → Leaves all (moves all s) s.enabled (turned_named cells (record name { place = places.Module owner }) turn s o).state
         named None nothing = (is, inr (omega arith, refl))
         named (Some at) nothing = absurd (cc)
 

@@ -129,4 +129,4 @@ module _ {C : Type 0} (cells : Cells C) where
       at : (place : Place) (t : State C) → SameBooks s t → let u = turned_at cells place name turn t in Books s u.gone u.state
       at Driver t same = booked-before cells s t _ _ same (serves-books name.side (stream name.side t).driver.queue.messages t)
       at Head t same = nothing-booked cells s t same
-      at (places.Module module) t same = booked-before cells s t _ _ same (module-books name turn t)
+      at (places.Module owner) t same = booked-before cells s t _ _ same (module-books name turn t)

@@ -68,4 +68,4 @@ module _ {C : Type 0} (P : State C → Type 0) (turns : Turns P) where
       at : (place : Place) (s : State C) → P s → P (turned_at cells place name turn s).state
       at Driver s holds = serves-hold cells name.side (stream name.side s).driver.queue.messages s holds
       at Head s holds = holds
-      at (places.Module module) s holds = turns.modules cells name turn s holds
+      at (places.Module owner) s holds = turns.modules cells name turn s holds

@@ -83,4 +83,4 @@ module _ {C : Type 0} (p : Dir → C → Bool) where
       at : (place : Place) → tests_at cells p place → (s : State C) → AreIdle s → Keeps (turned_at cells place name turn s) (state_weight p s)
       at Driver tests s idle = serves-keeps cells name.side (stream name.side s).driver.queue.messages s refl
       at Head tests s idle = omega arith
-      at (places.Module module) ignores s idle = module_turned-keeps p cells ignores name turn s idle
+      at (places.Module owner) ignores s idle = module_turned-keeps p cells ignores name turn s idle

@@ -74,7 +74,7 @@ module _ {C : Type 0} where
   abbrev pub turned_at : Cells C → Place → QueueName → Turn → State C → TurnOutcome C
   turned_at cells Driver name turn s = driver_turned cells name.side s
   turned_at cells Head name turn s = stayed_put Idle s
-  turned_at cells (places.Module module) name turn s = module_turned cells name turn s
+  turned_at cells (places.Module owner) name turn s = module_turned cells name turn s
 
   -- A turn of an enabled queue, which is answered so. Where a service procedure may stop within a message, the answer says
   -- how far it went.
@@ -85,7 +85,7 @@ module _ {C : Type 0} where
   abbrev pub whole_at : Place → Way → Stream C → Turn
   whole_at Driver way from = Moved (first_size from.driver.queue.messages)
   whole_at Head way from = Idle
-  whole_at (places.Module module) way from = whole_module (places.Module module) way from
+  whole_at (places.Module owner) way from = whole_module (places.Module owner) way from
 
   abbrev pub whole_turn : QueueName → State C → Turn
   whole_turn name s = whole_at name.place name.way (stream name.side s)

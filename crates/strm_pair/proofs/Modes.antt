@@ -95,10 +95,8 @@ abbrev pub driver_comes : Bool → Side → State ℕ → State ℕ
 driver_comes comes side s = record s { enabled = enable_if (comes && not (is_none_left (stream (other side) s).driver.queue.messages)) (driver_of (other side)) s.enabled }
 
 -- as no other module has one
-pub bare : (name : ModuleName) → same_module name names.Ldterm ≡ false → is_some (place_of name) ≡ false
-bare names.Ldterm other = absurd (cc)
-bare names.Ptem other = refl
-bare names.Pckt other = refl
+pub bare : (name : ModuleName) → same_module name names.Ldterm ≡ false → have_queues name ≡ false
+bare name other = other
 
 pub neither : (a b : Bool) → (a || b) ≡ false → (a ≡ false) × (b ≡ false)
 neither true b none = absurd (cc)
@@ -141,7 +139,7 @@ stays-there side p s = refl
 -- A module is pushed: the head may be told its mode before it stands there.
 pub pushed-is : (side : Side) (name : ModuleName) (p : Standing ℕ) (s : State ℕ) → named_by (Some name) ≡ Some p → AllByRecursion HasAsNamed (stream side s).modules
     → may_stand (named_by (Some name)) (stream side s).modules ≡ true → let t = mode_put side (mode_on_push name) s in
-    pushed_named side (named_by (Some name)) s ≡ record { state = driver_comes (is_some (place_of name)) side (with_modules side (p ∷ (stream side t.state).modules) t.state); gone = t.gone }
+    pushed_named side (named_by (Some name)) s ≡ record { state = driver_comes (have_queues name) side (with_modules side (p ∷ (stream side t.state).modules) t.state); gone = t.gone }
 pushed-is side names.Pckt p s is has may =
     ap (led []) (stays-there side (module_named names.Pckt) s) ∙ ap (λ q. led [] (driver_comes false side (with_modules side (q ∷ (stream side s).modules) s))) (ap or_new is)
 pushed-is side names.Ptem p s is has may =

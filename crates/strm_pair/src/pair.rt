@@ -13,6 +13,7 @@ ghost use Rattle.strm_laws.specs.Step.{replay, IsLegal};
 ghost use Rattle.strm_laws.specs.Kept.{told_by};
 ghost use Rattle.strm_laws.specs.Ledgers.{Balanced, is_booked, ledger_of, own_places_of, places_of};
 ghost use Rattle.strm_types.specs.declared.names.Dir.{Dir};
+ghost use Rattle.strm_types.specs.Names.{AreQueues};
 ghost use Rattle.strm_types.specs.Queue.{bytes_of};
 ghost use Rattle.strm_laws.specs.ModuleTurns.{place_named};
 ghost use Rattle.strm_laws.specs.Restorable.{Restorable};
@@ -133,6 +134,13 @@ impl<B: Blocks + Drop> Pair<B> {
         ensures { result.now ≡ self.now.state.enabled }
     {
         self.streams.enabled.as_slice()
+    }
+
+    /// Enabled queues are of places where queues stand.
+    pub fn enabled_are_queues(&self)
+        ensures { AreQueues self.now.state.enabled }
+    {
+        let _ = self.streams.enabled.as_slice();
     }
 
     /// The queue that was enabled first.

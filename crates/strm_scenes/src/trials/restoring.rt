@@ -347,13 +347,13 @@ const STOPPED: [&[u8]; 15] = [
 
 const LDTERM_READ: QueueName = QueueName {
     side: Side::Slave,
-    place: Place::Ldterm,
+    place: Place::Module(ModuleName::Ldterm),
     way: Way::Up,
 };
 
 const LDTERM_WRITE: QueueName = QueueName {
     side: Side::Slave,
-    place: Place::Ldterm,
+    place: Place::Module(ModuleName::Ldterm),
     way: Way::Down,
 };
 

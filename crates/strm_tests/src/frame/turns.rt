@@ -103,7 +103,7 @@ fn play_all<B: Blocks>(rt: &impl Abort, store: &mut B, rig: &mut Rig, rows: &[Ro
 
 const UPPER: &[QueueName] = &[QueueName {
     side: Side::Slave,
-    place: Place::Ldterm,
+    place: Place::Module(ModuleName::Ldterm),
     way: Way::Down,
 }];
 
