@@ -1,7 +1,6 @@
 //! Visits to any pair of the host: turns, looks and audits.
 
-ghost use Rattle.std.specs.Prelude.{◌≡◌, ◌<◌, ◌≤◌, None, IfNone, IfSome, length, slice_get, true};
-ghost use Rattle.strm_types.specs.Names.{has_queues_at};
+ghost use Rattle.std.specs.Prelude.{◌≡◌, ◌<◌, ◌≤◌, None, IfNone, IfSome, length, slice_get};
 ghost use Rattle.strm_laws.specs.Refusals.{enough};
 ghost use Rattle.strm_locks.specs.Systems.{Plan};
 ghost use Rattle.strm_pair.specs.Readiness.{readiness};
@@ -19,22 +18,12 @@ use crate::numbers::{NotDone, Outcome, not_done, number};
 use crate::settling::account;
 use std::alloc::Global;
 use strm_handle::{
-    NO_QUEUE, WRITE_BLOCKS_MOST, Went, bits_of, has_blocks, queue_number, refused, side_of, went,
+    NO_QUEUE, WRITE_BLOCKS_MOST, Went, bits_of, has_blocks, number_at, queue_number, refused,
+    side_of, went,
 };
 use strm_hosts::PAIRS;
 use strm_locks::{Busy, Made, NoBell, System};
-use strm_types::{QueueName, Refusal, Side};
-
-// A queue's number, or that of none.
-fn number_of_queue(queue: Option<QueueName>) -> u32
-    ensures queue { IfSome queue (λ name. has_queues_at name.place ≡ true) → queue_at result ≡ queue }
-    ensures few { IfSome queue (λ name. has_queues_at name.place ≡ true) → result ≤ 12 }
-{
-    match queue {
-        Some(name) => queue_number(name),
-        None => NO_QUEUE,
-    }
-}
+use strm_types::{Refusal, Side};
 
 // What a visit made, as a C program is told it.
 fn visit(made: Option<Made>) -> Visit
@@ -74,7 +63,7 @@ fn prospect(object: &Object, side: Side) -> Prospect
     pair.enabled_are_queues();
     Prospect {
         bits: bits_of(pair.ready(side), has_blocks),
-        queue: number_of_queue(pair.first_enabled()),
+        queue: number_at(pair.enabled(), 0),
     }
 }
 

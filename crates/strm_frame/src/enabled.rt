@@ -31,7 +31,10 @@ impl Model for Enabled {
 fn is_among(names: &[QueueName], name: QueueName) -> bool
     ensures { result ≡ is_enabled name names.now }
 {
-    names.contains(&name)
+    let Some((first, rest)) = names.split_first() else {
+        return false;
+    };
+    first.is_same(name) || is_among(rest, name)
 }
 
 impl Enabled {

@@ -1,7 +1,7 @@
 //! The numbers of `include/strm.h`, and what they stand for.
 
-ghost use Rattle.std.specs.Prelude.{◌≡◌, ◌<◌, Some, true};
-ghost use Rattle.strm_types.specs.Names.{has_queues_at};
+ghost use Rattle.std.specs.Prelude.{◌≡◌, ◌<◌, ◌≤◌, Some, slice_get, true};
+ghost use Rattle.strm_types.specs.Names.{AreQueues, has_queues_at};
 ghost use Rattle.strm_handle.specs.Numbers as codes;
 
 use crate::replies::Went;
@@ -113,6 +113,18 @@ pub fn queue_number(name: QueueName) -> u32
         (Side::Master, Place::Module(ModuleName::Pckt), Way::Down) => 21,
         (Side::Slave, Place::Module(ModuleName::Pckt), Way::Up) => 22,
         (Side::Slave, Place::Module(ModuleName::Pckt), Way::Down) => 23,
+    }
+}
+
+/// The number of the queue at a place of a list, and `NO_QUEUE` behind the last one.
+pub fn number_at(names: &[QueueName], place: usize) -> u32
+    requires { AreQueues names.now }
+    ensures told { codes.queue_at result ≡ slice_get names.now place }
+    ensures few { result ≤ 12 }
+{
+    match names.get(place) {
+        Some(name) => queue_number(*name),
+        None => NO_QUEUE,
     }
 }
 

@@ -127,8 +127,7 @@ module _ {C : Type 0} (cells : Cells C) where
   goes-at Down here again made left l ready works =
       output-idle (record here { way = Down }) (Some left) made l.write_queue.messages l (down-idle again left l ready)
   goes-at Up here again made left l ready works =
-      let up : Spot = record here { way = Up } in
-      (
+      let up : Spot = record here { way = Up } in (
         serves-orderly cells up made again (Some left) l (ready-orderly again Up left l ready) (ready-turn again Up left l ready),
         serves-leaves cells up made again left l (ready-may again Up left l ready) works,
       )

@@ -51,7 +51,7 @@ module _ {C : Type 0} (P : State C → Type 0) (stays : Stays P) where
         let relieves = at_place (end_relieves took here.way) false here.at on.modules in
         let earlier = earlier_at here.side here.at t.state here.way in
         let adds : AddsNone t.state.enabled (enable_if more name (enable_some relieves earlier t.state.enabled)) =
-                omega (arith, some-adds relieves earlier t.state.enabled, if-adds more name (enable_some relieves earlier t.state.enabled)) in
+        omega (arith, some-adds relieves earlier t.state.enabled, if-adds more name (enable_some relieves earlier t.state.enabled)) in
         outcome-holds t.ended _ _ (stays.names _ _ adds (ended-holds here took t.state behind)) holds
 
     asked-holds : (asks : Asks) (name : QueueName) (turn : Turn) (s : State C) → P s → P (asked_turn cells here asks name turn s).state

@@ -100,7 +100,7 @@ other-off name (x ∷ names) bare is = at (same_queue x name) refl is (other-off
         → suc (count_others (cond (not same) (x ∷ without name names) (without name names))) ≤ count_others (x ∷ names)
     at true same is more =
         let counts : ◌≡◌ {A = ℕ} (cond (not (has_queues_at x.place)) 1 0) 1 =
-                ap (λ b. cond (not b) 1 0) (subst (λ (q : QueueName). has_queues_at q.place ≡ false) (sym (same_queue-sound x name same)) bare) in
+        ap (λ b. cond (not b) 1 0) (subst (λ (q : QueueName). has_queues_at q.place ≡ false) (sym (same_queue-sound x name same)) bare) in
         omega (arith, counts, one-other x names, without-adds name names)
     at false same is more = let less = more is in omega (arith, less, one-other x names, one-other x (without name names))
 

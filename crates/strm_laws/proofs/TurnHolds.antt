@@ -47,11 +47,11 @@ module _ {C : Type 0} (P : State C → Type 0) (turns : Turns P) where
       let q = turned_queue (stream side went).driver.queue in
       let lets_go = not (size_of m == 0) && relieves q in
       let adds : AddsNone went.enabled (enable_if (not (is_none_left q.messages)) (driver_of side) (enable_some lets_go (before_driver side went) went.enabled)) =
-              omega (
-                arith,
-                some-adds lets_go (before_driver side went) went.enabled,
-                if-adds (not (is_none_left q.messages)) (driver_of side) (enable_some lets_go (before_driver side went) went.enabled),
-              ) in
+      omega (
+        arith,
+        some-adds lets_go (before_driver side went) went.enabled,
+        if-adds (not (is_none_left q.messages)) (driver_of side) (enable_some lets_go (before_driver side went) went.enabled),
+      ) in
       turns.named _ _ adds (turns.drivers side _ went (turns.given cells (up_across side from) m from (turns.drivers side (left_with rest (stream side s).driver.queue) s holds)))
 
   serves-hold : (cells : Cells C) (side : Side) (ms : List (Message C)) (s : State C) → P s → P (driver_serves cells side ms s).state
