@@ -31,10 +31,12 @@ impl Model for Enabled {
 fn is_among(names: &[QueueName], name: QueueName) -> bool
     ensures { result ≡ is_enabled name names.now }
 {
-    let Some((first, rest)) = names.split_first() else {
-        return false;
-    };
-    first.is_same(name) || is_among(rest, name)
+    for other in names {
+        if other.is_same(name) {
+            return true;
+        }
+    }
+    false
 }
 
 impl Enabled {

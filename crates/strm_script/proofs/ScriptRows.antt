@@ -35,7 +35,7 @@ commands-are-spelled = refl
 abbrev turn_of : Place → Way → Reading
 turn_of place way = Spoken (Turn (record { side = Master; place = place; way = way }))
 
-pub queues-are-spelled : map reading (codes "turn m.head.r" ∷ codes "turn m.head.w" ∷ codes "turn m.ldterm.r" ∷ codes "turn m.ldterm.w" ∷ codes "turn m.drv.r" ∷ codes "turn m.drv.w" ∷ codes "turn s.drv.w" ∷ []) ≡ turn_of Head Up ∷ turn_of Head Down ∷ turn_of Ldterm Up ∷ turn_of Ldterm Down ∷ turn_of Driver Up ∷ turn_of Driver Down ∷ Spoken (Turn (record { side = Slave; place = Driver; way = Down })) ∷ []
+pub queues-are-spelled : map reading (codes "turn m.head.r" ∷ codes "turn m.head.w" ∷ codes "turn m.ldterm.r" ∷ codes "turn m.ldterm.w" ∷ codes "turn m.drv.r" ∷ codes "turn m.drv.w" ∷ codes "turn s.drv.w" ∷ []) ≡ turn_of Head Up ∷ turn_of Head Down ∷ turn_of (places.Module modules.Ldterm) Up ∷ turn_of (places.Module modules.Ldterm) Down ∷ turn_of Driver Up ∷ turn_of Driver Down ∷ Spoken (Turn (record { side = Slave; place = Driver; way = Down })) ∷ []
 unfolding reading command_in token_len token_in last_in quoted_len number_in number_from digit_of number_to text_in text_from part_in is_name prio_in wanted_in queue_in side_at place_at way_in escaped hex_of
 queues-are-spelled = refl
 
