@@ -16,8 +16,8 @@ unfoldable pub use Rattle.strm_types.specs.Flush.{is_data_kind}
 pub use Rattle.strm_types.specs.Heads.{Head}
 unfoldable pub use Rattle.strm_types.specs.Kinds.{is_body_kind, is_control_kind, kind_number}
 pub use Rattle.strm_types.specs.Ldterms.{Between, Discipline, IsIdle, Stage, by_itself, discipline, is_between, waits_there}
-pub use Rattle.strm_types.specs.Message.{Message, is_high_priority, is_part}
-unfoldable pub use Rattle.strm_types.specs.Message.{cells_of, part, rank_of, size_of}
+pub use Rattle.strm_types.specs.Message.{Message, is_high_priority, is_part, part}
+unfoldable pub use Rattle.strm_types.specs.Message.{cells_of, rank_of, size_of}
 pub use Rattle.strm_types.specs.Modules.{stands}
 pub use Rattle.strm_types.specs.Names.{AreQueues, IsOnce, has_queues_at, has_service, has_service_at, have_queues, is_enabled, is_master, is_open}
 pub use Rattle.strm_types.specs.Names.{same_module, same_queue, same_way}

@@ -105,8 +105,8 @@ unfoldable pub use Rattle.strm_types.specs.Kinds.{is_body_kind, is_control_kind}
 pub use Rattle.strm_types.specs.LdtermCalls.{Begins, Ends, bytes_left}
 pub use Rattle.strm_types.specs.LdtermStands.{disciplined}
 pub use Rattle.strm_types.specs.Ldterms.{Discipline}
-pub use Rattle.strm_types.specs.Message.{Message, has_parts, is_high_priority, rank_of}
-unfoldable pub use Rattle.strm_types.specs.Message.{cells_of, data_message, is_held, part, size_of}
+pub use Rattle.strm_types.specs.Message.{Message, has_parts, is_high_priority, part, rank_of}
+unfoldable pub use Rattle.strm_types.specs.Message.{cells_of, data_message, is_held, size_of}
 pub use Rattle.strm_types.specs.ModuleQueues.{at_place, first_place, place_past}
 pub use Rattle.strm_types.specs.Modules.{act_among, change_among, stands, top_name, without_module}
 pub use Rattle.strm_types.specs.Names.{direction_at, direction_from, direction_of, driver_of, enable, enable_if, enable_some, head_of, is_enabled}
