@@ -74,7 +74,7 @@ place_listed places.Driver has = refl
 
 pub place_exact : IsExact place
 unfolding place
-place_exact = coded_where_exact has_queues_at place_code (places.Head ∷ places.Module modules.Ldterm ∷ places.Driver ∷ []) (refl, refl, refl, tt) place_listed
+place_exact = coded_where_exact has_queues_at place_code (places.Head ∷ places.Module modules.Ldterm ∷ places.Driver ∷ []) (refl, (refl, (refl, tt))) place_listed
 
 way_listed : (x : Way) → with_code way_code (way_code x) (Up ∷ Down ∷ []) ≡ Some x
 way_listed Up = refl
