@@ -59,14 +59,17 @@ whole-found owner way on at is = rw is refl
 -- a module whose queues are found has some
 found-has : (owner : ModuleName) (from : ℕ) (ps : List (Standing ℕ)) (at : ℕ) → named_from (places.Module owner) from (places_of ps) ≡ Some at → have_queues owner ≡ true
 found-has owner from [] at is = absurd (cc)
-found-has owner from (p ∷ ps) at is = by (module_name p) (have_queues (module_name p)) refl (same_module (module_name p) owner) refl is
+found-has owner from (p ∷ ps) at is =
+    by (module_name p) (have_queues (module_name p)) refl (same_module (module_name p) owner) refl (λ more. found-has owner (suc from) ps at more) is
   where
-    by : (name : ModuleName) (has : Bool) → have_queues name ≡ has → (same : Bool) → same_module name owner ≡ same
+    behind : Option ℕ
+    behind = named_from (places.Module owner) (suc from) (places_of ps)
+
+    by : (name : ModuleName) (has : Bool) → have_queues name ≡ has → (same : Bool) → same_module name owner ≡ same → (behind ≡ Some at → have_queues owner ≡ true)
         → named_from (places.Module owner) from (cond has (Some (places.Module name)) None ∷ places_of ps) ≡ Some at → have_queues owner ≡ true
-    by name false none same alike is = found-has owner (suc from) ps at is
-    by name true has true alike is = subst (λ n. have_queues n ≡ true) (same_module-sound name owner alike) has
-    by name true has false alike is =
-        found-has owner (suc from) ps at (sym (ap (λ b. cond b (Some from) (named_from (places.Module owner) (suc from) (places_of ps))) alike) ∙ is)
+    by name false none same alike more is = more is
+    by name true has true alike more is = subst (λ n. have_queues n ≡ true) (same_module-sound name owner alike) has
+    by name true has false alike more is = more (sym (ap (λ b. cond b (Some from) behind) alike) ∙ is)
 
 -- a turn that treats as many bytes as there are goes whole
 size-whole : (owner : ModuleName) (name : QueueName) (here : Spot) (s : State ℕ) (n : ℕ) → name.place ≡ places.Module owner → here ≡ record { side = name.side; at = here.at; way = name.way } → place_named name.place (stream name.side s).modules ≡ Some here.at

@@ -78,7 +78,7 @@ queue-found line name h =
 
 -- every name of a queue of a place where queues stand is read
 ldterm-only : (side : Side) (way : Way)
-    → let name = record { side = side; place = places.Module modules.Ldterm; way = way } in queue_in (queue_name name) ≡ Some name
+    → let name : QueueName = record { side = side; place = places.Module modules.Ldterm; way = way } in queue_in (queue_name name) ≡ Some name
 unfolding queue_in side_at place_at way_in
 ldterm-only Master Up = refl
 ldterm-only Master Down = refl
