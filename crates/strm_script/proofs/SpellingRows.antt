@@ -46,7 +46,7 @@ pub run-is-spelled : IsSpelled (Run 12) (codes "run 12")
 run-is-spelled = (words.Run, codes "run", codes " 12", refl, (12, codes "12", twelve, refl, refl), refl)
 
 pub turn-is-spelled : IsSpelled (Turn (record { side = Slave; place = places.Module modules.Ldterm; way = Up })) (codes "turn s.ldterm.r")
-turn-is-spelled = (words.Turn, codes "turn", codes " s.ldterm.r", refl, (record { side = Slave; place = places.Module modules.Ldterm; way = Up }, codes "s.ldterm.r", refl, (refl, refl), refl), refl)
+turn-is-spelled = (words.Turn, codes "turn", codes " s.ldterm.r", refl, (record { side = Slave; place = places.Module modules.Ldterm; way = Up }, codes "s.ldterm.r", (refl, refl), refl, refl), refl)
 
 pub close-is-spelled : IsSpelled (Call Slave Shut) (codes "close s")
 close-is-spelled = (words.Close, codes "close", codes " s", refl, (Slave, codes "s", refl, refl, refl), refl)
