@@ -49,7 +49,8 @@ queue_at n =
     else (if n == 8 then queue_of Slave (Module modules.Ldterm) Up else (if n == 9 then queue_of Slave (Module modules.Ldterm) Down
     else (if n == 10 then queue_of Slave Driver Up else (if n == 11 then queue_of Slave Driver Down else None)))))))))))
 
--- What a number in an answer stands for. No call takes those from 16 on, which are of modules that have no queues: of ptem 16 to 19, of pckt 20 to 23.
+-- What a number in an answer stands for. No call takes those from 16 on, which are of modules that have no queues: 16 to 19 of ptem, 20 to 23 of
+-- pckt.
 abbrev pub queue_told : ℕ → Option QueueName
 queue_told n =
     if n == 16 then queue_of Master (Module modules.Ptem) Up else (if n == 17 then queue_of Master (Module modules.Ptem) Down

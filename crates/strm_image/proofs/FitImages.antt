@@ -1,5 +1,6 @@
 -- A state that has what an image asks has one.
-use Rattle.strm_image.proofs.Prelude.{◌≡◌, ℕ, ◌<◌, ◌≤◌, true, not, List, [], ◌∷◌, length, map, refl, sym, ap, ◌∙◌, arith, ◌^◌, and_from, and_parts, eq-eqb}
+use Rattle.strm_image.proofs.Prelude.{◌≡◌, ℕ, ◌<◌, ◌≤◌, true, not, List, [], ◌∷◌, length, map, refl, sym, ap, ◌∙◌, arith, ◌^◌, and_from, and_parts}
+use Rattle.strm_image.proofs.Prelude.{eq-eqb}
 use Rattle.strm_image.proofs.Prelude.{lt-ltb}
 use Rattle.strm_image.specs.Prelude.{Book, BANDS, Dir, MasterToSlave, SlaveToMaster, ModuleName, Openness, Never, Open, Closed, Place, QueueName}
 use Rattle.strm_image.specs.Prelude.{Side, Master, Slave, Way, Up, Down, RULES, get, stands, AreQueues, IsOnce, has_queues_at, has_service}

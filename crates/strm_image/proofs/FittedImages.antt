@@ -1,8 +1,10 @@
 -- What has an image has what an image asks, and its state is a base: the other way round of FitImages.
-use Rattle.strm_image.proofs.Prelude.{◌≡◌, ◌&&◌, ℕ, ◌<◌, true, false, not, eqb, List, [], ◌∷◌, length, map, refl, ap, ◌∙◌, arith, ◌^◌, and_parts, eqb-true}
+use Rattle.strm_image.proofs.Prelude.{◌≡◌, ◌&&◌, ℕ, ◌<◌, true, false, not, eqb, List, [], ◌∷◌, length, map, refl, ap, ◌∙◌, arith, ◌^◌, and_parts}
+use Rattle.strm_image.proofs.Prelude.{eqb-true}
 use Rattle.strm_image.proofs.Prelude.{ltb-true, not-true}
 use Rattle.strm_image.specs.Prelude.{BANDS, Dir, MasterToSlave, SlaveToMaster, Place, QueueName, Side, Master, Slave, Way, Up, Down, Fates, RULES}
-use Rattle.strm_image.specs.Prelude.{get, IsOnce, has_service, has_service_at, have_queues, is_enabled, same_queue, side_from, times, IsOrdered, fates_of, IsBase}
+use Rattle.strm_image.specs.Prelude.{get, IsOnce, has_service, has_service_at, have_queues, is_enabled, same_queue, side_from, times, IsOrdered}
+use Rattle.strm_image.specs.Prelude.{fates_of, IsBase}
 use Rattle.strm_image.specs.Prelude.{FewBooked, GoodStream, IsThere, is_there_among, stands_of, IsAtRest, Standing, module_name, State, book}
 use Rattle.strm_image.specs.Prelude.{queues_of, stream, stream_queues, IsWithin}
 use Rattle.std.specs.List.{AllByRecursion, list_all, sum}

@@ -4,8 +4,10 @@ use Rattle.strm_image.proofs.Prelude.{sym, arith, false≢true, nat_lt, length-a
 use Rattle.strm_image.proofs.Prelude.{good-with, signals-fit}
 use Rattle.strm_image.specs.Prelude.{BANDS, BLOCK_SIZE, HIGH_PRIORITY_RANK, IOCTL_MAX, SIGNAL_LAST, ModuleName, Openness, Side, Master, Slave}
 use Rattle.strm_image.specs.Prelude.{QueueName, RULES, Free, Waiting, Answered, Termios, Winsize, is_data_kind, Discipline, discipline, QueuePair}
-use Rattle.strm_image.specs.Prelude.{stood, Message, cells_of, part, size_of, AreQueues, IsOnce, is_master, Flow, Queue, bytes_of, AreSignals, PlainSlot}
-use Rattle.strm_image.specs.Prelude.{answer_bytes, GoodModule, GoodModules, GoodStream, IsWhole, EachOnce, stands_of, Module, OfLdterm, OfPtem, OfPckt, Standing}
+use Rattle.strm_image.specs.Prelude.{stood, Message, cells_of, part, size_of, AreQueues, IsOnce, is_master, Flow, Queue, bytes_of, AreSignals}
+use Rattle.strm_image.specs.Prelude.{PlainSlot}
+use Rattle.strm_image.specs.Prelude.{answer_bytes, GoodModule, GoodModules, GoodStream, IsWhole, EachOnce, stands_of, Module, OfLdterm, OfPtem}
+use Rattle.strm_image.specs.Prelude.{OfPckt, Standing}
 use Rattle.strm_image.specs.Prelude.{module_name, module_queues, queues_of_modules, Stream, messages_in, queues_of, stream, stream_queues, IsWithin}
 use Rattle.std.specs.List.{AllByRecursion, sum_by}
 use Rattle.std.proofs.Math.Nat.{suc-mul, zero-mul}

@@ -2,7 +2,8 @@
 use Rattle.std.specs.Prelude.{ℕ, ◌+◌, Bool, true, false, not, ◌&&◌, ◌||◌, ◌==◌, nat_lt, List, [], ◌∷◌, ◌++◌}
 use Rattle.std.specs.List.{list_all, sum}
 use Rattle.strm_image.specs.Prelude.{Book, Both, Dir, MasterToSlave, SlaveToMaster, Openness, Place, QueueName, Side, Way, Up, Down, RULES, get}
-use Rattle.strm_image.specs.Prelude.{stands, has_service, have_queues, is_enabled, is_open, same_way, side_from, is_none_left, is_free, queued, inline, Standing}
+use Rattle.strm_image.specs.Prelude.{stands, has_service, have_queues, is_enabled, is_open, same_way, side_from, is_none_left, is_free, queued}
+use Rattle.strm_image.specs.Prelude.{inline, Standing}
 use Rattle.strm_image.specs.Prelude.{module_name, State, Stream, book, stream}
 use Rattle.strm_types.specs.declared.names.Place.TheVariants as places
 use Rattle.strm_image.specs.declared.versions.Version.{Version}

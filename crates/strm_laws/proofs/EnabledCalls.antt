@@ -5,7 +5,8 @@ use Rattle.strm_laws.specs.Prelude.{Caller, OpenMaster, OpenSlave, Shut, Push, P
 use Rattle.strm_laws.specs.Prelude.{ReadMode, ModuleName, Open, Closed, Place, Driver, QueueName, Side, Master, Slave, Way, Up, Down, Rule}
 use Rattle.strm_laws.specs.Prelude.{EndClosed, ModulePopped, Spot, Free, Cells, cells_written, of_all, queue_behind, writer_goes, Request, asked_of}
 use Rattle.strm_laws.specs.Prelude.{flush_bytes, flush_message, get_lets_go, get_queue, new_head, asking, ioctl_message, asks_group, group_behind}
-use Rattle.strm_laws.specs.Prelude.{Message, has_queues, without_module, direction_from, driver_of, enable_some, have_queues, is_open, place_of, same_module}
+use Rattle.strm_laws.specs.Prelude.{Message, has_queues, without_module, direction_from, driver_of, enable_some, have_queues, is_open, place_of}
+use Rattle.strm_laws.specs.Prelude.{same_module}
 use Rattle.strm_laws.specs.Prelude.{same_place}
 use Rattle.strm_laws.specs.Prelude.{same_queue, same_side, same_way, without, mode_message, is_none_left, read_lets_go, read_queue, slot_behind}
 use Rattle.std.specs.List.{AllByRecursion, list_any}

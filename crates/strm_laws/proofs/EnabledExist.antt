@@ -1,6 +1,7 @@
 -- Enabled queues exist: each is a driver's, or one of a module that stands on its side, and none is enabled twice. So it stays over puts and turns,
 -- which change no module's name (STREAMS Programming Guide, "Service Procedures"; qenable(9F)).
-use Rattle.strm_laws.proofs.Prelude.{ℕ, zero, suc, ◌≡◌, ◌-◌, Bool, true, false, cond, List, [], ◌∷◌, ◌++◌, map, refl, ap, subst, ◌∙◌, ◌&&◌, ◌||◌, not, min}
+use Rattle.strm_laws.proofs.Prelude.{ℕ, zero, suc, ◌≡◌, ◌-◌, Bool, true, false, cond, List, [], ◌∷◌, ◌++◌, map, refl, ap, subst, ◌∙◌, ◌&&◌, ◌||◌, not}
+use Rattle.strm_laws.proofs.Prelude.{min}
 use Rattle.strm_laws.proofs.Prelude.{nat_le, slice_index_or, Option, None, Some, once-without, same_queue-sound}
 use Rattle.strm_laws.specs.Prelude.{ModuleName, Place, Driver, QueueName, Side, Master, Slave, Way, Up, Down, Note, Enable, Room, MODULES}
 use Rattle.strm_laws.specs.Prelude.{place_before, driver_of, enable_found, enable_if, enable_some, is_enabled, other, same_queue, without}

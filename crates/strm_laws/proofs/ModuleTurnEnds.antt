@@ -1,6 +1,7 @@
 -- A turn of a module's queue keeps what stays so whatever modules stand, whatever is made, and at the puts at heads and drivers.
 use Rattle.strm_laws.proofs.Prelude.{ℕ, zero, suc, Bool, true, false, cond, arith, ◌==◌, not, Option, None, Some}
-use Rattle.strm_laws.specs.Prelude.{Turn, HOPS, QueueName, Side, Way, Asks, Spot, Cells, carried, in_turn, at_place, place_past, enable_if, enable_some}
+use Rattle.strm_laws.specs.Prelude.{Turn, HOPS, QueueName, Side, Way, Asks, Spot, Cells, carried, in_turn, at_place, place_past, enable_if}
+use Rattle.strm_laws.specs.Prelude.{enable_some}
 use Rattle.strm_laws.specs.Prelude.{end_relieves, has_more}
 use Rattle.std.specs.Prelude.{◌-◌, ◌*◌, ◌+◌}
 use Rattle.strm_types.specs.declared.spots.Asks.TheVariants as asked

@@ -1,6 +1,8 @@
 -- No name of a place without queues joins the enabled ones (qenable(9F)).
-use Rattle.strm_laws.proofs.Prelude.{ℕ, ◌≡◌, ◌≤◌, ◌+◌, Bool, true, false, cond, List, [], ◌∷◌, ◌++◌, refl, ap, arith, not, ◌&&◌, Option, None, Some, sum_by-cons}
-use Rattle.strm_laws.specs.Prelude.{QueueName, Side, Way, Place, Note, Enable, Room, enable_found, enable_if, enable_some, has_queues_at, is_enabled, same_queue, without}
+use Rattle.strm_laws.proofs.Prelude.{ℕ, ◌≡◌, ◌≤◌, ◌+◌, Bool, true, false, cond, List, [], ◌∷◌, ◌++◌, refl, ap, arith, not, ◌&&◌, Option, None, Some}
+use Rattle.strm_laws.proofs.Prelude.{sum_by-cons}
+use Rattle.strm_laws.specs.Prelude.{QueueName, Side, Way, Place, Note, Enable, Room, enable_found, enable_if, enable_some, has_queues_at, is_enabled}
+use Rattle.strm_laws.specs.Prelude.{same_queue, without}
 use Rattle.strm_types.specs.Names.{enable}
 use Rattle.strm_laws.specs.Earlier.{queue_named}
 use Rattle.strm_laws.specs.Puts.{noted}

@@ -4,7 +4,8 @@ use Rattle.strm_laws.proofs.Prelude.{Some, option_map, map-append}
 use Rattle.strm_laws.specs.Prelude.{ReadMode, ModuleName, Place, Driver, QueueName, Side, Master, Slave, Way, Up, Down, Einval, Rule}
 use Rattle.strm_laws.specs.Prelude.{ModulePopped, Free, Waiting, Acted, Carried, Fate, Took, has_ioctl, slot_dropped, of_all, Message, map_message}
 use Rattle.strm_laws.specs.Prelude.{QueuePair, has_queues, map_pair, messages_at, messages_on as waiting_on, stood, top_name, without_module}
-use Rattle.strm_laws.specs.Prelude.{enable_if, place_of, same_module, number_of, mode_message, map_acted, map_carried, map_fate, is_none_left, map_messages}
+use Rattle.strm_laws.specs.Prelude.{enable_if, place_of, same_module, number_of, mode_message, map_acted, map_carried, map_fate, is_none_left}
+use Rattle.strm_laws.specs.Prelude.{map_messages}
 use Rattle.strm_laws.specs.Prelude.{PlainSlot, cleared, line_gone, queues_cleared}
 use Rattle.strm_types.specs.declared.names.Place.TheVariants.{Head}
 use Rattle.strm_types.specs.declared.names.Place.TheVariants as places

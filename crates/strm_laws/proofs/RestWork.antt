@@ -3,7 +3,8 @@ use Rattle.strm_laws.proofs.Prelude.{ℕ, zero, suc, ◌≡◌, ◌≤◌, ◌<�
 use Rattle.strm_laws.proofs.Prelude.{refl, sym, ap, subst, ◌∙◌, arith, ◌&&◌, ◌||◌, not, nat_le, count_by, Option, None, Some, nat_tests, sum_by-cons}
 use Rattle.strm_laws.proofs.Prelude.{same_queue-sound}
 use Rattle.strm_laws.specs.Prelude.{Turn, Moved, Blocked, Idle, MODULES, ModuleName, Place, Driver, QueueName, Side, Master, Slave, Way, Up}
-use Rattle.strm_laws.specs.Prelude.{Down, EndClosed, Spot, Cells, Goes, Took, Message, cells_of, direction_at, driver_put, head_put, is_open, has_queues_at, have_queues, is_enabled, other, same_place, same_queue, without, place_of}
+use Rattle.strm_laws.specs.Prelude.{Down, EndClosed, Spot, Cells, Goes, Took, Message, cells_of, direction_at, driver_put, head_put, is_open}
+use Rattle.strm_laws.specs.Prelude.{has_queues_at, have_queues, is_enabled, other, same_place, same_queue, without, place_of}
 use Rattle.std.specs.List.{list_any}
 use Rattle.std.proofs.lemmas.List.Sums.{count_by-le-length}
 use Rattle.strm_types.specs.declared.names.ModuleName.TheVariants as names

@@ -3,7 +3,8 @@
 use Rattle.std.specs.Prelude.{Bool, true, false, not, if◌then◌else◌, List, [], ◌∷◌, ◌++◌, flat_map, Option, None, Some}
 use Rattle.strm_laws.specs.Prelude.{ReadMode, ByteStream, MessageKeep, ModuleName, Place, Driver, QueueName, Side, Way, Up, Down, Rule}
 use Rattle.strm_laws.specs.Prelude.{ModulePopped, Spot, Acted, Carried, slot_dropped, new_ldterm, Message, may_push, top_name, without_module}
-use Rattle.strm_laws.specs.Prelude.{enable_if, have_queues, place_of, same_module, mode_message, is_none_left, cleared, QueuePair, has_queues, messages_at, new_pair}
+use Rattle.strm_laws.specs.Prelude.{enable_if, have_queues, place_of, same_module, mode_message, is_none_left, cleared, QueuePair, has_queues}
+use Rattle.strm_laws.specs.Prelude.{messages_at, new_pair}
 use Rattle.strm_types.specs.declared.names.ModuleName.TheVariants as names
 use Rattle.strm_types.specs.declared.names.Place.TheVariants.{Head}
 use Rattle.strm_types.specs.declared.names.Place.TheVariants as places

@@ -81,10 +81,12 @@ module _ {C : Type 0} where
 abbrev pub queue_names : List QueueName
 queue_names =
     record { side = Master; place = Head; way = Up } ∷ record { side = Master; place = Head; way = Down }
-    ∷ record { side = Master; place = places.Module names.Ldterm; way = Up } ∷ record { side = Master; place = places.Module names.Ldterm; way = Down }
+    ∷ record { side = Master; place = places.Module names.Ldterm; way = Up }
+    ∷ record { side = Master; place = places.Module names.Ldterm; way = Down }
     ∷ record { side = Master; place = Driver; way = Up } ∷ record { side = Master; place = Driver; way = Down }
     ∷ record { side = Slave; place = Head; way = Up } ∷ record { side = Slave; place = Head; way = Down }
-    ∷ record { side = Slave; place = places.Module names.Ldterm; way = Up } ∷ record { side = Slave; place = places.Module names.Ldterm; way = Down }
+    ∷ record { side = Slave; place = places.Module names.Ldterm; way = Up }
+    ∷ record { side = Slave; place = places.Module names.Ldterm; way = Down }
     ∷ record { side = Slave; place = Driver; way = Up } ∷ record { side = Slave; place = Driver; way = Down } ∷ []
 
 -- how many names stand in a list of places where no queue stands: nothing adds one

@@ -5,7 +5,8 @@ use Rattle.std.specs.List.{AllByRecursion, list_any}
 use Rattle.strm_laws.specs.Prelude.{Put, Called, Turned, MsgKind, Ioctl, Iocack, Iocnak, Setopts, BANDS, IOCTL_MAX, IOCTL_END, MODULES, LINE_MAX}
 use Rattle.strm_laws.specs.Prelude.{COLUMN_MAX, Prio, High, ModuleName, Place, Driver, QueueName, Side, Way, Up, Down, Free, Termios}
 use Rattle.strm_laws.specs.Prelude.{AllSides, crosses, Request, Head as TheHead, is_data, PlainEntry, is_control_kind, is_body_kind, is_ioctl}
-use Rattle.strm_laws.specs.Prelude.{waits_there, Message, is_part, is_high_priority, is_master, is_open, have_queues, same_module, options_in, Flow, IsOrdered, Queue}
+use Rattle.strm_laws.specs.Prelude.{waits_there, Message, is_part, is_high_priority, is_master, is_open, have_queues, same_module, options_in, Flow}
+use Rattle.strm_laws.specs.Prelude.{IsOrdered, Queue}
 use Rattle.strm_laws.specs.Prelude.{QueuePair, has_queues}
 use Rattle.strm_types.specs.declared.modes.Prio.TheVariants.{Band}
 use Rattle.strm_types.specs.declared.names.ModuleName.TheVariants as names

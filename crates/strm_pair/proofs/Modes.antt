@@ -2,7 +2,8 @@
 use Rattle.strm_pair.proofs.Prelude.{ℕ, suc, ◌≡◌, Bool, true, false, cond, List, [], ◌∷◌, refl, sym, ap, ◌∙◌, arith, nat_tests, Option, None, Some}
 use Rattle.strm_pair.proofs.Prelude.{is_some, ◌&&◌, ◌||◌, not, nat_le, nat_lt, min, get-set-same}
 use Rattle.strm_pair.specs.Prelude.{MODULES, ReadMode, ModuleName, Side, Master, Slave, Up, EndClosed, plain, Carried, Fate, Goes, Took, before_among}
-use Rattle.strm_pair.specs.Prelude.{before_by, places_of, cells_of, first_place, stands, direction_at, driver_of, enable_if, have_queues, is_open, other}
+use Rattle.strm_pair.specs.Prelude.{before_by, places_of, cells_of, first_place, stands, direction_at, driver_of, enable_if, have_queues, is_open}
+use Rattle.strm_pair.specs.Prelude.{other}
 use Rattle.strm_pair.specs.Prelude.{same_module, mode_message, head_above, may_stand, mode_put, module_named, named_by, with_modules, delivered}
 use Rattle.strm_pair.specs.Prelude.{is_none_left, Standing, module_name, State, Stream, stream, with_stream}
 use Rattle.std.specs.Prelude.{length}

@@ -1,7 +1,8 @@
 -- A module that is pushed on a stack of others.
 use Rattle.strm_pair.proofs.Prelude.{ℕ, zero, suc, ◌≡◌, ◌≤◌, ◌<◌, ◌+◌, Bool, true, false, List, [], ◌∷◌, map, refl, sym, ap, subst, ◌∙◌, arith}
 use Rattle.strm_pair.proofs.Prelude.{false≢true, sum_by-cons, Option, None, is_some, Some, IfSome, Result, Ok, Err, ◌&&◌, not, nat_lt, once-self}
-use Rattle.strm_pair.specs.Prelude.{MODULES, ModuleName, stands, have_queues, same_module, stood, may_stand, module_named, named_by, Standing, kind_name}
+use Rattle.strm_pair.specs.Prelude.{MODULES, ModuleName, stands, have_queues, same_module, stood, may_stand, module_named, named_by, Standing}
+use Rattle.strm_pair.specs.Prelude.{kind_name}
 use Rattle.strm_pair.specs.Prelude.{module_name, StoreValue, list_at, all_of, AreHeld, Stack, Tables, QueuePair, owns, queues_in, queues_own}
 use Rattle.std.specs.List.{AllByRecursion}
 use Rattle.std.specs.Prelude.{MatchResult, length}

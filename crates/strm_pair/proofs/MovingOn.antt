@@ -1,5 +1,6 @@
 -- A turn that moved something treated its message whole, or a byte of it at least.
-use Rattle.strm_pair.proofs.Prelude.{ℕ, zero, suc, ◌≡◌, ◌≤◌, ◌<◌, ◌-◌, Bool, true, false, cond, List, [], ◌∷◌, length, map, take, inl, inr, refl, sym, ap}
+use Rattle.strm_pair.proofs.Prelude.{ℕ, zero, suc, ◌≡◌, ◌≤◌, ◌<◌, ◌-◌, Bool, true, false, cond, List, [], ◌∷◌, length, map, take, inl, inr, refl, sym}
+use Rattle.strm_pair.proofs.Prelude.{ap}
 use Rattle.strm_pair.proofs.Prelude.{subst, ◌∙◌, arith, ◌&&◌, nat_le, nat_lt, not, slice_index_or, Some, Option, None, nat_tests, FullFirst}
 use Rattle.strm_pair.proofs.Prelude.{kept-ahead, kind-is}
 use Rattle.strm_pair.specs.Prelude.{Turn, Moved, Blocked, Idle, MsgKind, STOP_BLOCKS, Data, Place, Driver, ModuleName, QueueName, Way, Spot, plain}

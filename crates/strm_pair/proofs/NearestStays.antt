@@ -1,7 +1,8 @@
 -- The nearest earlier queue goes by the names of the modules and by which have queues, so it is the same behind what a module does.
 use Rattle.strm_pair.proofs.Prelude.{ℕ, zero, suc, ◌≡◌, ◌-◌, Bool, cond, List, [], ◌∷◌, map, take, drop, refl, sym, ap, ◌∙◌, Option, None, Some}
 use Rattle.strm_pair.proofs.Prelude.{is_some, option_map, queue-names}
-use Rattle.strm_pair.specs.Prelude.{Side, Way, Up, Down, first_place, change_among, Queue, has_queues, have_queues, place_of, turn_ended, Master, Slave, Spot}
+use Rattle.strm_pair.specs.Prelude.{Side, Way, Up, Down, first_place, change_among, Queue, has_queues, have_queues, place_of, turn_ended, Master}
+use Rattle.strm_pair.specs.Prelude.{Slave, Spot}
 use Rattle.strm_pair.specs.Prelude.{queue_ended, State, stream, with_stream, before_among, before_at, before_by, places_of, Standing, module_name}
 use Rattle.strm_pair.specs.Prelude.{StoreValue}
 use Rattle.std.specs.List.{AllByRecursion}

@@ -2,7 +2,8 @@
 use Rattle.std.specs.Prelude.{ℕ, ◌≡◌, Bool, false, List, [], ◌∷◌, map, Option, None, Some, is_some}
 use Rattle.std.specs.List.{AllByRecursion}
 use Rattle.std.proofs.Common.{refl, ap}
-use Rattle.strm_pair.specs.Prelude.{ModuleName, Way, Spot, plain, disciplined, Message, have_queues, has_queues, stood, Module, OfLdterm, OfPtem, OfPckt}
+use Rattle.strm_pair.specs.Prelude.{ModuleName, Way, Spot, plain, disciplined, Message, have_queues, has_queues, stood, Module, OfLdterm, OfPtem}
+use Rattle.strm_pair.specs.Prelude.{OfPckt}
 use Rattle.strm_pair.specs.Prelude.{Standing, kind_name, module_name, module_puts, module_serves, without_kind_line, ldterm_of, StoreValue, SameOwn}
 use Rattle.strm_pair.specs.Prelude.{Fits, keeps_of, owns, queues_in, queues_own, standing_in, own-rests, ptem_in, pckt_in}
 use Rattle.strm_types.specs.Standings.{QueuePair}

@@ -2,7 +2,8 @@
 -- to that goes to the end of the first message.
 use Rattle.strm_script.proofs.Prelude.{◌≡◌, ℕ, zero, suc, ◌+◌, ◌-◌, ◌*◌, ◌≤◌, Bool, true, false, cond, List, [], ◌∷◌, map, Option, None, Some}
 use Rattle.strm_script.proofs.Prelude.{is_some, refl, sym, ap, subst, ◌∙◌, arith, eq-eqb, nat_tests}
-use Rattle.strm_script.specs.Prelude.{Turn, Moved, Blocked, Idle, ModuleName, Place, Head, Driver, QueueName, Side, Master, Slave, Way, Up, Down, plain}
+use Rattle.strm_script.specs.Prelude.{Turn, Moved, Blocked, Idle, ModuleName, Place, Head, Driver, QueueName, Side, Master, Slave, Way, Up, Down}
+use Rattle.strm_script.specs.Prelude.{plain}
 use Rattle.strm_script.specs.Prelude.{Message, place_named, State, Stream, stream, TurnOutcome, turned, whole_turn, first_at}
 use Rattle.strm_types.specs.declared.names.Place.TheVariants as places
 use Rattle.std.proofs.Common.{min, slice_index_or}

@@ -1,5 +1,6 @@
 -- What a script writes: its answers, in the order of its lines.
-use Rattle.std.specs.Prelude.{ℕ, zero, suc, nat_le, nat_lt, ◌&&◌, ◌||◌, ◌==◌, Bool, true, false, if◌then◌else◌, List, [], ◌∷◌, ◌++◌, length, map, Option, None, Some, option_map, is_some, Result, Ok, Err, unwrap_or, slice_get}
+use Rattle.std.specs.Prelude.{ℕ, zero, suc, nat_le, nat_lt, ◌&&◌, ◌||◌, ◌==◌, Bool, true, false, if◌then◌else◌, List, [], ◌∷◌, ◌++◌, length, map}
+use Rattle.std.specs.Prelude.{Option, None, Some, option_map, is_some, Result, Ok, Err, unwrap_or, slice_get}
 use Rattle.strm_script.specs.Prelude.{Turn, Moved, Blocked, Idle, Both, Caller, Dir, Master, Slave, Place, Head, Driver, QueueName, Up, Down}
 use Rattle.strm_script.specs.Prelude.{Refusal, Einval, Enxio, Enosr, place_named, get, no_fates, State, opening, stream, head_of, driver_of, Side}
 use Rattle.strm_script.specs.Prelude.{FlushQueues, first_at, Called, Turned, Prio, Wanted, plain, tallied, turned, whole_turn, Request, Reply, called}
@@ -199,7 +200,8 @@ by_get caller wanted cmax dmax account p = by_named caller (λ wanted. calls.Get
 abbrev pub module_queues : Side → State ℕ → List QueueName
 module_queues side s =
     if is_some (place_named (places.Module modules.Ldterm) (stream side s).modules)
-    then record { side = side; place = places.Module modules.Ldterm; way = Up } ∷ record { side = side; place = places.Module modules.Ldterm; way = Down } ∷ []
+    then record { side = side; place = places.Module modules.Ldterm; way = Up }
+    ∷ record { side = side; place = places.Module modules.Ldterm; way = Down } ∷ []
     else []
 
 -- the queues of a side's stream, from the head down
