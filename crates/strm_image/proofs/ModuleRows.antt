@@ -1,6 +1,6 @@
 -- The texts of modules are exact.
 use Rattle.strm_image.proofs.Prelude.{◌≡◌, ℕ, Bool, true, false, not, List, [], ◌∷◌, Option, Some, None, refl, is_some, and_parts}
-use Rattle.strm_image.specs.Prelude.{ModuleName, Discipline, Stage, Between, by_itself, is_between, Message, same_module, is_none_left, QueuePair}
+use Rattle.strm_image.specs.Prelude.{ModuleName, Discipline, Stage, Between, by_itself, is_between, Message, is_none_left, QueuePair}
 use Rattle.strm_image.specs.Prelude.{stood, ldterm_rests, Module, OfLdterm, OfPtem, OfPckt, Standing, ldterm_stands, module_name, discipline_of}
 use Rattle.strm_types.specs.declared.names.ModuleName.TheVariants as names
 use Rattle.strm_types.specs.Ldterms.{Begun, Answered}

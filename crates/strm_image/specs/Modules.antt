@@ -1,5 +1,5 @@
 -- The text of the modules of a stream.
-use Rattle.std.specs.Prelude.{ℕ, Bool, true, false, ◌&&◌, not, nat_le, List, [], ◌∷◌, ◌++◌, None, is_some}
+use Rattle.std.specs.Prelude.{ℕ, Bool, true, false, ◌&&◌, not, nat_le, List, [], ◌∷◌, ◌++◌, None}
 use Rattle.std.specs.List.{list_any}
 use Rattle.strm_image.specs.Prelude.{MODULES, ModuleName, COLUMN_MAX, Termios, Winsize, Between, Discipline, by_itself, same_module, new_pckt, Ptem}
 use Rattle.strm_image.specs.Prelude.{Queue, ldterm_rests, Module, OfPtem, OfPckt, Standing, ldterm_stands, module_name, discipline_of}

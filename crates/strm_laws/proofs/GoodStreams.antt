@@ -1,7 +1,7 @@
 -- What is put in a pair of good streams leaves them good, and what is sent on is good: so is all that comes of a delivery.
 use Rattle.strm_laws.proofs.Prelude.{ℕ, zero, suc, ◌≡◌, ◌≤◌, ◌-◌, Bool, true, false, cond, List, [], ◌∷◌, length, map, refl, sym, ap, subst, ◌∙◌}
 use Rattle.strm_laws.proofs.Prelude.{arith, false≢true, length-map, Some, set-all}
-use Rattle.strm_laws.specs.Prelude.{IOCTL_END, Dir, ModuleName, QueueName, Side, Up, EndClosed, Spot, with_made, AllSides, Cells, Acted, Goes, Took}
+use Rattle.strm_laws.specs.Prelude.{IOCTL_END, Dir, ModuleName, Side, Up, EndClosed, Spot, with_made, AllSides, Cells, Acted, Goes, Took}
 use Rattle.strm_laws.specs.Prelude.{driver_put, Head, head_put, Message, cells_of, act_among, change_among, put_among, direction_at, is_open, Queue}
 use Rattle.std.specs.List.{AllByRecursion}
 use Rattle.strm_types.specs.declared.names.Place.TheVariants as places

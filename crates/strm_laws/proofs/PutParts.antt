@@ -1,5 +1,5 @@
 -- What the put at a head, at a module and at a driver keeps, each put in a pair keeps, and with it each delivery.
-use Rattle.strm_laws.proofs.Prelude.{ℕ, suc, ◌-◌, Bool, true, false, cond, List, [], ◌∷◌, length, ◌==◌, ◌&&◌, nat_le, slice_index_or, Option, None}
+use Rattle.strm_laws.proofs.Prelude.{ℕ, suc, ◌-◌, Bool, true, false, cond, List, [], ◌∷◌, length, ◌==◌, ◌&&◌, nat_le, slice_index_or, None}
 use Rattle.strm_laws.proofs.Prelude.{PutHolds, carried-holds, in_turn-holds}
 use Rattle.strm_laws.specs.Prelude.{HOPS, MODULES, Dir, QueueName, Side, Way, Up, Down, Spot, with_made, Cells, Acted, Fate, Goes, Comes, Parcel}
 use Rattle.strm_laws.specs.Prelude.{Took, carried, in_turn, Message, with_waiting, put_among, is_bare_flush}

@@ -1,6 +1,6 @@
 -- The modules that stand on the streams are the same behind each put, and so each message costs what it did.
 use Rattle.strm_laws.proofs.Prelude.{ℕ, zero, suc, ◌≡◌, ◌-◌, Bool, List, [], ◌∷◌, map, refl, ap, ◌∙◌, Option, None, Some, PutHolds}
-use Rattle.strm_laws.specs.Prelude.{Dir, QueueName, Side, Master, Slave, Way, Spot, with_made, Cells, Acted, Message, place_past, waits_at}
+use Rattle.strm_laws.specs.Prelude.{Dir, Side, Master, Slave, Way, Spot, with_made, Cells, Acted, Message, place_past, waits_at}
 use Rattle.strm_laws.specs.Prelude.{with_waiting, queue_changed, act_among, change_among, put_among, is_open, Queue}
 use Rattle.strm_types.specs.ModuleQueues.{waits_past}
 use Rattle.strm_laws.specs.Puts.{made_above, put_at_driver, put_at_head, put_at_module, put_in}

@@ -1,6 +1,6 @@
 -- A head that is told its read mode, and what stands on the stream beside it.
 use Rattle.strm_pair.proofs.Prelude.{ℕ, suc, ◌≡◌, Bool, true, false, cond, List, [], ◌∷◌, refl, sym, ap, ◌∙◌, arith, nat_tests, Option, None, Some}
-use Rattle.strm_pair.proofs.Prelude.{is_some, ◌&&◌, ◌||◌, not, nat_le, nat_lt, min, get-set-same}
+use Rattle.strm_pair.proofs.Prelude.{◌&&◌, ◌||◌, not, nat_le, nat_lt, min, get-set-same}
 use Rattle.strm_pair.specs.Prelude.{MODULES, ReadMode, ModuleName, Side, Master, Slave, Up, EndClosed, plain, Carried, Fate, Goes, Took, before_among}
 use Rattle.strm_pair.specs.Prelude.{before_by, places_of, cells_of, first_place, stands, direction_at, driver_of, enable_if, have_queues, is_open}
 use Rattle.strm_pair.specs.Prelude.{other}
