@@ -60,7 +60,6 @@ fn prospect(object: &Object, side: Side) -> Prospect
 {
     let pair = &object.pair;
     let has_blocks = has_blocks(pair, WRITE_BLOCKS_MOST, 0);
-    pair.enabled_are_queues();
     Prospect {
         bits: bits_of(pair.ready(side), has_blocks),
         queue: number_at(pair.enabled(), 0),

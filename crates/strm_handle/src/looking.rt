@@ -23,7 +23,6 @@ pub fn enabled(alloc: Global, handle: &mut Handle, place: usize) -> u32
     let Some(kept) = handle.take(alloc) else {
         return NO_QUEUE;
     };
-    kept.pair.enabled_are_queues();
     let queue = number_at(kept.pair.enabled(), place);
     handle.put(kept);
     queue

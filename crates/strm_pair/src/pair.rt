@@ -129,18 +129,12 @@ impl<B: Blocks + Drop> Pair<B> {
         self.base.write(&self.store, &self.streams, &self.fates);
     }
 
-    /// The queues that are enabled, in order of enabling.
+    /// The queues that are enabled, in order of enabling: each is of a place where queues stand.
     pub fn enabled(&self) -> &[QueueName]
-        ensures { result.now ≡ self.now.state.enabled }
+        ensures names { result.now ≡ self.now.state.enabled }
+        ensures queues { AreQueues result.now }
     {
         self.streams.enabled.as_slice()
-    }
-
-    /// Enabled queues are of places where queues stand.
-    pub fn enabled_are_queues(&self)
-        ensures { AreQueues self.now.state.enabled }
-    {
-        let _ = self.streams.enabled.as_slice();
     }
 
     /// The queue that was enabled first.
