@@ -12,7 +12,7 @@ use Rattle.strm_locks.specs.declared.held.Made.{Made}
 use Rattle.strm_locks.specs.Audits.{IsAudited}
 use Rattle.strm_locks.specs.Books.{LockId}
 use Rattle.strm_locks.specs.Turns.{IsLook, IsVisit, Visited}
-use Rattle.strm_handle.specs.Numbers.{queue_at, side_at, turn_at}
+use Rattle.strm_handle.specs.Numbers.{queue_at, queue_told, side_at, turn_at}
 use Rattle.strm_handle.specs.Ready.{bits_of}
 use Rattle.strm_ends.specs.declared.accounts.Account.{Account}
 use Rattle.strm_ends.specs.declared.accounts.Prospect.{Prospect}
@@ -38,7 +38,7 @@ answer_told (Err refusal) v = (v.refusal ≡ number_of refusal) × (v.went ≡ r
 
 abbrev pub TellsVisit : Option Made → Visit → Type 0
 TellsVisit None v = v ≡ record { queue = 12; refusal = 0; went = record { kind = 0; moved = 0 } }
-TellsVisit (Some made) v = (queue_at v.queue ≡ Some made.queue) × answer_told made.answer v
+TellsVisit (Some made) v = (queue_told v.queue ≡ Some made.queue) × answer_told made.answer v
 
 abbrev pub TurnsFirst : ℕ → (was told : Visit) → Seated → Outcome → Seated → Type 0
 TurnsFirst pair was told a r b =

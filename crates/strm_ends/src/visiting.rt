@@ -18,22 +18,12 @@ use crate::numbers::{NotDone, Outcome, not_done, number};
 use crate::settling::account;
 use std::alloc::Global;
 use strm_handle::{
-    NO_QUEUE, WRITE_BLOCKS_MOST, Went, bits_of, has_blocks, queue_number, refused, side_of, went,
+    NO_QUEUE, WRITE_BLOCKS_MOST, Went, bits_of, has_blocks, number_at, queue_number, refused,
+    side_of, went,
 };
 use strm_hosts::PAIRS;
 use strm_locks::{Busy, Made, NoBell, System};
-use strm_types::{QueueName, Refusal, Side};
-
-// A queue's number, or that of none.
-fn number_of_queue(queue: Option<QueueName>) -> u32
-    ensures queue { queue_at result ≡ queue }
-    ensures few { result ≤ 12 }
-{
-    match queue {
-        Some(name) => queue_number(name),
-        None => NO_QUEUE,
-    }
-}
+use strm_types::{Refusal, Side};
 
 // What a visit made, as a C program is told it.
 fn visit(made: Option<Made>) -> Visit
@@ -72,7 +62,7 @@ fn prospect(object: &Object, side: Side) -> Prospect
     let has_blocks = has_blocks(pair, WRITE_BLOCKS_MOST, 0);
     Prospect {
         bits: bits_of(pair.ready(side), has_blocks),
-        queue: number_of_queue(pair.first_enabled()),
+        queue: number_at(pair.enabled(), 0),
     }
 }
 

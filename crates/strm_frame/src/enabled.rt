@@ -2,14 +2,14 @@
 
 ghost use Rattle.std.specs.Prelude.{◌≡◌, ◌≤◌, [], length};
 ghost use Rattle.std.specs.Bool.{OnTrue};
-ghost use Rattle.strm_types.specs.Names.{is_enabled, enable, enable_if, enable_found, without};
+ghost use Rattle.strm_types.specs.Names.{AreQueues, is_enabled, enable, enable_if, enable_found, without};
 ghost use Rattle.strm_types.specs.Modules.{without_module};
 
 use arrayvec::ArrayVec;
 use std::marker::Model;
-use strm_types::{ModuleName, QueueName, Side, Way};
+use strm_types::{ModuleName, Place, QueueName, Side, Way};
 
-/// The enabled queues, in order of enabling, each once. Contracts see their names as a list.
+/// The enabled queues, in order of enabling, each once, and none of a place without queues. Contracts see their names as a list.
 #[derive(Drop)]
 pub struct Enabled {
     names: ArrayVec<QueueName, 12>,
@@ -18,20 +18,25 @@ pub struct Enabled {
 impl Model for Enabled {
     ghost use Rattle.std.specs.Prelude.{List};
     ghost use Rattle.strm_types.specs.declared.names.QueueName.{QueueName};
-    ghost use Rattle.strm_types.specs.Names.{IsOnce};
+    ghost use Rattle.strm_types.specs.Names.{AreQueues, IsOnce};
 
     ghost Value = { List QueueName };
 
     ghost view = { λ e. e.names.items };
 
-    ghost invariant = { λ e. IsOnce e.names.items };
+    ghost invariant = { λ e. IsOnce e.names.items × AreQueues e.names.items };
 }
 
 // Whether a name is one of these.
 fn is_among(names: &[QueueName], name: QueueName) -> bool
     ensures { result ≡ is_enabled name names.now }
 {
-    names.contains(&name)
+    for other in names {
+        if other.is_same(name) {
+            return true;
+        }
+    }
+    false
 }
 
 impl Enabled {
@@ -48,6 +53,7 @@ impl Enabled {
     pub fn as_slice(&self) -> &[QueueName]
         ensures names { result.now ≡ self.now }
         ensures few { length result.now ≤ 12 }
+        ensures queues { AreQueues result.now }
     {
         self.names.as_slice()
     }
@@ -63,11 +69,11 @@ impl Enabled {
         }
     }
 
-    /// Enables a queue, behind all others, unless it is enabled.
+    /// Enables a queue, behind all others, unless it is enabled. A place without queues has none that could be.
     pub fn enable(&mut self, name: QueueName)
         ensures { self.new ≡ enable name self.old }
     {
-        if !self.contains(name) {
+        if name.place.has_queues() && !self.contains(name) {
             self.names.push(name);
         }
     }
@@ -122,17 +128,16 @@ impl Enabled {
     pub fn forget(&mut self, side: Side, name: ModuleName)
         ensures { self.new ≡ without_module side name self.old }
     {
-        if let Some(place) = name.place() {
-            self.remove(QueueName {
-                side,
-                place,
-                way: Way::Up,
-            });
-            self.remove(QueueName {
-                side,
-                place,
-                way: Way::Down,
-            });
-        }
+        let place = Place::Module(name);
+        self.remove(QueueName {
+            side,
+            place,
+            way: Way::Up,
+        });
+        self.remove(QueueName {
+            side,
+            place,
+            way: Way::Down,
+        });
     }
 }

@@ -10,7 +10,7 @@ use Rattle.strm_types.specs.Events as events
 use Rattle.strm_types.specs.Journal.{PlainEntry, entries_in, entry_in, entry_len, room_of, room_used}
 use Rattle.strm_handle.specs.declared.entries.Cursor.{Cursor}
 use Rattle.strm_handle.specs.declared.entries.Entered.{Entered}
-use Rattle.strm_handle.specs.Numbers.{queue_at, turn_at}
+use Rattle.strm_handle.specs.Numbers.{queue_told, turn_at}
 use Rattle.strm_handle.specs.Calls.{answer_in, caller_at, event_at}
 use Rattle.strm_handle.specs.Kept.{KeptPair}
 
@@ -26,7 +26,7 @@ turned_of _ _ = None
 abbrev pub entry_at : Entered → List ℕ → Option PlainEntry
 entry_at told bytes =
     if told.kind == 0 then called_of (caller_at told.ask) (event_at told.ask (take told.brings bytes)) (answer_in told.reply (drop told.brings bytes))
-    else (if told.kind == 1 then turned_of (queue_at told.queue) (turn_at told.went.kind told.went.moved) else None)
+    else (if told.kind == 1 then turned_of (queue_told told.queue) (turn_at told.went.kind told.went.moved) else None)
 
 -- numbers that tell a stored entry, over its bytes
 abbrev pub Enters : Entered → Entry ℕ → Type 0

@@ -1,9 +1,11 @@
 -- A pair as a handle keeps it: with what its maker chose, whether a full journal begins anew, and how many blocks are in reserve.
-use Rattle.std.specs.Prelude.{ℕ, ◌≡◌, ◌<◌, ◌≤◌, ◌+◌, ◌&&◌, ◌||◌, Bool, true, false, not, nat_lt, nat_le, if◌then◌else◌, List, [], length, Option, None, Some, Result, Ok, Err}
+use Rattle.std.specs.Prelude.{ℕ, ◌≡◌, ◌<◌, ◌≤◌, ◌+◌, ◌&&◌, ◌||◌, Bool, true, false, not, nat_lt, nat_le, if◌then◌else◌, List, [], length, Option}
+use Rattle.std.specs.Prelude.{None, Some, Result, Ok, Err}
 use Rattle.strm_types.specs.declared.events.Event.TheVariants.{Write, Put, Ioctl}
 use Rattle.strm_types.specs.declared.limits.Config.{Config}
+use Rattle.strm_types.specs.declared.names.ModuleName.TheVariants as names
 use Rattle.strm_types.specs.declared.names.Place.{Place}
-use Rattle.strm_types.specs.declared.names.Place.TheVariants.{Head, Ldterm, Driver}
+use Rattle.strm_types.specs.declared.names.Place.TheVariants.{Head, Module, Driver}
 use Rattle.strm_types.specs.declared.names.Side.{Side}
 use Rattle.strm_types.specs.declared.names.Way.{Way}
 use Rattle.strm_types.specs.declared.names.Way.TheVariants.{Up, Down}
@@ -81,7 +83,8 @@ is_long side place way s = nat_le 64 (length (messages_at (record { side = side;
 
 abbrev pub has_many : Side → State ℕ → Bool
 has_many side s =
-    is_long (other side) Head Up s || (is_long (other side) Ldterm Up s || (is_long side Driver Down s || is_long side Ldterm Down s))
+    is_long (other side) Head Up s
+    || (is_long (other side) (Module names.Ldterm) Up s || (is_long side Driver Down s || is_long side (Module names.Ldterm) Down s))
 
 abbrev pub is_held_back : Side → ℕ → KeptPair → Bool
 is_held_back side blocks k = nat_lt 0 k.reserve && (not (enough (blocks + k.reserve) k.pair.free) && has_many side k.pair.state)

@@ -17,7 +17,7 @@ use Rattle.strm_types.specs.declared.names.Dir.{Dir}
 use Rattle.strm_types.specs.declared.names.ModuleName.{ModuleName}
 use Rattle.strm_types.specs.declared.names.ModuleName.TheVariants as modules
 use Rattle.strm_types.specs.declared.names.Place.{Place}
-use Rattle.strm_types.specs.declared.names.Place.TheVariants.{Head, Ldterm, Driver}
+use Rattle.strm_types.specs.declared.names.Place.TheVariants.{Head, Module, Driver}
 use Rattle.strm_types.specs.declared.names.QueueName.{QueueName}
 use Rattle.strm_types.specs.declared.names.Side.{Side}
 use Rattle.strm_types.specs.declared.names.Side.TheVariants.{Master, Slave}
@@ -35,18 +35,29 @@ side_at n = if n == 0 then Some Master else (if n == 1 then Some Slave else None
 abbrev pub module_at : ℕ → Option ModuleName
 module_at n = if n == 1 then Some modules.Ldterm else (if n == 2 then Some modules.Ptem else (if n == 3 then Some modules.Pckt else None))
 
--- a queue: of the master 0 to 5, of the slave 6 to 11, from the head down, each place's read queue before its write queue
+-- A queue of a place where queues stand: of the master 0 to 5, of the slave 6 to 11, from the head down, each place's read queue before its write
+-- queue. Of modules ldterm alone has queues.
 abbrev queue_of : Side → Place → Way → Option QueueName
 queue_of side place way = Some (record { side = side; place = place; way = way })
 
 abbrev pub queue_at : ℕ → Option QueueName
 queue_at n =
     if n == 0 then queue_of Master Head Up else (if n == 1 then queue_of Master Head Down
-    else (if n == 2 then queue_of Master Ldterm Up else (if n == 3 then queue_of Master Ldterm Down
+    else (if n == 2 then queue_of Master (Module modules.Ldterm) Up else (if n == 3 then queue_of Master (Module modules.Ldterm) Down
     else (if n == 4 then queue_of Master Driver Up else (if n == 5 then queue_of Master Driver Down
     else (if n == 6 then queue_of Slave Head Up else (if n == 7 then queue_of Slave Head Down
-    else (if n == 8 then queue_of Slave Ldterm Up else (if n == 9 then queue_of Slave Ldterm Down
+    else (if n == 8 then queue_of Slave (Module modules.Ldterm) Up else (if n == 9 then queue_of Slave (Module modules.Ldterm) Down
     else (if n == 10 then queue_of Slave Driver Up else (if n == 11 then queue_of Slave Driver Down else None)))))))))))
+
+-- What a number in an answer stands for. No call takes those from 16 on, which are of modules that have no queues: 16 to 19 of ptem, 20 to 23 of
+-- pckt.
+abbrev pub queue_told : ℕ → Option QueueName
+queue_told n =
+    if n == 16 then queue_of Master (Module modules.Ptem) Up else (if n == 17 then queue_of Master (Module modules.Ptem) Down
+    else (if n == 18 then queue_of Slave (Module modules.Ptem) Up else (if n == 19 then queue_of Slave (Module modules.Ptem) Down
+    else (if n == 20 then queue_of Master (Module modules.Pckt) Up else (if n == 21 then queue_of Master (Module modules.Pckt) Down
+    else (if n == 22 then queue_of Slave (Module modules.Pckt) Up else (if n == 23 then queue_of Slave (Module modules.Pckt) Down
+    else queue_at n)))))))
 
 -- a priority: a band, or 256 for high
 abbrev pub prio_at : ℕ → Option Prio

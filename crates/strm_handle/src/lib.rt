@@ -41,7 +41,7 @@ pub use imaging::image;
 pub use kept::{give, refused};
 pub use looking::{enabled, first_size, ledger, sizes};
 pub use making::{free, make};
-pub use numbers::{NO_QUEUE, queue_number, side_number, side_of, went};
+pub use numbers::{NO_QUEUE, number_at, queue_number, side_number, side_of, went};
 pub use polling::{WRITE_BLOCKS_MOST, bits_of, ready, room};
 pub use recording::{next_entry, restart};
 pub use replies::{Books, Left, Reply, Sizes, Went};

@@ -9,7 +9,7 @@ ghost use Rattle.strm_handle.specs.Outcomes.{AtHandle, named, Tells, books_told}
 
 use crate::handle::Handle;
 use crate::kept::refused;
-use crate::numbers::{NO_QUEUE, queue_number, queue_of, side_of};
+use crate::numbers::{NO_QUEUE, number_at, queue_of, side_of};
 use crate::replies::{Books, Sizes};
 use std::alloc::Global;
 use strm_types::Refusal;
@@ -23,10 +23,7 @@ pub fn enabled(alloc: Global, handle: &mut Handle, place: usize) -> u32
     let Some(kept) = handle.take(alloc) else {
         return NO_QUEUE;
     };
-    let queue = match kept.pair.enabled().get(place) {
-        Some(name) => queue_number(*name),
-        None => NO_QUEUE,
-    };
+    let queue = number_at(kept.pair.enabled(), place);
     handle.put(kept);
     queue
 }

@@ -1,6 +1,7 @@
 //! The numbers of `include/strm.h`, and what they stand for.
 
-ghost use Rattle.std.specs.Prelude.{◌≡◌, ◌<◌, Some};
+ghost use Rattle.std.specs.Prelude.{◌≡◌, ◌<◌, ◌≤◌, Some, slice_get, true};
+ghost use Rattle.strm_types.specs.Names.{AreQueues, has_queues_at};
 ghost use Rattle.strm_handle.specs.Numbers as codes;
 
 use crate::replies::Went;
@@ -70,14 +71,14 @@ pub(crate) fn queue_of(number: u32) -> Option<QueueName>
     let (side, place, way) = match number {
         0 => (Side::Master, Place::Head, Way::Up),
         1 => (Side::Master, Place::Head, Way::Down),
-        2 => (Side::Master, Place::Ldterm, Way::Up),
-        3 => (Side::Master, Place::Ldterm, Way::Down),
+        2 => (Side::Master, Place::Module(ModuleName::Ldterm), Way::Up),
+        3 => (Side::Master, Place::Module(ModuleName::Ldterm), Way::Down),
         4 => (Side::Master, Place::Driver, Way::Up),
         5 => (Side::Master, Place::Driver, Way::Down),
         6 => (Side::Slave, Place::Head, Way::Up),
         7 => (Side::Slave, Place::Head, Way::Down),
-        8 => (Side::Slave, Place::Ldterm, Way::Up),
-        9 => (Side::Slave, Place::Ldterm, Way::Down),
+        8 => (Side::Slave, Place::Module(ModuleName::Ldterm), Way::Up),
+        9 => (Side::Slave, Place::Module(ModuleName::Ldterm), Way::Down),
         10 => (Side::Slave, Place::Driver, Way::Up),
         11 => (Side::Slave, Place::Driver, Way::Down),
         _ => return None,
@@ -85,24 +86,45 @@ pub(crate) fn queue_of(number: u32) -> Option<QueueName>
     Some(QueueName { side, place, way })
 }
 
-/// The number of a queue.
+/// The number of a queue: one that calls take, where queues stand at its place.
 pub fn queue_number(name: QueueName) -> u32
-    ensures name { codes.queue_at result ≡ Some name }
-    ensures few { result < 12 }
+    ensures name { codes.queue_told result ≡ Some name }
+    ensures taken { has_queues_at name.place ≡ true → codes.queue_at result ≡ Some name }
+    ensures few { has_queues_at name.place ≡ true → result < 12 }
 {
     match (name.side, name.place, name.way) {
         (Side::Master, Place::Head, Way::Up) => 0,
         (Side::Master, Place::Head, Way::Down) => 1,
-        (Side::Master, Place::Ldterm, Way::Up) => 2,
-        (Side::Master, Place::Ldterm, Way::Down) => 3,
+        (Side::Master, Place::Module(ModuleName::Ldterm), Way::Up) => 2,
+        (Side::Master, Place::Module(ModuleName::Ldterm), Way::Down) => 3,
         (Side::Master, Place::Driver, Way::Up) => 4,
         (Side::Master, Place::Driver, Way::Down) => 5,
         (Side::Slave, Place::Head, Way::Up) => 6,
         (Side::Slave, Place::Head, Way::Down) => 7,
-        (Side::Slave, Place::Ldterm, Way::Up) => 8,
-        (Side::Slave, Place::Ldterm, Way::Down) => 9,
+        (Side::Slave, Place::Module(ModuleName::Ldterm), Way::Up) => 8,
+        (Side::Slave, Place::Module(ModuleName::Ldterm), Way::Down) => 9,
         (Side::Slave, Place::Driver, Way::Up) => 10,
         (Side::Slave, Place::Driver, Way::Down) => 11,
+        (Side::Master, Place::Module(ModuleName::Ptem), Way::Up) => 16,
+        (Side::Master, Place::Module(ModuleName::Ptem), Way::Down) => 17,
+        (Side::Slave, Place::Module(ModuleName::Ptem), Way::Up) => 18,
+        (Side::Slave, Place::Module(ModuleName::Ptem), Way::Down) => 19,
+        (Side::Master, Place::Module(ModuleName::Pckt), Way::Up) => 20,
+        (Side::Master, Place::Module(ModuleName::Pckt), Way::Down) => 21,
+        (Side::Slave, Place::Module(ModuleName::Pckt), Way::Up) => 22,
+        (Side::Slave, Place::Module(ModuleName::Pckt), Way::Down) => 23,
+    }
+}
+
+/// The number of the queue at a place of a list, and `NO_QUEUE` behind the last one.
+pub fn number_at(names: &[QueueName], place: usize) -> u32
+    requires { AreQueues names.now }
+    ensures told { codes.queue_at result ≡ slice_get names.now place }
+    ensures few { result ≤ 12 }
+{
+    match names.get(place) {
+        Some(name) => queue_number(*name),
+        None => NO_QUEUE,
     }
 }
 

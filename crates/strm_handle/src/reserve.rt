@@ -7,7 +7,7 @@ ghost use Rattle.strm_handle.specs.Kept.{has_many, is_long, sends};
 
 use strm_pair::Pair;
 use strm_raw::RawStore;
-use strm_types::{Event, Place, QueueName, Side, Way};
+use strm_types::{Event, ModuleName, Place, QueueName, Side, Way};
 
 /// So many messages on a queue are many.
 const MANY: usize = 64;
@@ -26,9 +26,9 @@ pub(crate) fn has_many(pair: &Pair<RawStore>, side: Side) -> bool
 {
     let other = side.other();
     is_long(pair, other, Place::Head, Way::Up)
-        || (is_long(pair, other, Place::Ldterm, Way::Up)
+        || (is_long(pair, other, Place::Module(ModuleName::Ldterm), Way::Up)
             || (is_long(pair, side, Place::Driver, Way::Down)
-                || is_long(pair, side, Place::Ldterm, Way::Down)))
+                || is_long(pair, side, Place::Module(ModuleName::Ldterm), Way::Down)))
 }
 
 /// Whether so many blocks of each kind are free, and others beside them.

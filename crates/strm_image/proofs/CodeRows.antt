@@ -1,8 +1,8 @@
 -- The values that stand as one byte are exact.
-use Rattle.strm_image.proofs.Prelude.{◌≡◌, Bool, true, false, [], ◌∷◌, Some, refl}
+use Rattle.strm_image.proofs.Prelude.{◌≡◌, Bool, true, false, [], ◌∷◌, Some, refl, sym, ap}
 use Rattle.strm_image.specs.Prelude.{MsgKind, Data, Proto, Sig, Ctl, Ioctl, Setopts, Iocack, Iocnak, Pcproto, Pcsig, Read, Flush, Stop, Start, Hangup}
 use Rattle.strm_image.specs.Prelude.{Error, ControlMode, ReadMode, ModuleName, Openness, Never, Open, Closed, Place, Side, Master, Slave, Way, Up}
-use Rattle.strm_image.specs.Prelude.{Down, kind_number, mode_number}
+use Rattle.strm_image.specs.Prelude.{Down, has_queues_at, kind_number, mode_number}
 use Rattle.strm_types.specs.declared.modes.ControlMode.TheVariants as controls
 use Rattle.strm_types.specs.declared.modes.ReadMode.TheVariants as reads
 use Rattle.strm_types.specs.declared.names.ModuleName.TheVariants as modules
@@ -11,7 +11,8 @@ use Rattle.strm_image.specs.declared.versions.Version.{Version}
 use Rattle.strm_image.specs.declared.versions.Version.TheVariants.{First, Second}
 use Rattle.strm_image.specs.Codes.{all_kinds, control_code, control_mode, flag, flag_code, kind, module_code, module_kind, openness, openness_code, place, place_code, read_mode, side, side_code, version, version_code, way, way_code}
 use Rattle.strm_image.specs.Format.{IsExact, with_code}
-use Rattle.strm_image.proofs.Formats.{coded_exact}
+use Rattle.strm_types.proofs.EnabledNames.{queues-ldterm}
+use Rattle.strm_image.proofs.Formats.{coded_exact, coded_where_exact}
 
 -- Each value is the first one with its code.
 
@@ -66,14 +67,14 @@ pub side_exact : IsExact side
 unfolding side
 side_exact = coded_exact side_code (Master ∷ Slave ∷ []) side_listed
 
-place_listed : (x : Place) → with_code place_code (place_code x) (places.Head ∷ places.Ldterm ∷ places.Driver ∷ []) ≡ Some x
-place_listed places.Head = refl
-place_listed places.Ldterm = refl
-place_listed places.Driver = refl
+place_listed : (x : Place) → has_queues_at x ≡ true → with_code place_code (place_code x) (places.Head ∷ places.Module modules.Ldterm ∷ places.Driver ∷ []) ≡ Some x
+place_listed places.Head has = refl
+place_listed (places.Module name) has = ap (λ name. Some (places.Module name)) (sym (queues-ldterm name has))
+place_listed places.Driver has = refl
 
 pub place_exact : IsExact place
 unfolding place
-place_exact = coded_exact place_code (places.Head ∷ places.Ldterm ∷ places.Driver ∷ []) place_listed
+place_exact = coded_where_exact has_queues_at place_code (places.Head ∷ places.Module modules.Ldterm ∷ places.Driver ∷ []) (refl, (refl, (refl, tt))) place_listed
 
 way_listed : (x : Way) → with_code way_code (way_code x) (Up ∷ Down ∷ []) ≡ Some x
 way_listed Up = refl

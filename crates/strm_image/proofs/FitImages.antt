@@ -1,17 +1,18 @@
 -- A state that has what an image asks has one.
-use Rattle.strm_image.proofs.Prelude.{◌≡◌, ℕ, ◌<◌, ◌≤◌, true, not, List, [], ◌∷◌, length, map, refl, sym, ap, ◌∙◌, arith, ◌^◌, and_from, eq-eqb}
+use Rattle.strm_image.proofs.Prelude.{◌≡◌, ℕ, ◌<◌, ◌≤◌, true, not, List, [], ◌∷◌, length, map, refl, sym, ap, ◌∙◌, arith, ◌^◌, and_from, and_parts}
+use Rattle.strm_image.proofs.Prelude.{eq-eqb}
 use Rattle.strm_image.proofs.Prelude.{lt-ltb}
 use Rattle.strm_image.specs.Prelude.{Book, BANDS, Dir, MasterToSlave, SlaveToMaster, ModuleName, Openness, Never, Open, Closed, Place, QueueName}
-use Rattle.strm_image.specs.Prelude.{Side, Master, Slave, Way, Up, Down, RULES, get, stands, IsOnce, has_service, has_service_at, same_module}
+use Rattle.strm_image.specs.Prelude.{Side, Master, Slave, Way, Up, Down, RULES, get, stands, AreQueues, IsOnce, has_queues_at, has_service}
+use Rattle.strm_image.specs.Prelude.{has_service_at, have_queues, same_module}
 use Rattle.strm_image.specs.Prelude.{same_queue, same_way, times, IsOrdered, Queue, IsThere, is_there_among, stands_of, Standing, module_name, State}
 use Rattle.strm_image.specs.Prelude.{queues_of, stream, stream_queues}
-use Rattle.std.specs.Prelude.{◌||◌}
+use Rattle.std.specs.Prelude.{◌&&◌, ◌||◌}
 use Rattle.std.specs.List.{AllByRecursion, list_all, list_any}
-use Rattle.strm_types.specs.declared.names.ModuleName.TheVariants as modules
 use Rattle.strm_types.specs.declared.names.Place.TheVariants as places
 use Rattle.strm_types.specs.Names.{same_place, same_side}
-use Rattle.strm_laws.specs.Restorable.{is_ldterm}
-use Rattle.strm_types.proofs.EnabledNames.{once-room}
+use Rattle.strm_laws.specs.StackCosts.{Stands, stands_on}
+use Rattle.strm_types.proofs.EnabledNames.{once-room, same_module-self}
 use Rattle.strm_laws.proofs.RestorableSteps.{opening-restorable}
 use Rattle.strm_image.specs.declared.versions.Version.TheVariants.{Second}
 use Rattle.strm_image.specs.Codes.{openness, place, side, version, way}
@@ -30,20 +31,18 @@ unfolding side
 side_fits Master = refl
 side_fits Slave = refl
 
-place_fits : (p : Place) → place.fits p ≡ true
+place_fits : (p : Place) → has_queues_at p ≡ true → place.fits p ≡ true
 unfolding place
-place_fits places.Head = refl
-place_fits places.Ldterm = refl
-place_fits places.Driver = refl
+place_fits p has = has
 
 way_fits : (w : Way) → way.fits w ≡ true
 unfolding way
 way_fits Up = refl
 way_fits Down = refl
 
-name_fits : (n : QueueName) → queue_name.fits n ≡ true
+name_fits : (n : QueueName) → has_queues_at n.place ≡ true → queue_name.fits n ≡ true
 unfolding queue_name
-name_fits n = and_from _ _ (side_fits n.side) (and_from _ _ (place_fits n.place) (way_fits n.way))
+name_fits n has = and_from _ _ (side_fits n.side) (and_from _ _ (place_fits n.place has) (way_fits n.way))
 
 same_sides : (s : Side) → same_side s s ≡ true
 same_sides Master = refl
@@ -51,7 +50,7 @@ same_sides Slave = refl
 
 same_places : (p : Place) → same_place p p ≡ true
 same_places places.Head = refl
-same_places places.Ldterm = refl
+same_places (places.Module name) = same_module-self name
 same_places places.Driver = refl
 
 same_ways : (w : Way) → same_way w w ≡ true
@@ -64,32 +63,37 @@ same_queues n = rw (same_sides n.side, same_places n.place, same_ways n.way) ref
 pub is_times : IsCount same_queue times
 is_times = record { none = λ n. refl; more = λ n m ns. refl }
 
--- there are twelve names
-pub few_names : (ns : List QueueName) → IsOnce ns → length ns ≤ 12
-few_names [] once = omega arith
-few_names (n ∷ ns) once =
-    let room : length ns < 12 = once-room ns n (others_once same_queue same_queues times is_times n ns once) (first_absent same_queue same_queues times is_times n ns once) in
+-- there are twelve names of places where queues stand
+pub few_names : (ns : List QueueName) → IsOnce ns → AreQueues ns → length ns ≤ 12
+few_names [] once are = omega arith
+few_names (n ∷ ns) once are =
+    let before = others_once same_queue same_queues times is_times n ns once in
+    let room : length ns < 12 = once-room ns n before are.1 are.0 (first_absent same_queue same_queues times is_times n ns once) in
     omega (arith, room)
 
 -- a queue that is there has service
 served : (p : Place) (w : Way) (ps : List (Standing ℕ)) → is_there_among p w (map module_name ps) ≡ true → has_service_at p ≡ true
 served places.Head w ps there = absurd cc
-served places.Ldterm w ps there = refl
+served (places.Module name) w ps there = refl
 served places.Driver w ps there = refl
 
-is_same : (name : ModuleName) → is_ldterm name ≡ same_module name modules.Ldterm
-is_same modules.Ldterm = refl
-is_same modules.Ptem = refl
-is_same modules.Pckt = refl
+-- and its place has queues
+has_there : (p : Place) (w : Way) (on : List ModuleName) → is_there_among p w on ≡ true → has_queues_at p ≡ true
+has_there places.Head w on there = refl
+has_there (places.Module name) w on there = (and_parts (have_queues name) (list_any (λ n. same_module n name) on) there).0
+has_there places.Driver w on there = refl
 
-pub ldterm_stands : (ps : List (Standing ℕ)) → list_any is_ldterm (map module_name ps) ≡ stands module_name modules.Ldterm ps
-ldterm_stands [] = refl
-ldterm_stands (p ∷ ps) =
-    ap (λ b. b || list_any is_ldterm (map module_name ps)) (is_same (module_name p)) ∙ ap (λ b. same_module (module_name p) modules.Ldterm || b) (ldterm_stands ps)
+pub are_queues : (all : Stands) (ns : List QueueName) → AllByRecursion (λ n. IsThere all n) ns → AreQueues ns
+are_queues all [] there = tt
+are_queues all (n ∷ ns) there = (has_there n.place n.way (stands_on n.side all) there.0, are_queues all ns there.1)
+
+pub names_stand : (name : ModuleName) (ps : List (Standing ℕ)) → list_any (λ n. same_module n name) (map module_name ps) ≡ stands module_name name ps
+names_stand name [] = refl
+names_stand name (p ∷ ps) = ap (λ b. same_module (module_name p) name || b) (names_stand name ps)
 
 stands_there : (p : Place) (w : Way) (ps : List (Standing ℕ)) → is_there_among p w (map module_name ps) ≡ true → has_queue_at p w ps ≡ true
 stands_there places.Head w ps there = absurd cc
-stands_there places.Ldterm w ps there = sym (ldterm_stands ps) ∙ there
+stands_there (places.Module name) w ps there = sym (ap (λ b. have_queues name && b) (names_stand name ps)) ∙ there
 stands_there places.Driver Up ps there = absurd cc
 stands_there places.Driver Down ps there = refl
 
@@ -117,12 +121,12 @@ record Behind (s : State ℕ) (before ns : List QueueName) : Type 0 where
 
 behind_fits : (s : State ℕ) (before : List QueueName) (n : QueueName) (ns : List QueueName) → Behind s before (n ∷ ns) → ((enabled_behind before).fits n ≡ true) × Behind s (next_enabled n before) ns
 unfolding enabled_behind AreNew IsStanding
-behind_fits s before n ns b = (and_from _ _ (name_fits n) (and_from _ _ (standing s n b.there.0).0 (ap not b.new.0)), record { new = b.new.1; there = b.there.1 })
+behind_fits s before n ns b = (and_from _ _ (name_fits n (are_queues (stands_of s) (n ∷ ns) b.there).0) (and_from _ _ (standing s n b.there.0).0 (ap not b.new.0)), record { new = b.new.1; there = b.there.1 })
 
 enabled_fits : (s : State ℕ) (ns : List QueueName) → IsOnce ns → AllByRecursion (λ n. IsThere (stands_of s) n) ns → enabled.fits ns ≡ true
 unfolding enabled
 enabled_fits s ns once there =
-    counted_fits next_enabled enabled_behind byte [] ns (lt-ltb (length ns) 256 (omega (arith, few_names ns once)))
+    counted_fits next_enabled enabled_behind byte [] ns (lt-ltb (length ns) 256 (omega (arith, few_names ns once (are_queues (stands_of s) ns there))))
     (chain_fits next_enabled enabled_behind (Behind s) (behind_fits s) [] ns (record { new = all_new same_queue same_queues times is_times ns once; there = there }))
 
 -- ---- ledgers

@@ -12,7 +12,7 @@ use Rattle.std.specs.Prelude.{Option, None, Some}
 use Rattle.std.specs.List.{AllByRecursion}
 use Rattle.strm_types.specs.declared.modes.ControlMode.TheVariants as controls
 use Rattle.strm_types.specs.declared.modes.ReadMode.TheVariants as reads
-use Rattle.strm_types.specs.declared.names.ModuleName.TheVariants as names
+use Rattle.strm_types.proofs.EnabledNames.{same_module-self}
 use Rattle.strm_laws.specs.Stacked.{KindRests}
 use Rattle.strm_image.specs.declared.versions.QueueKind.TheVariants as queues
 use Rattle.strm_image.specs.declared.versions.Version.TheVariants.{Second}
@@ -65,11 +65,6 @@ each_fits : (ps : List (Standing ℕ)) → AllByRecursion GoodModule ps → AllB
 each_fits [] good idle words queues = tt
 each_fits (p ∷ ps) good idle words queues = (module_fits p good.0 idle.0 words.0 queues.0, each_fits ps good.1 idle.1 words.1 queues.1)
 
-same_name : (n : ModuleName) → same_module n n ≡ true
-same_name names.Ldterm = refl
-same_name names.Ptem = refl
-same_name names.Pckt = refl
-
 -- how often a name stands among others
 unfoldable pub names_count : ModuleName → List ModuleName → ℕ
 names_count name ns = times_there name ns (length ns)
@@ -94,7 +89,7 @@ below_fits above p ps b = (and_from _ _ b.each.0 (ap not b.new.0), record { new 
 modules_fit : (ps : List (Standing ℕ)) → GoodModules ps → AllByRecursion (λ p. (module_format Second).fits p ≡ true) ps → (modules Second).fits ps ≡ true
 unfolding modules
 modules_fit ps good each =
-    let new = all_new same_module same_name names_count is_names_count (map module_name ps) (names_once (map module_name ps) good.once) in
+    let new = all_new same_module same_module-self names_count is_names_count (map module_name ps) (names_once (map module_name ps) good.once) in
     counted_fits next_names (module_below Second) (only are_few byte) [] ps (and_from _ _ (lt-ltb (length ps) 256 (omega (arith, good.few))) (le-leb (length ps) MODULES good.few))
     (chain_fits next_names (module_below Second) Below below_fits [] ps (record { new = new; each = each }))
 

@@ -1,8 +1,10 @@
 -- What has an image has what an image asks, and its state is a base: the other way round of FitImages.
-use Rattle.strm_image.proofs.Prelude.{◌≡◌, ℕ, ◌<◌, true, false, not, eqb, List, [], ◌∷◌, length, map, refl, ap, ◌∙◌, arith, ◌^◌, and_parts, eqb-true}
+use Rattle.strm_image.proofs.Prelude.{◌≡◌, ◌&&◌, ℕ, ◌<◌, true, false, not, eqb, List, [], ◌∷◌, length, map, refl, ap, ◌∙◌, arith, ◌^◌, and_parts}
+use Rattle.strm_image.proofs.Prelude.{eqb-true}
 use Rattle.strm_image.proofs.Prelude.{ltb-true, not-true}
 use Rattle.strm_image.specs.Prelude.{BANDS, Dir, MasterToSlave, SlaveToMaster, Place, QueueName, Side, Master, Slave, Way, Up, Down, Fates, RULES}
-use Rattle.strm_image.specs.Prelude.{get, IsOnce, has_service, has_service_at, is_enabled, same_queue, side_from, times, IsOrdered, fates_of, IsBase}
+use Rattle.strm_image.specs.Prelude.{get, IsOnce, has_service, has_service_at, have_queues, is_enabled, same_queue, side_from, times, IsOrdered}
+use Rattle.strm_image.specs.Prelude.{fates_of, IsBase}
 use Rattle.strm_image.specs.Prelude.{FewBooked, GoodStream, IsThere, is_there_among, stands_of, IsAtRest, Standing, module_name, State, book}
 use Rattle.strm_image.specs.Prelude.{queues_of, stream, stream_queues, IsWithin}
 use Rattle.std.specs.List.{AllByRecursion, list_all, sum}
@@ -17,7 +19,7 @@ use Rattle.strm_image.specs.HasImage.{AreFates, Balances, HasImage, HasNumbers, 
 use Rattle.strm_image.specs.Image.{Account, Imaged, account, are_balanced, are_quiet, are_there, body, enabled, enabled_behind, has_queue_at, image, is_balanced, is_booked, is_mark, is_number, is_quiet, is_there, laid_on, mark, next_enabled, queue_name, rule_counts, version_of, versioned}
 use Rattle.strm_image.specs.Streams.{laid}
 use Rattle.strm_image.proofs.EachOnce.{AreNew, new_once}
-use Rattle.strm_image.proofs.FitImages.{is_times, ldterm_stands}
+use Rattle.strm_image.proofs.FitImages.{is_times, names_stand}
 use Rattle.strm_image.proofs.Fitted.{all_join, all_so, chain_holds, counted_parts, u32_below, u64_below}
 use Rattle.strm_image.proofs.FittedStreams.{stream_told}
 use Rattle.strm_image.proofs.LaterRows.{image_later}
@@ -55,7 +57,7 @@ enabled_told ns fits =
 -- a queue with service, of a stream, is one that may be enabled
 there_among : (p : Place) (w : Way) (ps : List (Standing ℕ)) → has_service_at p ≡ true → has_queue_at p w ps ≡ true → is_there_among p w (map module_name ps) ≡ true
 there_among places.Head w ps served there = absurd cc
-there_among places.Ldterm w ps served there = ldterm_stands ps ∙ there
+there_among (places.Module name) w ps served there = ap (λ b. have_queues name && b) (names_stand name ps) ∙ there
 there_among places.Driver Up ps served there = absurd cc
 there_among places.Driver Down ps served there = refl
 

@@ -9,7 +9,7 @@ use Rattle.strm_image.specs.Prelude.{stood, GoodModule, GoodStream, IsShut, IsWh
 use Rattle.strm_image.specs.Prelude.{IsAtRest, Module, OfLdterm, OfPtem, OfPckt, Standing, ldterm_stands, module_name, module_queues}
 use Rattle.strm_image.specs.Prelude.{queues_of_modules, Stream, stream_queues, IsWithin}
 use Rattle.std.specs.List.{AllByRecursion}
-use Rattle.strm_types.specs.declared.names.ModuleName.TheVariants as names
+use Rattle.strm_types.proofs.EnabledNames.{same_module-sound}
 use Rattle.strm_laws.specs.Restorable.{IsWork}
 use Rattle.strm_laws.proofs.StackOnce.{nothing-there}
 use Rattle.strm_image.specs.declared.versions.QueueKind.TheVariants as queues
@@ -126,12 +126,6 @@ kind_told (OfPckt p) (Some pair) fits = absurd cc
 module_told : (p : Standing ℕ) → (module_format Second).fits p ≡ true → IsTold p
 module_told p fits = kind_told p.part p.queues fits
 
-same_name_is : (a b : ModuleName) → same_module a b ≡ true → a ≡ b
-same_name_is names.Ldterm names.Ldterm e = refl
-same_name_is names.Ptem names.Ptem e = refl
-same_name_is names.Pckt names.Pckt e = refl
-same_name_is _ _ e = absurd cc
-
 -- A name stands among the first of others no more often than among all.
 among_all : (name : ModuleName) (ns : List ModuleName) (at : ℕ) → times_there name ns at ≤ names_count name ns
 unfolding names_count
@@ -140,7 +134,7 @@ among_all name (n ∷ ns) zero = omega arith
 among_all name (n ∷ ns) (suc at) = omega (arith, top-times name n ns at, top-times name n ns (length ns), among_all name ns at)
 
 each_once : (ns : List ModuleName) → AreNew same_module [] ns → EachOnce ns
-each_once ns new = record { once = λ name at. omega (arith, among_all name ns at, new_once same_module same_name_is names_count is_names_count ns new name) }
+each_once ns new = record { once = λ name at. omega (arith, among_all name ns at, new_once same_module same_module-sound names_count is_names_count ns new name) }
 
 -- modules of which each is told, and none has a name above
 record AreTold (above : List ModuleName) (ps : List (Standing ℕ)) : Type 0 where

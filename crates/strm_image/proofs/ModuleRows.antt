@@ -1,9 +1,10 @@
 -- The texts of modules are exact.
 use Rattle.strm_image.proofs.Prelude.{◌≡◌, ℕ, Bool, true, false, not, List, [], ◌∷◌, Option, Some, None, refl, is_some, and_parts}
-use Rattle.strm_image.specs.Prelude.{ModuleName, Discipline, Stage, Between, by_itself, is_between, Message, same_module, is_none_left, QueuePair}
+use Rattle.strm_image.specs.Prelude.{ModuleName, Discipline, Stage, Between, by_itself, is_between, Message, is_none_left, QueuePair}
 use Rattle.strm_image.specs.Prelude.{stood, ldterm_rests, Module, OfLdterm, OfPtem, OfPckt, Standing, ldterm_stands, module_name, discipline_of}
 use Rattle.strm_types.specs.declared.names.ModuleName.TheVariants as names
 use Rattle.strm_types.specs.Ldterms.{Begun, Answered}
+use Rattle.strm_types.proofs.EnabledNames.{same_module-sound}
 use Rattle.strm_image.specs.declared.versions.QueueKind.TheVariants as queues
 use Rattle.strm_image.specs.declared.versions.Version.{Version}
 use Rattle.strm_image.specs.Codes.{module_kind}
@@ -83,21 +84,10 @@ body_exact v names.Ldterm = made_exact _ _ _ _ (ldterm_exact v) (ldterm_made v)
 body_exact v names.Ptem = made_exact _ _ _ _ ptem_exact ptem_made
 body_exact v names.Pckt = made_exact _ _ _ _ (nothing_exact tt (λ y. refl)) pckt_made
 
-same_name : (a b : ModuleName) → same_module a b ≡ true → a ≡ b
-same_name names.Ldterm names.Ldterm e = refl
-same_name names.Ldterm names.Ptem e = absurd cc
-same_name names.Ldterm names.Pckt e = absurd cc
-same_name names.Ptem names.Ldterm e = absurd cc
-same_name names.Ptem names.Ptem e = refl
-same_name names.Ptem names.Pckt e = absurd cc
-same_name names.Pckt names.Ldterm e = absurd cc
-same_name names.Pckt names.Ptem e = absurd cc
-same_name names.Pckt names.Pckt e = refl
-
 body_named : (v : Version) (name : ModuleName) (m : Standing ℕ) → (module_body v name).fits m ≡ true → module_name m ≡ name
-body_named v names.Ldterm m fits = same_name (module_name m) names.Ldterm (and_parts _ _ (and_parts _ _ fits).0).0
-body_named v names.Ptem m fits = same_name (module_name m) names.Ptem (and_parts _ _ (and_parts _ _ fits).0).0
-body_named v names.Pckt m fits = same_name (module_name m) names.Pckt (and_parts _ _ (and_parts _ _ fits).0).0
+body_named v names.Ldterm m fits = same_module-sound (module_name m) names.Ldterm (and_parts _ _ (and_parts _ _ fits).0).0
+body_named v names.Ptem m fits = same_module-sound (module_name m) names.Ptem (and_parts _ _ (and_parts _ _ fits).0).0
+body_named v names.Pckt m fits = same_module-sound (module_name m) names.Pckt (and_parts _ _ (and_parts _ _ fits).0).0
 
 pub module_exact : (v : Version) → IsExact (module_format v)
 unfolding module_format

@@ -4,8 +4,10 @@ use Rattle.strm_image.proofs.Prelude.{sym, arith, false≢true, nat_lt, length-a
 use Rattle.strm_image.proofs.Prelude.{good-with, signals-fit}
 use Rattle.strm_image.specs.Prelude.{BANDS, BLOCK_SIZE, HIGH_PRIORITY_RANK, IOCTL_MAX, SIGNAL_LAST, ModuleName, Openness, Side, Master, Slave}
 use Rattle.strm_image.specs.Prelude.{QueueName, RULES, Free, Waiting, Answered, Termios, Winsize, is_data_kind, Discipline, discipline, QueuePair}
-use Rattle.strm_image.specs.Prelude.{stood, Message, cells_of, part, size_of, IsOnce, is_master, Flow, Queue, bytes_of, AreSignals, PlainSlot}
-use Rattle.strm_image.specs.Prelude.{answer_bytes, GoodModule, GoodModules, GoodStream, IsWhole, EachOnce, Module, OfLdterm, OfPtem, OfPckt, Standing}
+use Rattle.strm_image.specs.Prelude.{stood, Message, cells_of, part, size_of, AreQueues, IsOnce, is_master, Flow, Queue, bytes_of, AreSignals}
+use Rattle.strm_image.specs.Prelude.{PlainSlot}
+use Rattle.strm_image.specs.Prelude.{answer_bytes, GoodModule, GoodModules, GoodStream, IsWhole, EachOnce, stands_of, Module, OfLdterm, OfPtem}
+use Rattle.strm_image.specs.Prelude.{OfPckt, Standing}
 use Rattle.strm_image.specs.Prelude.{module_name, module_queues, queues_of_modules, Stream, messages_in, queues_of, stream, stream_queues, IsWithin}
 use Rattle.std.specs.List.{AllByRecursion, sum_by}
 use Rattle.std.proofs.Math.Nat.{suc-mul, zero-mul}
@@ -23,7 +25,7 @@ use Rattle.strm_image.specs.Messages.{message, message_behind, messages, next_ra
 use Rattle.strm_image.specs.Modules.{ldterm, module_below, module_format, modules, next_names, ptem, termios, winsize}
 use Rattle.strm_image.specs.Queues.{first_flow, flags, flow, flows, list_out, listed_behind, next_band, queue}
 use Rattle.strm_image.specs.Streams.{HeadBits, bits, bits_of, group_if, head_bits, laid, signals, slot, slot_kind}
-use Rattle.strm_image.proofs.FitImages.{few_names}
+use Rattle.strm_image.proofs.FitImages.{are_queues, few_names}
 use Rattle.strm_image.proofs.FitStreams.{is_names_count, names_count, names_once}
 use Rattle.strm_image.proofs.Fitting.{all_back, all_flat, all_front}
 use Rattle.strm_image.proofs.LaterRows.{listed_few}
@@ -237,9 +239,9 @@ name_length : (before : List QueueName) (n : QueueName) → AtMost 3 ((enabled_b
 unfolding enabled_behind queue_name side place way
 name_length before n = short 3 _ (omega arith)
 
-enabled_length : (ns : List QueueName) → IsOnce ns → AtMost 37 (enabled.text ns)
+enabled_length : (ns : List QueueName) → IsOnce ns → AreQueues ns → AtMost 37 (enabled.text ns)
 unfolding enabled
-enabled_length ns once = within (behind (short 1 (byte.text (length ns)) (omega arith)) (alike_texts next_enabled enabled_behind 3 name_length ns [])) (omega (arith, few_names ns once))
+enabled_length ns once are = within (behind (short 1 (byte.text (length ns)) (omega arith)) (alike_texts next_enabled enabled_behind 3 name_length ns [])) (omega (arith, few_names ns once are))
 
 account_length : (a : Account) → length a.fates ≡ RULES → AtMost 184 (account.text a)
 unfolding account rule_counts
@@ -267,7 +269,7 @@ body_length x h =
     let master = laid_length Master s.ends.master (r.streams Master) (r.heads Master) (all_front HasBands of_master of_slave h.banded) in
     let slave = laid_length Slave s.ends.slave (r.streams Slave) (r.heads Slave) (all_back HasBands of_master of_slave h.banded) in
     let ledgers = behind (account_length (record { book = s.books.master; fates = x.fates.master }) (h.gone Master).all) (account_length (record { book = s.books.slave; fates = x.fates.slave }) (h.gone Slave).all) in
-    within (behind (openness_length s.ends.master.opened) (behind (openness_length s.ends.slave.opened) (behind (flag_length s.locked) (behind (short 4 (u32.text s.next_ioctl) (omega arith)) (behind master (behind slave (behind (enabled_length s.enabled r.enabled.once) ledgers)))))))
+    within (behind (openness_length s.ends.master.opened) (behind (openness_length s.ends.slave.opened) (behind (flag_length s.locked) (behind (short 4 (u32.text s.next_ioctl) (omega arith)) (behind master (behind slave (behind (enabled_length s.enabled r.enabled.once (are_queues (stands_of s) s.enabled r.enabled.there)) ledgers)))))))
     (omega (arith, sum_by-append load of_master of_slave))
 
 pub image_length : (x : Imaged) → HasImage x → length (image.text (Second, x)) ≤ IMAGE_FIXED + (MESSAGE_FIXED * messages_in x.state + bytes_in x.state)

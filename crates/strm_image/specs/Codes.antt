@@ -1,7 +1,7 @@
 -- Values that stand in an image as one byte each.
 use Rattle.std.specs.Prelude.{ℕ, Bool, true, false, List, [], ◌∷◌}
 use Rattle.strm_image.specs.Prelude.{MsgKind, ControlMode, ReadMode, ModuleName, Openness, Never, Open, Closed, Place, Side, Master, Slave, Way, Up}
-use Rattle.strm_image.specs.Prelude.{Down, kind_number, mode_number}
+use Rattle.strm_image.specs.Prelude.{Down, has_queues_at, kind_number, mode_number}
 use Rattle.strm_types.specs.declared.kinds.MsgKind.TheVariants as kinds
 use Rattle.strm_types.specs.declared.modes.ControlMode.TheVariants as controls
 use Rattle.strm_types.specs.declared.modes.ReadMode.TheVariants as reads
@@ -9,7 +9,7 @@ use Rattle.strm_types.specs.declared.names.ModuleName.TheVariants as modules
 use Rattle.strm_types.specs.declared.names.Place.TheVariants as places
 use Rattle.strm_image.specs.declared.versions.Version.{Version}
 use Rattle.strm_image.specs.declared.versions.Version.TheVariants.{First, Second}
-use Rattle.strm_image.specs.Format.{Format, coded}
+use Rattle.strm_image.specs.Format.{Format, coded, coded_where}
 
 -- truth values
 abbrev pub flag_code : Bool → ℕ
@@ -54,13 +54,14 @@ side_code Slave = 1
 unfoldable pub side : Format Side
 side = coded side_code (Master ∷ Slave ∷ [])
 
+-- places where queues stand: of modules ldterm alone has any
 abbrev pub place_code : Place → ℕ
 place_code places.Head = 0
-place_code places.Ldterm = 1
+place_code (places.Module name) = 1
 place_code places.Driver = 2
 
 unfoldable pub place : Format Place
-place = coded place_code (places.Head ∷ places.Ldterm ∷ places.Driver ∷ [])
+place = coded_where has_queues_at place_code (places.Head ∷ places.Module modules.Ldterm ∷ places.Driver ∷ [])
 
 -- a read queue, and a write queue
 abbrev pub way_code : Way → ℕ

@@ -2,9 +2,9 @@
 use Rattle.std.specs.Prelude.{ℕ, ◌+◌, Bool, true, false, not, ◌&&◌, ◌||◌, ◌==◌, nat_lt, List, [], ◌∷◌, ◌++◌}
 use Rattle.std.specs.List.{list_all, sum}
 use Rattle.strm_image.specs.Prelude.{Book, Both, Dir, MasterToSlave, SlaveToMaster, Openness, Place, QueueName, Side, Way, Up, Down, RULES, get}
-use Rattle.strm_image.specs.Prelude.{stands, has_service, is_enabled, is_open, same_way, side_from, is_none_left, is_free, queued, inline, Standing}
+use Rattle.strm_image.specs.Prelude.{stands, has_service, have_queues, is_enabled, is_open, same_way, side_from, is_none_left, is_free, queued}
+use Rattle.strm_image.specs.Prelude.{inline, Standing}
 use Rattle.strm_image.specs.Prelude.{module_name, State, Stream, book, stream}
-use Rattle.strm_types.specs.declared.names.ModuleName.TheVariants as modules
 use Rattle.strm_types.specs.declared.names.Place.TheVariants as places
 use Rattle.strm_image.specs.declared.versions.Version.{Version}
 use Rattle.strm_image.specs.declared.versions.Version.TheVariants.{First, Second}
@@ -121,10 +121,10 @@ is_quiet t = is_open t.opened || (is_none_left t.modules && (is_none_left t.head
 abbrev pub are_quiet : Imaged → Bool
 are_quiet x = is_quiet x.state.ends.master && is_quiet x.state.ends.slave
 
--- A head has a read queue alone and a driver a write queue alone. The queues of ldterm are there where it stands.
+-- A head has a read queue alone and a driver a write queue alone. The queues of a module that has any are there where it stands.
 abbrev pub has_queue_at : Place → Way → List (Standing ℕ) → Bool
 has_queue_at places.Head w ms = same_way w Up
-has_queue_at places.Ldterm w ms = stands module_name modules.Ldterm ms
+has_queue_at (places.Module name) w ms = have_queues name && stands module_name name ms
 has_queue_at places.Driver w ms = same_way w Down
 
 abbrev pub is_there : State ℕ → QueueName → Bool

@@ -1,10 +1,10 @@
 -- The text of the modules of a stream.
-use Rattle.std.specs.Prelude.{ℕ, Bool, true, false, ◌&&◌, not, nat_le, List, [], ◌∷◌, ◌++◌, None, is_some}
+use Rattle.std.specs.Prelude.{ℕ, Bool, true, false, ◌&&◌, not, nat_le, List, [], ◌∷◌, ◌++◌, None}
 use Rattle.std.specs.List.{list_any}
 use Rattle.strm_image.specs.Prelude.{MODULES, ModuleName, COLUMN_MAX, Termios, Winsize, Between, Discipline, by_itself, same_module, new_pckt, Ptem}
 use Rattle.strm_image.specs.Prelude.{Queue, ldterm_rests, Module, OfPtem, OfPckt, Standing, ldterm_stands, module_name, discipline_of}
 use Rattle.strm_types.specs.declared.names.ModuleName.TheVariants as names
-use Rattle.strm_types.specs.Names.{place_of}
+use Rattle.strm_types.specs.Names.{have_queues}
 use Rattle.strm_types.specs.Standings.{has_queues}
 use Rattle.strm_types.specs.Ptems.{new_ptem}
 use Rattle.strm_image.specs.declared.versions.QueueKind.TheVariants as queues
@@ -86,7 +86,7 @@ same_bool true b = b
 same_bool false b = not b
 
 abbrev pub is_named : ModuleName → Standing ℕ → Bool
-is_named name m = same_module (module_name m) name && same_bool (is_some (place_of name)) (has_queues m)
+is_named name m = same_module (module_name m) name && same_bool (have_queues name) (has_queues m)
 
 -- a module that has none
 abbrev pub alone : Module ℕ → Standing ℕ

@@ -19,7 +19,8 @@ pub use Rattle.strm_types.specs.Ldterms.{Between, Discipline, IsIdle, Stage, by_
 pub use Rattle.strm_types.specs.Message.{Message, is_high_priority, is_part, part}
 unfoldable pub use Rattle.strm_types.specs.Message.{cells_of, rank_of, size_of}
 pub use Rattle.strm_types.specs.Modules.{stands}
-pub use Rattle.strm_types.specs.Names.{IsOnce, has_service, has_service_at, is_enabled, is_master, is_open, same_module, same_queue, same_way}
+pub use Rattle.strm_types.specs.Names.{AreQueues, IsOnce, has_queues_at, has_service, has_service_at, have_queues, is_enabled, is_master, is_open}
+pub use Rattle.strm_types.specs.Names.{same_module, same_queue, same_way}
 pub use Rattle.strm_types.specs.Names.{side_from, times}
 pub use Rattle.strm_types.specs.Options.{mode_number}
 pub use Rattle.strm_types.specs.Pckts.{new_pckt}

@@ -96,7 +96,7 @@ pub fn side_at(text: &[u8]) -> Option<(Side, &[u8])>
     Some((value, rest))
 }
 
-/// What a queue belongs to.
+/// What a queue belongs to: of modules `ldterm` alone has queues.
 #[tactic(auto, unfolding(crate::specs::Codes::place))]
 pub fn place_at(text: &[u8]) -> Option<(Place, &[u8])>
     ensures { Reads (λ x. (x.0, x.1.now)) result (place.read text.now) }
@@ -104,7 +104,7 @@ pub fn place_at(text: &[u8]) -> Option<(Place, &[u8])>
     let (code, rest) = byte_at(text)?;
     let value = match code {
         0 => Place::Head,
-        1 => Place::Ldterm,
+        1 => Place::Module(ModuleName::Ldterm),
         2 => Place::Driver,
         _ => return None,
     };

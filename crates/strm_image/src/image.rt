@@ -17,7 +17,7 @@ use crate::modules::{is_none, stands};
 use crate::streams::{StreamText, is_silent, stream_at};
 use crate::versions::Version;
 use arrayvec::ArrayVec;
-use strm_types::{Both, ModuleName, Openness, Place, QueueName, Side, Slot, Way};
+use strm_types::{Both, Openness, Place, QueueName, Side, Slot, Way};
 
 /// A state, where it stands in a text: what both sides have, the enabled queues, and the ledger of what each side writes.
 #[derive(Drop)]
@@ -77,7 +77,7 @@ impl<'a> StateText<'a> {
         };
         match name.place {
             Place::Head => matches!(name.way, Way::Up),
-            Place::Ldterm => stands(modules, ModuleName::Ldterm),
+            Place::Module(name) => name.has_queues() && stands(modules, name),
             Place::Driver => matches!(name.way, Way::Down),
         }
     }

@@ -2,26 +2,29 @@
 use Rattle.strm_laws.proofs.Prelude.{ℕ, ◌≡◌, Bool, true, false, cond, List, [], ◌∷◌, map, refl, sym, subst, ap, ◌∙◌, false≢true, ◌&&◌, ◌||◌, not, min}
 use Rattle.strm_laws.proofs.Prelude.{slice_index_or, Option, None, Some, once-without}
 use Rattle.strm_laws.specs.Prelude.{Caller, OpenMaster, OpenSlave, Shut, Push, Pop, Write, Read, Put, Get, Mode, IoctlResult, Signals, READ_MAX, Prio}
-use Rattle.strm_laws.specs.Prelude.{ReadMode, ModuleName, Open, Closed, Place, Ldterm, Driver, QueueName, Side, Master, Slave, Way, Up, Down, Rule}
+use Rattle.strm_laws.specs.Prelude.{ReadMode, ModuleName, Open, Closed, Place, Driver, QueueName, Side, Master, Slave, Way, Up, Down, Rule}
 use Rattle.strm_laws.specs.Prelude.{EndClosed, ModulePopped, Spot, Free, Cells, cells_written, of_all, queue_behind, writer_goes, Request, asked_of}
 use Rattle.strm_laws.specs.Prelude.{flush_bytes, flush_message, get_lets_go, get_queue, new_head, asking, ioctl_message, asks_group, group_behind}
-use Rattle.strm_laws.specs.Prelude.{Message, has_queues, without_module, direction_from, driver_of, enable_some, is_open, place_of, same_place}
+use Rattle.strm_laws.specs.Prelude.{Message, has_queues, without_module, direction_from, driver_of, enable_some, have_queues, is_open, place_of}
+use Rattle.strm_laws.specs.Prelude.{same_module}
+use Rattle.strm_laws.specs.Prelude.{same_place}
 use Rattle.strm_laws.specs.Prelude.{same_queue, same_side, same_way, without, mode_message, is_none_left, read_lets_go, read_queue, slot_behind}
 use Rattle.std.specs.List.{AllByRecursion, list_any}
 use Rattle.strm_types.specs.declared.events.Event.TheVariants.{Flush, Ioctl}
 use Rattle.strm_types.specs.declared.modes.Mode as modes
 use Rattle.strm_types.specs.declared.modes.Mode.TheVariants as chosen
-use Rattle.strm_types.specs.declared.names.ModuleName.TheVariants as names
 use Rattle.strm_types.specs.declared.names.Place.TheVariants.{Head}
+use Rattle.strm_types.specs.declared.names.Place.TheVariants as places
 use Rattle.strm_laws.specs.Calls.{group_at, ioctl_at, ioctl_begun, ioctl_called, ioctl_sent, message_put, mode_set, performed, put_at}
 use Rattle.strm_laws.specs.Closes.{closed_at, driver_emptied, ended, head_emptied, hung_up_at, stream_emptied}
 use Rattle.strm_laws.specs.Earlier.{before_at, before_driver, before_head, driver_place, places_of, queue_named}
 use Rattle.strm_laws.specs.Pushes.{all_taken, enable_waiting, head_above, let_come, messages_on, mode_behind, mode_on_push, mode_put, named_by, popped, pushed, pushed_named, top_on, top_taken, with_modules}
 use Rattle.strm_laws.specs.Puts.{delivered, earlier_at, noted}
-use Rattle.strm_laws.specs.Restorable.{AreEnabled, IsThere, is_ldterm, is_there_among}
+use Rattle.strm_laws.specs.Restorable.{AreEnabled, IsThere, is_there_among}
 use Rattle.strm_laws.specs.StackCosts.{Stands, stands_of, stands_on}
 use Rattle.strm_laws.specs.Stacked.{Standing, module_name}
 use Rattle.strm_laws.specs.State.{State, Stream, book, stream, with_driver_queue, with_head_queue, with_ioctl, with_stream}
+use Rattle.strm_types.proofs.EnabledNames.{same_module-self, same_module-sound}
 use Rattle.strm_laws.proofs.EnabledExist.{MayBe, any-noted, before-there, if-there, index-there, more-among, noted-there, some-there}
 use Rattle.strm_laws.proofs.EnabledPuts.{Enabled, delivered-enabled, head-enabled, stream-enabled}
 use Rattle.strm_laws.proofs.GoodCalls.{with-get}
@@ -42,16 +45,28 @@ all-but P Q name so (n ∷ ns) each = at (same_queue n name) refl (all-but P Q n
     at true same more = more
     at false same more = (so n each.0 same, more)
 
--- a name without queues
-bare-names : (name : ModuleName) (ns : List ModuleName) → is_ldterm name ≡ false → (place : Place) (way : Way) → is_there_among place way (name ∷ ns) ≡ true → is_there_among place way ns ≡ true
-bare-names name ns bare Head way is = is
-bare-names name ns bare Ldterm way is = subst (λ b. (b || list_any is_ldterm ns) ≡ true) bare is
-bare-names name ns bare Driver Up is = is
-bare-names name ns bare Driver Down is = is
+-- a module's queue, by its name
+abbrev queue_of : Side → ModuleName → Way → QueueName
+queue_of side name way = record { side = side; place = places.Module name; way = way }
 
--- ldterm, whose queues' names go
-abbrev queue_of : Side → Way → QueueName
-queue_of side way = record { side = side; place = Ldterm; way = way }
+-- a name that compares with none of another module's queues
+apart : (m name : ModuleName) (way : Way) → (true && same_module m name && same_way way way) ≡ false → same_module name m ≡ false
+apart m name way differs = at (same_module name m) refl
+  where
+    alike : (way : Way) → same_way way way ≡ true
+    alike Up = refl
+    alike Down = refl
+
+    at : (same : Bool) → same_module name m ≡ same → same_module name m ≡ false
+    at false is = is
+    at true is =
+        let one = subst (λ n. same_module n name ≡ true) (same_module-sound name m is) (same_module-self name) in
+        absurd (false≢true (sym differs ∙ (ap (λ b. b && same_way way way) one ∙ alike way)))
+
+-- a queue of another module is there without the one on top
+below-top : (m name : ModuleName) (ns : List ModuleName) → same_module name m ≡ false → (have_queues m && list_any (λ n. same_module n m) (name ∷ ns)) ≡ true
+    → (have_queues m && list_any (λ n. same_module n m) ns) ≡ true
+below-top m name ns differs is = sym (ap (λ b. have_queues m && (b || list_any (λ n. same_module n m) ns)) differs) ∙ is
 
 module _ {C : Type 0} where
   abbrev pub Named : State C → Type 0
@@ -98,53 +113,44 @@ module _ {C : Type 0} where
   abbrev left : Side → List (Standing C) → State C → Stands
   left side ps s = stands_of (with_modules side ps s)
 
-  -- one with no queues
-  bare-left : (side : Side) (p : Standing C) (ps : List (Standing C)) (s : State C) → ((place : Place) (way : Way) → is_there_among place way (map module_name (p ∷ ps)) ≡ true → is_there_among place way (map module_name ps) ≡ true)
-      → (stream side s).modules ≡ p ∷ ps → (n : QueueName) → IsThere (stands_of s) n → IsThere (left side ps s) n
-  bare-left side p ps s fewer top n is = at side n.side top is
+  -- a queue that isn't one of that module
+  still-there : (side : Side) (p : Standing C) (ps : List (Standing C)) (s : State C) → (stream side s).modules ≡ p ∷ ps → (n : QueueName) → IsThere (stands_of s) n
+      → same_queue n (queue_of side (module_name p) Up) ≡ false → same_queue n (queue_of side (module_name p) Down) ≡ false → IsThere (left side ps s) n
+  still-there side p ps s top n is up down = at side n.side n.place n.way top is up down
     where
-      at : (side of : Side) → (stream side s).modules ≡ p ∷ ps → is_there_among n.place n.way (stands_on of (stands_of s)) ≡ true → is_there_among n.place n.way (stands_on of (left side ps s)) ≡ true
-      at Master Master top is = fewer n.place n.way (subst (λ ps. is_there_among n.place n.way (map module_name ps) ≡ true) top is)
-      at Slave Slave top is = fewer n.place n.way (subst (λ ps. is_there_among n.place n.way (map module_name ps) ≡ true) top is)
-      at Master Slave top is = is
-      at Slave Master top is = is
+      name : ModuleName
+      name = module_name p
 
-  ldterm-left : (side : Side) (ps : List (Standing C)) (s : State C) (n : QueueName) → IsThere (stands_of s) n → same_queue n (queue_of side Up) ≡ false → same_queue n (queue_of side Down) ≡ false → IsThere (left side ps s) n
-  ldterm-left side ps s n is up down = at side n.side n.place n.way is up down
-    where
-      at : (side of : Side) (place : Place) (way : Way) → is_there_among place way (stands_on of (stands_of s)) ≡ true → (same_side of side && same_place place Ldterm && same_way way Up) ≡ false
-          → (same_side of side && same_place place Ldterm && same_way way Down) ≡ false → is_there_among place way (stands_on of (left side ps s)) ≡ true
-      at Master Slave place way is up down = is
-      at Slave Master place way is up down = is
-      at Master Master Head way is up down = is
-      at Slave Slave Head way is up down = is
-      at Master Master Driver Up is up down = is
-      at Master Master Driver Down is up down = is
-      at Slave Slave Driver Up is up down = is
-      at Slave Slave Driver Down is up down = is
-      at Master Master Ldterm Up is up down = absurd (false≢true (sym up))
-      at Master Master Ldterm Down is up down = absurd (false≢true (sym down))
-      at Slave Slave Ldterm Up is up down = absurd (false≢true (sym up))
-      at Slave Slave Ldterm Down is up down = absurd (false≢true (sym down))
+      below : (m : ModuleName) (side : Side) → (stream side s).modules ≡ p ∷ ps → same_module name m ≡ false
+          → (have_queues m && list_any (λ n. same_module n m) (map module_name (stream side s).modules)) ≡ true → (have_queues m && list_any (λ n. same_module n m) (map module_name ps)) ≡ true
+      below m side top differs is =
+          below-top m name (map module_name ps) differs (subst (λ qs. (have_queues m && list_any (λ n. same_module n m) (map module_name qs)) ≡ true) top is)
+
+      at : (side of : Side) (place : Place) (way : Way) → (stream side s).modules ≡ p ∷ ps → is_there_among place way (stands_on of (stands_of s)) ≡ true
+          → (same_side of side && same_place place (places.Module name) && same_way way Up) ≡ false
+          → (same_side of side && same_place place (places.Module name) && same_way way Down) ≡ false → is_there_among place way (stands_on of (left side ps s)) ≡ true
+      at Master Slave place way top is up down = is
+      at Slave Master place way top is up down = is
+      at Master Master Head way top is up down = is
+      at Slave Slave Head way top is up down = is
+      at Master Master Driver Up top is up down = is
+      at Master Master Driver Down top is up down = is
+      at Slave Slave Driver Up top is up down = is
+      at Slave Slave Driver Down top is up down = is
+      at Master Master (places.Module m) Up top is up down = below m Master top (apart m name Up up) is
+      at Master Master (places.Module m) Down top is up down = below m Master top (apart m name Down down) is
+      at Slave Slave (places.Module m) Up top is up down = below m Slave top (apart m name Up up) is
+      at Slave Slave (places.Module m) Down top is up down = below m Slave top (apart m name Down down) is
 
   left-named : (side : Side) (p : Standing C) (ps : List (Standing C)) (s : State C) → (stream side s).modules ≡ p ∷ ps → (ns : List QueueName) → AreEnabled (stands_of s) ns → AreEnabled (left side ps s) (without_module side (module_name p) ns)
-  left-named side p ps s top ns are = by (module_name p) refl
-    where
-      bare : (name : ModuleName) → is_ldterm name ≡ false → module_name p ≡ name → AreEnabled (left side ps s) ns
-      bare name none is =
-          let fewer = bare-left side p ps s (bare-names (module_name p) (map module_name ps) (ap is_ldterm is ∙ none)) top in
-          record { once = are.once; there = each-more (stands_of s) (left side ps s) fewer ns are.there }
-
-      by : (name : ModuleName) → module_name p ≡ name → AreEnabled (left side ps s) (without_module side name ns)
-      by names.Ldterm is =
-          let up = queue_of side Up in
-          let down = queue_of side Down in
-          record {
-            once = once-without (without up ns) down (once-without ns up are.once);
-            there = all-but (λ n. IsThere (stands_of s) n × (same_queue n up ≡ false)) (λ n. IsThere (left side ps s) n) down (λ n is not_down. ldterm-left side ps s n is.0 is.1 not_down) (without up ns)
-                (all-but (λ n. IsThere (stands_of s) n) (λ n. IsThere (stands_of s) n × (same_queue n up ≡ false)) up (λ n is not_up. (is, not_up)) ns are.there);
-          }
-      by name is = bare name refl is
+  left-named side p ps s top ns are =
+      let up = queue_of side (module_name p) Up in
+      let down = queue_of side (module_name p) Down in
+      record {
+        once = once-without (without up ns) down (once-without ns up are.once);
+        there = all-but (λ n. IsThere (stands_of s) n × (same_queue n up ≡ false)) (λ n. IsThere (left side ps s) n) down (λ n is not_down. still-there side p ps s top n is.0 is.1 not_down) (without up ns)
+            (all-but (λ n. IsThere (stands_of s) n) (λ n. IsThere (stands_of s) n × (same_queue n up ≡ false)) up (λ n is not_up. (is, not_up)) ns are.there);
+      }
 
   taken-named : (rule : Rule) (side : Side) (ps : List (Standing C)) (s : State C) → (stream side s).modules ≡ ps → Named s → Named (top_taken rule side ps s).state
   taken-named rule side [] s top are = are

@@ -1,21 +1,23 @@
--- Enabled queues exist: each is a driver's, or one of an ldterm that stands on its side, and none is enabled twice. So it stays over puts and turns,
+-- Enabled queues exist: each is a driver's, or one of a module that stands on its side, and none is enabled twice. So it stays over puts and turns,
 -- which change no module's name (STREAMS Programming Guide, "Service Procedures"; qenable(9F)).
-use Rattle.strm_laws.proofs.Prelude.{ℕ, zero, suc, ◌≡◌, ◌-◌, Bool, true, false, cond, List, [], ◌∷◌, ◌++◌, map, refl, ap, subst, ◌||◌, not, min}
+use Rattle.strm_laws.proofs.Prelude.{ℕ, zero, suc, ◌≡◌, ◌-◌, Bool, true, false, cond, List, [], ◌∷◌, ◌++◌, map, refl, ap, subst, ◌∙◌, ◌&&◌, ◌||◌, not}
+use Rattle.strm_laws.proofs.Prelude.{min}
 use Rattle.strm_laws.proofs.Prelude.{nat_le, slice_index_or, Option, None, Some, once-without, same_queue-sound}
-use Rattle.strm_laws.specs.Prelude.{ModuleName, Place, Ldterm, Driver, QueueName, Side, Master, Slave, Way, Up, Down, Note, Enable, Room, MODULES}
-use Rattle.strm_laws.specs.Prelude.{place_before, driver_of, enable_found, enable_if, enable_some, is_enabled, other, same_queue, without, place_of}
+use Rattle.strm_laws.specs.Prelude.{ModuleName, Place, Driver, QueueName, Side, Master, Slave, Way, Up, Down, Note, Enable, Room, MODULES}
+use Rattle.strm_laws.specs.Prelude.{place_before, driver_of, enable_found, enable_if, enable_some, is_enabled, other, same_queue, without}
+use Rattle.strm_laws.specs.Prelude.{has_queues_at, have_queues, place_of, same_module}
 use Rattle.std.specs.Prelude.{length}
 use Rattle.std.specs.List.{AllByRecursion, list_any}
-use Rattle.strm_types.specs.declared.names.ModuleName.TheVariants as names
 use Rattle.strm_types.specs.declared.names.Place.TheVariants.{Head}
+use Rattle.strm_types.specs.declared.names.Place.TheVariants as places
 use Rattle.strm_types.specs.Names.{enable}
 use Rattle.strm_laws.specs.Earlier.{before_at, before_by, before_modules, places_of, queue_named}
 use Rattle.strm_laws.specs.Puts.{noted}
-use Rattle.strm_laws.specs.Restorable.{AreEnabled, IsThere, is_ldterm, is_there_among}
+use Rattle.strm_laws.specs.Restorable.{AreEnabled, IsThere, is_there_among}
 use Rattle.strm_laws.specs.StackCosts.{Stands, stands_of, stands_on}
 use Rattle.strm_laws.specs.Stacked.{Standing, module_name}
 use Rattle.strm_laws.specs.State.{State, stream}
-use Rattle.strm_types.proofs.EnabledNames.{once-added}
+use Rattle.strm_types.proofs.EnabledNames.{once-added, same_module-self}
 
 -- what may name a queue names one that is there
 abbrev pub MayBe : Stands → Option QueueName → Type 0
@@ -28,11 +30,12 @@ module _ (all : Stands) where
   all-with name (n ∷ names) one each = (each.0, all-with name names one each.1)
 
   pub enable-there : (name : QueueName) (names : List QueueName) → IsThere all name → AreEnabled all names → AreEnabled all (enable name names)
-  enable-there name names one are = at (is_enabled name names) refl
+  enable-there name names one are = at (has_queues_at name.place) (is_enabled name names) refl
     where
-      at : (stands : Bool) → is_enabled name names ≡ stands → AreEnabled all (cond stands names (names ++ name ∷ []))
-      at true is = are
-      at false is = record { once = once-added names name are.once is; there = all-with name names one are.there }
+      at : (has stands : Bool) → is_enabled name names ≡ stands → AreEnabled all (cond (has && not stands) (names ++ name ∷ []) names)
+      at false stands is = are
+      at true true is = are
+      at true false is = record { once = once-added names name are.once is; there = all-with name names one are.there }
 
   pub found-there : (name : Option QueueName) (names : List QueueName) → MayBe all name → AreEnabled all names → AreEnabled all (enable_found name names)
   found-there None names one are = are
@@ -95,11 +98,12 @@ pub more-among : (place : Place) (way : Way) (n : ModuleName) (ns : List ModuleN
 more-among Head way n ns is = is
 more-among Driver Up n ns is = is
 more-among Driver Down n ns is = is
-more-among Ldterm way n ns is = at (is_ldterm n)
+more-among (places.Module name) way n ns is = at (have_queues name) (same_module n name) is
   where
-    at : (first : Bool) → (first || list_any is_ldterm ns) ≡ true
-    at true = refl
-    at false = is
+    at : (has first : Bool) → (has && list_any (λ n. same_module n name) ns) ≡ true → (has && (first || list_any (λ n. same_module n name) ns)) ≡ true
+    at true true is = refl
+    at true false is = is
+    at false first is = is
 
 one-more : (place : Option Place) (n : ModuleName) (ns : List ModuleName) → PlaceAmong place ns → PlaceAmong place (n ∷ ns)
 one-more None n ns is = tt
@@ -110,8 +114,12 @@ named-there all side way None is = tt
 named-there all side way (Some place) is = is way
 
 own : (name : ModuleName) (ns : List ModuleName) → PlaceAmong (place_of name) (name ∷ ns)
-own names.Ldterm ns = λ way. refl
-own name ns = tt
+own name ns = at (have_queues name) refl
+  where
+    at : (has : Bool) → have_queues name ≡ has → PlaceAmong (cond has (Some (places.Module name)) None) (name ∷ ns)
+    at true has = λ way. ap (λ b. b && (same_module name name || list_any (λ n. same_module n name) ns)) has
+        ∙ ap (λ b. b || list_any (λ n. same_module n name) ns) (same_module-self name)
+    at false has = tt
 
 module _ {C : Type 0} where
   index-among : (ps : List (Standing C)) (i : ℕ) → PlaceAmong (slice_index_or (places_of ps) i None) (map module_name ps)

@@ -2,7 +2,7 @@
 use Rattle.strm_laws.proofs.Prelude.{ℕ, zero, suc, ◌≡◌, ◌+◌, ◌-◌, ◌*◌, Bool, true, false, cond, List, [], ◌∷◌, map, refl, ◌∙◌, ◌==◌, ◌&&◌, ◌||◌, not}
 use Rattle.strm_laws.proofs.Prelude.{slice_index_or, Option, None, Some, PutHolds, carried-holds, in_turn-holds}
 use Rattle.strm_laws.specs.Prelude.{Turn, Ioc, MsgKind, Data, Proto, Sig, Ctl, Ioctl, Setopts, Iocack, Iocnak, Pcproto, Pcsig, Flush, Hangup, Error}
-use Rattle.strm_laws.specs.Prelude.{HOPS, Place, Ldterm, Driver, QueueName, Side, Way, Up, Down, Across, Asks, Enable, Room, Spot, Cells, Acted}
+use Rattle.strm_laws.specs.Prelude.{HOPS, Place, Driver, QueueName, Side, Way, Up, Down, Across, Asks, Enable, Room, Spot, Cells, Acted}
 use Rattle.strm_laws.specs.Prelude.{carried, in_turn, answered, bottom_across, crosses, driver_put, flush_down, freed, ioctl_put, own_flushed}
 use Rattle.strm_laws.specs.Prelude.{put_across, put_down, reader_flush, taken_in, of_data, writer_goes, asked_by, Head as TheHead, head_flushed}
 use Rattle.strm_laws.specs.Prelude.{head_put, passed_by, is_doubled, obeyed, waits_for_readers, read_ioc, Message, band_of, has_parts, size_of}
@@ -10,6 +10,7 @@ use Rattle.strm_laws.specs.Prelude.{at_place, place_past, with_waiting, put_amon
 use Rattle.strm_laws.specs.Prelude.{is_none_left, left_with, put_enables, relieves, end_relieves, has_more, turn_ended}
 use Rattle.strm_types.specs.declared.kinds.MsgKind.TheVariants.{Read, Stop, Start}
 use Rattle.strm_types.specs.declared.names.Place.TheVariants.{Head}
+use Rattle.strm_types.specs.declared.names.Place.TheVariants as places
 use Rattle.strm_types.specs.declared.spots.Asks.TheVariants as asked
 use Rattle.strm_laws.specs.Earlier.{before_driver, driver_place, places_of}
 use Rattle.strm_laws.specs.ModuleTurns.{again_at, asked_turn, bytes_at, call_at, calls, made_below, module_called, moved_on, moved_within, place_named, queue_ended, turned_named, turned_there, waits_there}
@@ -271,7 +272,7 @@ module _ {C : Type 0} (all : Stands) where
         at : (place : Place) (s : State C) → Enabled s → Enabled (turned_at cells place name turn s).state
         at Driver s is = serves-driver name.side (stream name.side s).driver.queue.messages s is
         at Head s is = is
-        at Ldterm s is = named-enabled turn s (place_named name.place (stream name.side s).modules) is
+        at (places.Module owner) s is = named-enabled turn s (place_named name.place (stream name.side s).modules) is
 
   -- of a queue that is enabled
   pub turn-enabled : (cells : Cells C) (name : QueueName) (turn : Turn) (s : State C) → is_enabled name s.enabled ≡ true → Enabled s → Enabled (turned cells name turn s).state

@@ -176,7 +176,7 @@ module _ {C : Type 0} (cells : Cells C) (are : AreCells cells) where
       at : (place : Place) (s : State C) → turned_at plain place name turn (map_state cells.byte s) ≡ map_turn_outcome cells.byte (turned_at cells place name turn s)
       at places.Driver s = driver_turned-forgets cells are name.side s
       at places.Head s = refl
-      at places.Ldterm s = module_turned-forgets cells are name turn s
+      at (places.Module owner) s = module_turned-forgets cells are name turn s
 
   pub after-forgets : (s : State C) (e : PlainEntry) → after plain (map_state cells.byte s) e ≡ map_state cells.byte (after cells s e)
   after-forgets s (Called caller asked answer) = ap (λ (o : Outcome ℕ). o.state) (call-forgets caller asked s)

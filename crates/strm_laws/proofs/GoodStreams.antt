@@ -1,7 +1,7 @@
 -- What is put in a pair of good streams leaves them good, and what is sent on is good: so is all that comes of a delivery.
 use Rattle.strm_laws.proofs.Prelude.{ℕ, zero, suc, ◌≡◌, ◌≤◌, ◌-◌, Bool, true, false, cond, List, [], ◌∷◌, length, map, refl, sym, ap, subst, ◌∙◌}
 use Rattle.strm_laws.proofs.Prelude.{arith, false≢true, length-map, Some, set-all}
-use Rattle.strm_laws.specs.Prelude.{IOCTL_END, Dir, ModuleName, QueueName, Side, Up, EndClosed, Spot, with_made, AllSides, Cells, Acted, Goes, Took}
+use Rattle.strm_laws.specs.Prelude.{IOCTL_END, Dir, ModuleName, Side, Up, EndClosed, Spot, with_made, AllSides, Cells, Acted, Goes, Took}
 use Rattle.strm_laws.specs.Prelude.{driver_put, Head, head_put, Message, cells_of, act_among, change_among, put_among, direction_at, is_open, Queue}
 use Rattle.std.specs.List.{AllByRecursion}
 use Rattle.strm_types.specs.declared.names.Place.TheVariants as places
@@ -14,7 +14,7 @@ use Rattle.strm_laws.specs.State.{State, Stream, book, stream, with_book, with_d
 use Rattle.strm_laws.proofs.GoodDeliveries.{AreGood, GoodParts, GoodTook}
 use Rattle.strm_laws.proofs.GoodDrivers.{driver-good}
 use Rattle.strm_laws.proofs.GoodHeads.{head-good}
-use Rattle.strm_laws.proofs.PutParts.{acted-holds}
+use Rattle.strm_laws.proofs.PutParts.{NamesHold, acted-holds}
 use Rattle.strm_laws.proofs.StackStays.{keep-names}
 use Rattle.strm_laws.proofs.Lawful.{GoodActed}
 use Rattle.strm_laws.proofs.LawfulKinds.{lawful}
@@ -99,8 +99,8 @@ module _ {C : Type 0} where
       record { state = streams-with side (with_driver_queue t.state below) s (driver-queue-good side t.state below put.state (all.0 side)) all; sent = put.sent }
 
   module _ (cells : Cells C) where
-    names-hold : (names : List QueueName) (s : State C) → AreStreams s → AreStreams (record s { enabled = names })
-    names-hold names s all = all
+    names-hold : NamesHold AreStreams
+    names-hold names s adds all = all
 
     books-hold : (dir : Dir) (n : ℕ) (s : State C) → AreStreams s → AreStreams (with_book dir (with_made n (book dir s)) s)
     books-hold dir n s all = all

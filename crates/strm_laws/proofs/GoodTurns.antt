@@ -1,11 +1,12 @@
 -- A turn of a pair of good streams leaves them good.
 use Rattle.strm_laws.proofs.Prelude.{ℕ, zero, suc, ◌≡◌, ◌+◌, ◌-◌, ◌*◌, Bool, true, false, cond, List, [], ◌∷◌, ◌==◌, not, is_some, Option, None, Some}
-use Rattle.strm_laws.specs.Prelude.{Turn, MsgKind, HOPS, Place, Ldterm, Driver, QueueName, Side, Way, Up, Down, Asks, Spot, Cells, carried, in_turn}
+use Rattle.strm_laws.specs.Prelude.{Turn, MsgKind, HOPS, Place, Driver, QueueName, Side, Way, Up, Down, Asks, Spot, Cells, carried, in_turn}
 use Rattle.strm_laws.specs.Prelude.{Message, band_of, size_of, at_place, place_past, with_waiting, waits_there, QueuePair, pair_changed}
-use Rattle.strm_laws.specs.Prelude.{queue_changed, stood, change_among, is_open, other, place_of, without, IsOrdered, Queue, left_with, relieved}
+use Rattle.strm_laws.specs.Prelude.{queue_changed, stood, change_among, is_open, other, have_queues, without, IsOrdered, Queue, left_with, relieved}
 use Rattle.strm_laws.specs.Prelude.{turn_ended}
 use Rattle.std.specs.List.{AllByRecursion}
 use Rattle.strm_types.specs.declared.names.Place.TheVariants.{Head}
+use Rattle.strm_types.specs.declared.names.Place.TheVariants as places
 use Rattle.strm_types.specs.declared.spots.Asks.TheVariants as asked
 use Rattle.strm_laws.specs.Earlier.{driver_place}
 use Rattle.strm_laws.specs.ModuleTurns.{Calls, again_at, asked_turn, bytes_at, call_at, calls, made_below, module_called, moved_on, moved_within, place_named, queue_ended, turned_named, turned_there, waits_there as writers_wait}
@@ -43,7 +44,7 @@ module _ {C : Type 0} where
       pair-changes Up pair are = (keeps waits_there pair.read are.0, are.1)
       pair-changes Down pair are = (are.0, keeps goes_out pair.write are.1)
 
-      by : (queues : Option (QueuePair C)) → GoodPair queues → is_some queues ≡ is_some (place_of (module_name p)) → GoodModule (queue_changed way change (stood p.part queues))
+      by : (queues : Option (QueuePair C)) → GoodPair queues → is_some queues ≡ have_queues (module_name p) → GoodModule (queue_changed way change (stood p.part queues))
       by None are has = record { kind = good.kind; queues = tt; has = has }
       by (Some pair) are has = record { kind = good.kind; queues = pair-changes way pair are; has = has }
 
@@ -163,4 +164,4 @@ module _ {C : Type 0} (cells : Cells C) where
       at : (place : Place) (s : State C) → AreStreams s → AreStreams (turned_at cells place name turn s).state
       at Driver s all = serves-driver name.side (stream name.side s).driver.queue.messages s (all.0 name.side).driver.messages (all.0 name.side).driver.order all
       at Head s all = all
-      at Ldterm s all = named-good name turn s (place_named name.place (stream name.side s).modules) all
+      at (places.Module owner) s all = named-good name turn s (place_named name.place (stream name.side s).modules) all

@@ -2,9 +2,10 @@
 -- books say how many bytes stand there and have gone.
 use Rattle.strm_laws.proofs.Prelude.{ℕ, suc, ◌≡◌, ◌+◌, Bool, true, false, cond, List, [], ◌∷◌, length, refl, ap, ◌∙◌, arith, ◌==◌, ◌&&◌, nat_le}
 use Rattle.strm_laws.proofs.Prelude.{nat_lt, count_by, nat_tests, made-long, count-join}
-use Rattle.strm_laws.specs.Prelude.{Called, Turned, Dir, MasterToSlave, SlaveToMaster, Place, Ldterm, Driver, Cells, Origin, Written, Made, Base}
+use Rattle.strm_laws.specs.Prelude.{Called, Turned, Dir, MasterToSlave, SlaveToMaster, Place, Driver, Cells, Origin, Written, Made, Base}
 use Rattle.strm_laws.specs.Prelude.{Tagged, cells_made, cells_written, tagged, PlainEntry}
 use Rattle.strm_types.specs.declared.names.Place.TheVariants.{Head}
+use Rattle.strm_types.specs.declared.names.Place.TheVariants as places
 use Rattle.strm_laws.specs.Based.{based, number}
 use Rattle.strm_laws.specs.Kept.{AreIdle, MayTest, NothingUnread, gone, state_weight, tests_at}
 use Rattle.strm_laws.specs.LdtermWeights.{IgnoresMapping}
@@ -28,7 +29,7 @@ module _ {C : Type 0} (cells : Cells C) (p : Dir → C → Bool) (numbered : Num
       at : (place : Place) → tests_at cells p place
       at Head = tt
       at Driver = tt
-      at Ldterm = ignores
+      at (places.Module owner) = ignores
 
   -- a journal from any state: what it adds to the books is what stands and has gone more
   pub follows : (s : State C) → NothingUnread s → AreIdle s → (entries : List PlainEntry) → IsLegal cells s entries

@@ -50,6 +50,7 @@ pub mod StreamWeights
 pub mod Kept
 pub mod DeliveryKeeps
 pub mod DeliveryForgets
+pub mod NamesAdded
 pub mod PutParts
 pub mod Earlier
 pub mod Noted

@@ -1,14 +1,17 @@
 -- A turn of a module's queue keeps what stays so whatever modules stand, whatever is made, and at the puts at heads and drivers.
-use Rattle.strm_laws.proofs.Prelude.{ℕ, zero, suc, Bool, true, false, cond, ◌==◌, not, Option, None, Some}
-use Rattle.strm_laws.specs.Prelude.{Turn, HOPS, QueueName, Side, Way, Asks, Spot, Cells, carried, in_turn, at_place, place_past}
+use Rattle.strm_laws.proofs.Prelude.{ℕ, zero, suc, Bool, true, false, cond, arith, ◌==◌, not, Option, None, Some}
+use Rattle.strm_laws.specs.Prelude.{Turn, HOPS, QueueName, Side, Way, Asks, Spot, Cells, carried, in_turn, at_place, place_past, enable_if}
+use Rattle.strm_laws.specs.Prelude.{enable_some}
+use Rattle.strm_laws.specs.Prelude.{end_relieves, has_more}
 use Rattle.std.specs.Prelude.{◌-◌, ◌*◌, ◌+◌}
 use Rattle.strm_types.specs.declared.spots.Asks.TheVariants as asked
 use Rattle.strm_laws.specs.ModuleTurns.{Calls, again_at, asked_turn, bytes_at, call_at, calls, made_below, module_called, module_turned, moved_on, moved_within, place_named, queue_ended, turned_named, turned_there, waits_there}
 use Rattle.strm_laws.specs.Past.{has_room_past, waits_on, writer_waits}
-use Rattle.strm_laws.specs.Puts.{put_in}
+use Rattle.strm_laws.specs.Puts.{earlier_at, put_in}
 use Rattle.strm_laws.specs.Stacked.{module_asks, module_rests}
 use Rattle.strm_laws.specs.State.{State, stream, with_stream}
 use Rattle.strm_laws.specs.TurnOutcomes.{TurnOutcome}
+use Rattle.strm_laws.proofs.NamesAdded.{AddsNone, if-adds, some-adds}
 use Rattle.strm_laws.proofs.PutParts.{Stays, acted-holds, sent-holds}
 
 module _ {C : Type 0} (P : State C → Type 0) (stays : Stays P) where
@@ -43,7 +46,14 @@ module _ {C : Type 0} (P : State C → Type 0) (stays : Stays P) where
     moved-holds name bytes s holds =
         let t = calls cells here (3 * bytes + 1) false bytes s in
         let behind = calls-hold (3 * bytes + 1) false bytes s holds in
-        outcome-holds t.ended _ _ (stays.names _ _ (ended-holds here (not (t.bytes == 0)) t.state behind)) holds
+        let took = not (t.bytes == 0) in
+        let on = stream here.side t.state in
+        let more = at_place (has_more here.way) false here.at on.modules in
+        let relieves = at_place (end_relieves took here.way) false here.at on.modules in
+        let earlier = earlier_at here.side here.at t.state here.way in
+        let adds : AddsNone t.state.enabled (enable_if more name (enable_some relieves earlier t.state.enabled)) =
+        omega (arith, some-adds relieves earlier t.state.enabled, if-adds more name (enable_some relieves earlier t.state.enabled)) in
+        outcome-holds t.ended _ _ (stays.names _ _ adds (ended-holds here took t.state behind)) holds
 
     asked-holds : (asks : Asks) (name : QueueName) (turn : Turn) (s : State C) → P s → P (asked_turn cells here asks name turn s).state
     asked-holds asked.Empty name turn s holds = ended-holds here false s holds

@@ -1,16 +1,18 @@
 -- Forgetting the origins of cells commutes with pushes and pops.
 use Rattle.strm_laws.proofs.Prelude.{ℕ, ◌≡◌, Bool, true, false, cond, List, [], ◌∷◌, ◌++◌, map, refl, sym, ap, ◌∙◌, ◌||◌, not, flat_map, Option, None}
 use Rattle.strm_laws.proofs.Prelude.{Some, option_map, map-append}
-use Rattle.strm_laws.specs.Prelude.{ReadMode, ModuleName, Place, Ldterm, Driver, QueueName, Side, Master, Slave, Way, Up, Down, Einval, Rule}
+use Rattle.strm_laws.specs.Prelude.{ReadMode, ModuleName, Place, Driver, QueueName, Side, Master, Slave, Way, Up, Down, Einval, Rule}
 use Rattle.strm_laws.specs.Prelude.{ModulePopped, Free, Waiting, Acted, Carried, Fate, Took, has_ioctl, slot_dropped, of_all, Message, map_message}
 use Rattle.strm_laws.specs.Prelude.{QueuePair, has_queues, map_pair, messages_at, messages_on as waiting_on, stood, top_name, without_module}
-use Rattle.strm_laws.specs.Prelude.{enable_if, place_of, number_of, mode_message, map_acted, map_carried, map_fate, is_none_left, map_messages}
+use Rattle.strm_laws.specs.Prelude.{enable_if, place_of, same_module, number_of, mode_message, map_acted, map_carried, map_fate, is_none_left}
+use Rattle.strm_laws.specs.Prelude.{map_messages}
 use Rattle.strm_laws.specs.Prelude.{PlainSlot, cleared, line_gone, queues_cleared}
 use Rattle.strm_types.specs.declared.names.Place.TheVariants.{Head}
+use Rattle.strm_types.specs.declared.names.Place.TheVariants as places
 use Rattle.strm_types.specs.declared.slots.Slot.TheVariants.{Answered}
 use Rattle.strm_types.specs.Dropped.{is_ioctl_of}
 use Rattle.strm_laws.specs.Earlier.{before_at}
-use Rattle.strm_laws.specs.Pushes.{all_taken, below_top, enable_waiting, head_above, ioctl_dropped, let_come, messages_on, messages_there, mode_behind, mode_on_push, mode_put, modules_emptied, named_by, popped, pushed, pushed_named, taken_off, top_on, top_taken, with_modules, without_top}
+use Rattle.strm_laws.specs.Pushes.{all_taken, below_top, enable_waiting, head_above, ioctl_dropped, let_come, messages_of, messages_on, messages_there, mode_behind, mode_on_push, mode_put, modules_emptied, named_by, popped, pushed, pushed_named, taken_off, top_on, top_taken, with_modules, without_top}
 use Rattle.strm_laws.specs.Puts.{earlier_at, noted, put_at_head}
 use Rattle.strm_laws.specs.Stacked.{Module, Standing, kind_line, map_kind, map_module, module_name, without_kind_line}
 use Rattle.strm_laws.specs.State.{State, Stream, stream, map_state, map_stream, with_ioctl}
@@ -126,17 +128,26 @@ module _ {C D : Type 0} (f : C → D) where
   on-forgets Up (Some pair) = refl
   on-forgets Down (Some pair) = refl
 
-  all-there : (way : Way) (ps : List (Standing C)) → flat_map (messages_at way) (images ps) ≡ map_messages f (flat_map (messages_at way) ps)
-  all-there way [] = refl
-  all-there way (p ∷ ps) =
-      ap (λ ms. ms ++ flat_map (messages_at way) (images ps)) (on-forgets way p.queues)
-      ∙ ap (λ ms. map_messages f (messages_at way p) ++ ms) (all-there way ps)
-      ∙ sym (map-append (map_message f) (messages_at way p) (flat_map (messages_at way) ps))
+  -- what stands on the queues of modules of a name
+  of-forgets : (name : ModuleName) (way : Way) (p : Standing C) → messages_of name way (map_module f p) ≡ map_messages f (messages_of name way p)
+  of-forgets name way p =
+      ap (λ (n : ModuleName). cond (same_module n name) (messages_at way (map_module f p)) []) (name-forgets f p) ∙ at (same_module (module_name p) name)
+    where
+      at : (same : Bool) → cond same (messages_at way (map_module f p)) [] ≡ map_messages f (cond same (messages_at way p) [])
+      at true = on-forgets way p.queues
+      at false = refl
+
+  all-there : (name : ModuleName) (way : Way) (ps : List (Standing C)) → flat_map (messages_of name way) (images ps) ≡ map_messages f (flat_map (messages_of name way) ps)
+  all-there name way [] = refl
+  all-there name way (p ∷ ps) =
+      ap (λ ms. ms ++ flat_map (messages_of name way) (images ps)) (of-forgets name way p)
+      ∙ ap (λ ms. map_messages f (messages_of name way p) ++ ms) (all-there name way ps)
+      ∙ sym (map-append (map_message f) (messages_of name way p) (flat_map (messages_of name way) ps))
 
   there-forgets : (place : Place) (way : Way) (t : Stream C) → messages_there place way (map_stream f t) ≡ map_messages f (messages_there place way t)
   there-forgets Head way t = refl
   there-forgets Driver way t = refl
-  there-forgets Ldterm way t = all-there way t.modules
+  there-forgets (places.Module name) way t = all-there name way t.modules
 
   none_waits-forgets : (name : QueueName) (s : State C) → is_none_left (messages_on name (map_state f s)) ≡ is_none_left (messages_on name s)
   none_waits-forgets name s =

@@ -1,7 +1,7 @@
 -- A put in a pair loses no cell, makes none that it doesn't tell, and leaves a side that isn't open nothing to be read.
 use Rattle.strm_laws.proofs.Prelude.{ℕ, zero, suc, ◌≡◌, ◌<◌, ◌≤◌, ◌+◌, ◌-◌, Bool, true, false, cond, List, [], ◌∷◌, length, refl, ap, ◌∙◌, arith}
 use Rattle.strm_laws.proofs.Prelude.{◌==◌, ◌&&◌, not, min, nat_le, nat_tests, weight-whole, set-all}
-use Rattle.strm_laws.specs.Prelude.{MODULES, Side, Way, Up, Down, Spot, Dir, with_made, Cells, Acted, Comes, Fate, Goes, Took, is_flush}
+use Rattle.strm_laws.specs.Prelude.{QueueName, MODULES, Side, Way, Up, Down, Spot, Dir, with_made, Cells, Acted, Comes, Fate, Goes, Took, is_flush}
 use Rattle.strm_laws.specs.Prelude.{is_bare_flush, Message, has_parts, weight_of, direction_at, is_open, put_among, head_put, driver_put}
 use Rattle.strm_laws.specs.Earlier.{driver_place, modules_on}
 use Rattle.strm_laws.specs.Kept.{state_weight}
@@ -142,16 +142,19 @@ module _ {C : Type 0} (s : State C) where
 
   pub same-stays : Stays {C = C} (SameButMade s)
   same-stays = record {
-    head = λ side here m t same. either-holds (SameButMade s) (is_open (stream side t).opened) _ _ (same-enabled _ _ (same-with side (record (stream side t) { head = (head_put here m (stream side t).head).state }) t refl same)) same;
-    driver = λ side here m t same. same-enabled _ _ (same-with side (with_driver_queue _ (stream side t)) t refl same);
+    head = λ side here m t same. either-holds (SameButMade s) (is_open (stream side t).opened) _ _ (enabled _ (same-with side (record (stream side t) { head = (head_put here m (stream side t).head).state }) t refl same)) same;
+    driver = λ side here m t same. enabled _ (same-with side (with_driver_queue _ (stream side t)) t refl same);
     modules = λ side ps t same. same-with side (record (stream side t) { modules = ps }) t refl same;
     names = same-enabled;
     books = λ dir n t same. record { opened = same.opened; locked = same.locked; next_ioctl = same.next_ioctl; written = λ d. more-written d dir n t ∙ same.written d };
     waits = waits;
   }
     where
+      enabled : {names : List QueueName} (t : State C) → SameButMade s t → SameButMade s (record t { enabled = names })
+      enabled t same = record { opened = same.opened; locked = same.locked; next_ioctl = same.next_ioctl; written = same.written }
+
       same-enabled : NamesHold (SameButMade s)
-      same-enabled names t same = record { opened = same.opened; locked = same.locked; next_ioctl = same.next_ioctl; written = same.written }
+      same-enabled names t adds same = record { opened = same.opened; locked = same.locked; next_ioctl = same.next_ioctl; written = same.written }
 
       waits : (side : Side) (way : Way) (band : ℕ) (t : State C) → SameButMade s t → SameButMade s (waiting side way band t)
       waits side Up band t same = same-with side _ t refl same

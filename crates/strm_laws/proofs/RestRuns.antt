@@ -1,18 +1,20 @@
 -- Turns one after the other come to rest.
 use Rattle.strm_laws.proofs.Prelude.{ℕ, zero, suc, ◌≡◌, ◌≤◌, ◌<◌, ◌+◌, Bool, true, false, List, [], ◌∷◌, length, length-append, refl, sym, ap, subst}
 use Rattle.strm_laws.proofs.Prelude.{◌∙◌, arith, ◌&&◌, ◌||◌, nat_le, nat_lt, Option, None, Some, nat_tests, sum_by-append, sum_by-cons}
-use Rattle.strm_laws.specs.Prelude.{Turned, Config, STOP_BLOCKS, Place, Ldterm, Driver, QueueName, Side, Master, Slave, Way, Up, Down, Einval, Enosr}
+use Rattle.strm_laws.specs.Prelude.{Turned, Config, STOP_BLOCKS, Place, Driver, QueueName, Side, Master, Slave, Way, Up, Down, Einval, Enosr}
 use Rattle.strm_laws.specs.Prelude.{Erange, JournalFull, plain, PlainEntry, room_of, room_used, is_enabled, same_queue, or_else, turn_blocks, unless}
 use Rattle.std.proofs.Common.{◌≢◌}
 use Rattle.std.specs.Prelude.{slice_get}
 use Rattle.strm_types.specs.declared.limits.TheConstants.{TURN_BLOCKS}
 use Rattle.strm_types.specs.declared.names.Place.TheVariants.{Head}
+use Rattle.strm_types.specs.declared.names.Place.TheVariants as places
 use Rattle.strm_laws.specs.Pair.{PairState, RanTurns, next_refused, refused_of}
 use Rattle.strm_laws.specs.Refusals.{Free, enough, has_room, in_range}
 use Rattle.strm_laws.specs.Rest.{EchoesOnce, NoLdterm, work}
 use Rattle.strm_laws.specs.Restorable.{Restorable}
 use Rattle.strm_laws.specs.StackCosts.{Stands, stands_of}
 use Rattle.strm_laws.specs.State.{State}
+use Rattle.strm_types.proofs.EnabledNames.{same_module-self}
 use Rattle.strm_laws.proofs.RestWork.{echoed-turn, plain-turn, taken-off}
 use Rattle.strm_laws.proofs.RestorableSteps.{step-restorable}
 
@@ -111,16 +113,16 @@ same-itself name = at name.side name.place name.way
     at : (side : Side) (place : Place) (way : Way) → let n : QueueName = record { side = side; place = place; way = way } in same_queue n n ≡ true
     at Master Head Up = refl
     at Master Head Down = refl
-    at Master Ldterm Up = refl
-    at Master Ldterm Down = refl
     at Master Driver Up = refl
     at Master Driver Down = refl
     at Slave Head Up = refl
     at Slave Head Down = refl
-    at Slave Ldterm Up = refl
-    at Slave Ldterm Down = refl
     at Slave Driver Up = refl
     at Slave Driver Down = refl
+    at Master (places.Module name) Up = ap (λ b. b && true) (same_module-self name)
+    at Master (places.Module name) Down = ap (λ b. b && true) (same_module-self name)
+    at Slave (places.Module name) Up = ap (λ b. b && true) (same_module-self name)
+    at Slave (places.Module name) Down = ap (λ b. b && true) (same_module-self name)
 
 first-enabled : (names : List QueueName) (name : QueueName) → slice_get names 0 ≡ Some name → is_enabled name names ≡ true
 first-enabled [] name is = absurd (cc)
@@ -139,7 +141,7 @@ fewer m d is =
     both-of false b is = absurd (cc)
 
 enough-blocks : (place : Place) (free : Free) → enough STOP_BLOCKS free ≡ true → enough (turn_blocks place) free ≡ true
-enough-blocks Ldterm free is = is
+enough-blocks (places.Module name) free is = is
 enough-blocks Head free is = fewer free.mblks free.dblks is
 enough-blocks Driver free is = fewer free.mblks free.dblks is
 

@@ -241,7 +241,7 @@ module _ {C : Type 0} (all : Stands) where
       called-stands again left s is =
           let ps = (stream here.side s).modules in
           let t = call_at cells here (made_below here.side s) again left ps in
-          acted-holds (Stand all) (λ names s is. is) (λ dir n s is. is) here t s
+          acted-holds (Stand all) (λ names s adds is. is) (λ dir n s is. is) here t s
           (stream-stands here.side (record (stream here.side s) { modules = t.state }) s (serve-names cells here (made_below here.side s) again (Some left) (here.at - 1) ps) is)
 
       abbrev sent_on : Bool → ℕ → State C → State C

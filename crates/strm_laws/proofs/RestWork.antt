@@ -2,24 +2,31 @@
 use Rattle.strm_laws.proofs.Prelude.{ℕ, zero, suc, ◌≡◌, ◌≤◌, ◌<◌, ◌+◌, ◌-◌, ◌⊎◌, inl, inr, Bool, true, false, cond, List, [], ◌∷◌, length, map, take}
 use Rattle.strm_laws.proofs.Prelude.{refl, sym, ap, subst, ◌∙◌, arith, ◌&&◌, ◌||◌, not, nat_le, count_by, Option, None, Some, nat_tests, sum_by-cons}
 use Rattle.strm_laws.proofs.Prelude.{same_queue-sound}
-use Rattle.strm_laws.specs.Prelude.{Turn, Moved, Blocked, Idle, MODULES, ModuleName, Place, Ldterm, Driver, QueueName, Side, Master, Slave, Way, Up}
-use Rattle.strm_laws.specs.Prelude.{Down, Spot, Cells, is_enabled, other, same_place, same_queue, without, place_of}
+use Rattle.strm_laws.specs.Prelude.{Turn, Moved, Blocked, Idle, MODULES, ModuleName, Place, Driver, QueueName, Side, Master, Slave, Way, Up}
+use Rattle.strm_laws.specs.Prelude.{Down, EndClosed, Spot, Cells, Goes, Took, Message, cells_of, direction_at, driver_put, head_put, is_open}
+use Rattle.strm_laws.specs.Prelude.{has_queues_at, have_queues, is_enabled, other, same_place, same_queue, without, place_of}
 use Rattle.std.specs.List.{list_any}
 use Rattle.std.proofs.lemmas.List.Sums.{count_by-le-length}
 use Rattle.strm_types.specs.declared.names.ModuleName.TheVariants as names
 use Rattle.strm_types.specs.declared.names.Place.TheVariants.{Head}
-use Rattle.strm_laws.specs.Earlier.{places_of}
+use Rattle.strm_types.specs.declared.names.Place.TheVariants as places
+use Rattle.strm_laws.specs.Earlier.{driver_place, places_of}
 use Rattle.strm_laws.specs.ModuleTurns.{module_turned, named_from, place_named, turned_named, turned_there}
-use Rattle.strm_laws.specs.Rest.{EchoesOnce, NoLdterm, count_enabled, echoes, is_pckt, moves, packs_below, queue_names, work}
+use Rattle.strm_laws.specs.Puts.{across_of, earlier_at, noted}
+use Rattle.strm_laws.specs.Rest.{EchoesOnce, NoLdterm, count_enabled, count_others, echoes, is_pckt, moves, packs_below, queue_names, work}
 use Rattle.strm_laws.specs.Restorable.{is_ldterm}
 use Rattle.strm_laws.specs.StackCosts.{Stands, stands_of, stands_on}
 use Rattle.strm_laws.specs.Stacked.{Standing, module_name}
-use Rattle.strm_laws.specs.State.{State, stream}
+use Rattle.strm_laws.specs.State.{State, stream, with_stream}
 use Rattle.strm_laws.specs.Step.{IsTurn}
 use Rattle.strm_laws.specs.Turns.{turned, turned_at}
+use Rattle.strm_types.proofs.EnabledNames.{queues-ldterm}
 use Rattle.strm_laws.proofs.GoodStreams.{AreStreams}
+use Rattle.strm_laws.proofs.NamesAdded.{noted-adds, one-other, without-adds}
+use Rattle.strm_laws.proofs.PutParts.{Stays}
 use Rattle.strm_laws.proofs.RestStates.{Fit, FitNames, names-on}
 use Rattle.strm_laws.proofs.RestTurns.{Answers, Leaves, driver-leaves, there-leaves}
+use Rattle.strm_laws.proofs.TurnHolds.{turn-holds, turns-stay}
 
 -- Enabled queues: one that is taken off the list is no longer among them, and each other one is there as before.
 gone : (name : QueueName) (names : List QueueName) → is_enabled name (without name names) ≡ false
@@ -64,25 +71,48 @@ module _ (name : QueueName) (names : List QueueName) (enabled : is_enabled name 
         sum_by-cons (λ x. cond (is_enabled x names) 1 0) a among,
       )
 
--- each name is one of them, once
-named-once : (side : Side) (place : Place) (way : Way) → count_by (λ a. same_queue (record { side = side; place = place; way = way }) a) queue_names ≡ 1
-named-once Master Head Up = refl
-named-once Master Head Down = refl
-named-once Master Ldterm Up = refl
-named-once Master Ldterm Down = refl
-named-once Master Driver Up = refl
-named-once Master Driver Down = refl
-named-once Slave Head Up = refl
-named-once Slave Head Down = refl
-named-once Slave Ldterm Up = refl
-named-once Slave Ldterm Down = refl
-named-once Slave Driver Up = refl
-named-once Slave Driver Down = refl
+-- each name of a place where queues stand is one of them, once
+named-once : (side : Side) (place : Place) (way : Way) → has_queues_at place ≡ true
+    → count_by (λ a. same_queue (record { side = side; place = place; way = way }) a) queue_names ≡ 1
+named-once Master Head Up has = refl
+named-once Master Head Down has = refl
+named-once Master Driver Up has = refl
+named-once Master Driver Down has = refl
+named-once Slave Head Up has = refl
+named-once Slave Head Down has = refl
+named-once Slave Driver Up has = refl
+named-once Slave Driver Down has = refl
+named-once side (places.Module name) way has =
+    subst (λ n. count_by (λ a. same_queue (record { side = side; place = places.Module n; way = way }) a) queue_names ≡ 1) (sym (queues-ldterm name has)) (at side way)
+  where
+    at : (side : Side) (way : Way) → count_by (λ a. same_queue (record { side = side; place = places.Module names.Ldterm; way = way }) a) queue_names ≡ 1
+    at Master Up = refl
+    at Master Down = refl
+    at Slave Up = refl
+    at Slave Down = refl
+
+-- Names of places without queues: one that is taken off the list is counted no more.
+other-off : (name : QueueName) (names : List QueueName) → has_queues_at name.place ≡ false → is_enabled name names ≡ true
+    → suc (count_others (without name names)) ≤ count_others names
+other-off name [] bare is = absurd (cc)
+other-off name (x ∷ names) bare is = at (same_queue x name) refl is (other-off name names bare)
+  where
+    at : (same : Bool) → same_queue x name ≡ same → (same || is_enabled name names) ≡ true → (is_enabled name names ≡ true → suc (count_others (without name names)) ≤ count_others names)
+        → suc (count_others (cond (not same) (x ∷ without name names) (without name names))) ≤ count_others (x ∷ names)
+    at true same is more =
+        let counts : ◌≡◌ {A = ℕ} (cond (not (has_queues_at x.place)) 1 0) 1 =
+        ap (λ b. cond (not b) 1 0) (subst (λ (q : QueueName). has_queues_at q.place ≡ false) (sym (same_queue-sound x name same)) bare) in
+        omega (arith, counts, one-other x names, without-adds name names)
+    at false same is more = let less = more is in omega (arith, less, one-other x names, one-other x (without name names))
 
 pub taken-off : (name : QueueName) (names : List QueueName) → is_enabled name names ≡ true → suc (count_enabled (without name names)) ≤ count_enabled names
-taken-off name names enabled = omega (arith, all-less name names enabled queue_names, named-once name.side name.place name.way)
+taken-off name names enabled = at (has_queues_at name.place) refl
+  where
+    at : (has : Bool) → has_queues_at name.place ≡ has → suc (count_enabled (without name names)) ≤ count_enabled names
+    at true has = omega (arith, all-less name names enabled queue_names, named-once name.side name.place name.way has, without-adds name names)
+    at false bare = omega (arith, all-less name names enabled queue_names, other-off name names bare enabled)
 
-few-enabled : (names : List QueueName) → count_enabled names ≤ 12
+few-enabled : (names : List QueueName) → count_enabled names ≤ 12 + count_others names
 few-enabled names = let twelve : length queue_names ≡ 12 = refl in omega (arith, twelve, count_by-le-length (λ a. is_enabled a names) queue_names)
 
 -- the place of the ldterm on a stream, 0 where none stands
@@ -173,26 +203,29 @@ module _ {C : Type 0} where
       by : (name : ModuleName) → (is_ldterm name || list_any is_ldterm (map module_name ps)) ≡ false
           → (list_any is_ldterm (map module_name ps) ≡ false → named_from place (suc from) (places_of (take n ps)) ≡ None)
           → named_from place from (place_of name ∷ places_of (take n ps)) ≡ None
-      by names.Ldterm none rest = absurd (cc)
-      by name none rest = rest none
+      by name none rest = at (have_queues name) none
+        where
+          at : (has : Bool) → (has || list_any is_ldterm (map module_name ps)) ≡ false → named_from place from (cond has (Some (places.Module name)) None ∷ places_of (take n ps)) ≡ None
+          at true none = absurd (cc)
+          at false none = rest none
 
   module _ (cells : Cells C) (name : QueueName) (turn : Turn) where
     -- a turn of a module's queue
-    module-leaves : (all : Stands) (s : State C) → EchoesOnce all → stands_of s ≡ all → AreStreams s → (module_turned cells (record name { place = Ldterm }) turn s).turn ≡ turn
-        → Leaves all (moves all s) s.enabled (module_turned cells (record name { place = Ldterm }) turn s).state
-    module-leaves all s once is good answered = named (place_named Ldterm (stream name.side s).modules) refl answered
+    module-leaves : (all : Stands) (owner : ModuleName) (s : State C) → EchoesOnce all → stands_of s ≡ all → AreStreams s → (module_turned cells (record name { place = places.Module owner }) turn s).turn ≡ turn
+        → Leaves all (moves all s) s.enabled (module_turned cells (record name { place = places.Module owner }) turn s).state
+    module-leaves all owner s once is good answered = named (place_named (places.Module owner) (stream name.side s).modules) refl answered
       where
         called : QueueName
-        called = record name { place = Ldterm }
+        called = record name { place = places.Module owner }
 
-        named : (o : Option ℕ) → place_named Ldterm (stream name.side s).modules ≡ o → (turned_named cells called turn s o).turn ≡ turn → Leaves all (moves all s) s.enabled (turned_named cells called turn s o).state
+        named : (o : Option ℕ) → place_named (places.Module owner) (stream name.side s).modules ≡ o → (turned_named cells called turn s o).turn ≡ turn → Leaves all (moves all s) s.enabled (turned_named cells called turn s o).state
         named None none answered = (is, inr (omega arith, refl))
         named (Some at) there answered =
             let here : Spot = record { side = name.side; at = at; way = name.way } in
-            there-leaves all cells (posts_of all) (fits-once all once) here (named-least Ldterm 1 (places_of (take MODULES (stream name.side s).modules)) at there) called turn s is good (answers turn answered)
+            there-leaves all cells (posts_of all) (fits-once all once) here (named-least (places.Module owner) 1 (places_of (take MODULES (stream name.side s).modules)) at there) called turn s is good (answers turn answered)
           where
             answers : (turn : Turn) → (turned_there cells (record { side = name.side; at = at; way = name.way }) called turn s).turn ≡ turn
-                → Answers all cells (posts_of all) (fits-once all once) (record { side = name.side; at = at; way = name.way }) (named-least Ldterm 1 (places_of (take MODULES (stream name.side s).modules)) at there) turn (turned_there cells (record { side = name.side; at = at; way = name.way }) called turn s)
+                → Answers all cells (posts_of all) (fits-once all once) (record { side = name.side; at = at; way = name.way }) (named-least (places.Module owner) 1 (places_of (take MODULES (stream name.side s).modules)) at there) turn (turned_there cells (record { side = name.side; at = at; way = name.way }) called turn s)
             answers (Moved bytes) answered = tt
             answers Blocked answered = answered
             answers Idle answered = answered
@@ -201,26 +234,50 @@ module _ {C : Type 0} where
         (turned_at cells place called turn s).turn ≡ turn → Leaves all (moves all s) s.enabled (turned_at cells place called turn s).state
     turned-leaves all Head s once is good answered = (is, inr (omega arith, refl))
     turned-leaves all Driver s once is good answered = driver-leaves all cells (posts_of all) (fits-once all once) name.side (stream name.side s).driver.queue.messages s is refl
-    turned-leaves all Ldterm s once is good answered = module-leaves all s once is good answered
+    turned-leaves all (places.Module owner) s once is good answered = module-leaves all owner s once is good answered
 
     -- where no ldterm stands each turn is a driver's, or does nothing
     plain-leaves : (all : Stands) (place : Place) (s : State C) → EchoesOnce all → NoLdterm all → stands_of s ≡ all → let called = record name { place = place } in
         Leaves all (moves all s) s.enabled (turned_at cells place called turn s).state
     plain-leaves all Head s once none is = (is, inr (omega arith, refl))
     plain-leaves all Driver s once none is = driver-leaves all cells (posts_of all) (fits-once all once) name.side (stream name.side s).driver.queue.messages s is refl
-    plain-leaves all Ldterm s once none is = named (place_named Ldterm (stream name.side s).modules) nowhere
+    plain-leaves all (places.Module owner) s once none is = named (place_named (places.Module owner) (stream name.side s).modules) nowhere
       where
-        nowhere : place_named Ldterm (stream name.side s).modules ≡ None
-        nowhere = named-none Ldterm MODULES 1 (stream name.side s).modules (ap (λ (ns : List ModuleName). list_any is_ldterm ns) (names-on all name.side s is) ∙ none name.side)
+        nowhere : place_named (places.Module owner) (stream name.side s).modules ≡ None
+        nowhere = named-none (places.Module owner) MODULES 1 (stream name.side s).modules (ap (λ (ns : List ModuleName). list_any is_ldterm ns) (names-on all name.side s is) ∙ none name.side)
 
-        named : (o : Option ℕ) → o ≡ None → Leaves all (moves all s) s.enabled (turned_named cells (record name { place = Ldterm }) turn s o).state
+        named : (o : Option ℕ) → o ≡ None → Leaves all (moves all s) s.enabled (turned_named cells (record name { place = places.Module owner }) turn s o).state
         named None nothing = (is, inr (omega arith, refl))
         named (Some at) nothing = absurd (cc)
 
+  -- a turn adds no name of a place without queues
+  others-stay : (n : ℕ) → Stays {C = C} (λ s. count_others s.enabled ≤ n)
+  others-stay n = record {
+    head = λ side here m s few. at-head side here m s (is_open (stream side s).opened) few;
+    driver = λ side here m s few. omega (arith, few, noted-adds side (Some Driver) (earlier_at side (driver_place side s) s) (driver_put side (across_of side s) (record here { at = driver_place side s }) m (stream side s).driver.queue).notes s.enabled);
+    modules = λ side ps s few. few;
+    names = λ names s adds few. omega (arith, adds, few);
+    books = λ dir n s few. few;
+    waits = λ side way band s few. few;
+  }
+    where
+      at-head : (side : Side) (here : Spot) (m : Message C) (s : State C) (opened : Bool) → count_others s.enabled ≤ n
+          → let h = head_put here m (stream side s).head in
+          count_others (cond {A = Took C (State C)} opened (record { state = record (with_stream side (record (stream side s) { head = h.state }) s) { enabled = noted side (Some Head) (earlier_at side 0 s) h.notes s.enabled }; sent = h.sent; gone = h.gone })
+          (record { state = s; sent = []; gone = Goes (direction_at Up side) EndClosed (cells_of m) ∷ [] })).state.enabled ≤ n
+      at-head side here m s true few = omega (arith, few, noted-adds side (Some Head) (earlier_at side 0 s) (head_put here m (stream side s).head).notes s.enabled)
+      at-head side here m s false few = few
+
+  turn-others : (cells : Cells C) (name : QueueName) (turn : Turn) (s : State C) → count_others (turned cells name turn s).state.enabled ≤ count_others s.enabled
+  turn-others cells name turn s =
+      let n = count_others s.enabled in
+      turn-holds (λ t. count_others t.enabled ≤ n) (turns-stay (λ t. count_others t.enabled ≤ n) (λ side q s few. few) (others-stay n)) cells name turn s (omega arith)
+
   -- fewer moves, or a queue less enabled, are less work
-  work-less : (name : QueueName) (s t : State C) → is_enabled name s.enabled ≡ true → Leaves (stands_of s) (moves (stands_of s) s) (without name s.enabled) t → work t < work s
-  work-less name s t enabled leaves = elim leaves.1 [
-    | inl fewer ↦ omega (arith, same, fewer, few-enabled t.enabled)
+  work-less : (name : QueueName) (s t : State C) → is_enabled name s.enabled ≡ true → count_others t.enabled ≤ count_others s.enabled
+      → Leaves (stands_of s) (moves (stands_of s) s) (without name s.enabled) t → work t < work s
+  work-less name s t enabled none_added leaves = elim leaves.1 [
+    | inl fewer ↦ omega (arith, same, fewer, none_added, few-enabled t.enabled)
     | inr stays ↦ (let count = ap (λ (ns : List QueueName). count_enabled ns) stays.1 in let most = stays.0 in omega (arith, same, most, count, taken-off name s.enabled enabled))
   ]
     where
@@ -234,7 +291,7 @@ module _ {C : Type 0} where
       → (stands_of (turned cells name turn s).state ≡ stands_of s) × (work (turned cells name turn s).state < work s)
   plain-turn cells name turn s none enabled =
       let behind = plain-behind cells name turn s none in
-      (behind.0, work-less name s (turned cells name turn s).state enabled behind)
+      (behind.0, work-less name s (turned cells name turn s).state enabled (turn-others cells name turn s) behind)
 
   echoed-behind : (cells : Cells C) (name : QueueName) (turn : Turn) (s : State C) → EchoesOnce (stands_of s) → AreStreams s → (turned cells name turn s).turn ≡ turn
       → Leaves (stands_of s) (moves (stands_of s) s) (without name s.enabled) (turned cells name turn s).state
@@ -244,4 +301,4 @@ module _ {C : Type 0} where
       → (stands_of new ≡ stands_of old) × (work new < work old)
   echoed-turn cells old new name turn once good step =
       let behind = echoed-behind cells name turn old once good step.answered in
-      subst (λ (t : State C). (stands_of t ≡ stands_of old) × (work t < work old)) step.leads (behind.0, work-less name old (turned cells name turn old).state step.enabled behind)
+      subst (λ (t : State C). (stands_of t ≡ stands_of old) × (work t < work old)) step.leads (behind.0, work-less name old (turned cells name turn old).state step.enabled (turn-others cells name turn old) behind)

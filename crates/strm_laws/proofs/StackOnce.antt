@@ -3,10 +3,10 @@ use Rattle.strm_laws.proofs.Prelude.{ℕ, zero, suc, ◌≡◌, ◌≤◌, ◌+�
 use Rattle.strm_laws.proofs.Prelude.{nat_lt, Some, and_parts, not-true}
 use Rattle.strm_laws.specs.Prelude.{MODULES, ModuleName, stands, same_module}
 use Rattle.std.specs.Prelude.{length}
-use Rattle.strm_types.specs.declared.names.ModuleName.TheVariants as names
 use Rattle.strm_laws.specs.Pushes.{may_stand}
 use Rattle.strm_laws.specs.StackCosts.{EachOnce, times_there}
 use Rattle.strm_laws.specs.Stacked.{Standing, module_name}
+use Rattle.strm_types.proofs.EnabledNames.{same_module-sound}
 
 pub nothing-there : (name : ModuleName) (at : ℕ) → times_there name [] at ≡ 0
 nothing-there name zero = refl
@@ -16,12 +16,6 @@ nothing-there name (suc at) = let rest = nothing-there name at in omega (arith, 
 pub top-times : (name n : ModuleName) (ns : List ModuleName) (at : ℕ) → times_there name (n ∷ ns) (suc at) ≡ cond (same_module n name) 1 0 + times_there name ns at
 top-times name n ns zero = refl
 top-times name n ns (suc at) = let rest = top-times name n ns at in omega (arith, rest)
-
-same-one : (a b : ModuleName) → same_module a b ≡ true → a ≡ b
-same-one names.Ldterm names.Ldterm is = refl
-same-one names.Ptem names.Ptem is = refl
-same-one names.Pckt names.Pckt is = refl
-same-one a b is = absurd (cc)
 
 neither : (a b : Bool) → (a || b) ≡ false → (a ≡ false) × (b ≡ false)
 neither false false is = (refl, refl)
@@ -46,7 +40,7 @@ module _ {C : Type 0} where
 
       on-top : (name : ModuleName) (at : ℕ) (same : Bool) → same_module (module_name p) name ≡ same → cond same 1 0 + times_there name (map module_name ps) at ≤ 1
       on-top name at true is =
-          let none = subst (λ n. times_there n (map module_name ps) at ≡ 0) (same-one (module_name p) name is) (none-times (module_name p) ps alone at) in
+          let none = subst (λ n. times_there n (map module_name ps) at ≡ 0) (same_module-sound (module_name p) name is) (none-times (module_name p) ps alone at) in
           omega (arith, none)
       on-top name at false is = let one = each.once name at in omega (arith, one)
 

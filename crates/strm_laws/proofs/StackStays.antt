@@ -1,13 +1,13 @@
 -- The modules that stand on the streams are the same behind each put, and so each message costs what it did.
 use Rattle.strm_laws.proofs.Prelude.{ℕ, zero, suc, ◌≡◌, ◌-◌, Bool, List, [], ◌∷◌, map, refl, ap, ◌∙◌, Option, None, Some, PutHolds}
-use Rattle.strm_laws.specs.Prelude.{Dir, QueueName, Side, Master, Slave, Way, Spot, with_made, Cells, Acted, Message, place_past, waits_at}
+use Rattle.strm_laws.specs.Prelude.{Dir, Side, Master, Slave, Way, Spot, with_made, Cells, Acted, Message, place_past, waits_at}
 use Rattle.strm_laws.specs.Prelude.{with_waiting, queue_changed, act_among, change_among, put_among, is_open, Queue}
 use Rattle.strm_types.specs.ModuleQueues.{waits_past}
 use Rattle.strm_laws.specs.Puts.{made_above, put_at_driver, put_at_head, put_at_module, put_in}
 use Rattle.strm_laws.specs.StackCosts.{Stands, stands_of}
 use Rattle.strm_laws.specs.Stacked.{Standing, module_name, module_puts, module_serves}
 use Rattle.strm_laws.specs.State.{State, Stream, book, stream, with_book, with_stream, with_driver_queue}
-use Rattle.strm_laws.proofs.PutParts.{acted-holds, either-holds, parts-hold}
+use Rattle.strm_laws.proofs.PutParts.{NamesHold, acted-holds, either-holds, parts-hold}
 use Rattle.strm_laws.proofs.LawfulKinds.{lawful}
 
 module _ {C : Type 0} where
@@ -54,8 +54,8 @@ module _ {C : Type 0} where
     abbrev pub Stand : State C → Type 0
     Stand s = stands_of s ≡ all
 
-    names-stand : (names : List QueueName) (s : State C) → Stand s → Stand (record s { enabled = names })
-    names-stand names s is = is
+    names-stand : NamesHold Stand
+    names-stand names s adds is = is
 
     books-stand : (dir : Dir) (n : ℕ) (s : State C) → Stand s → Stand (with_book dir (with_made n (book dir s)) s)
     books-stand dir n s is = is

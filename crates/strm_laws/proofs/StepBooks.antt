@@ -1,8 +1,9 @@
 -- What each step books: a call what it writes, a turn what is told as made, and nothing else.
 use Rattle.strm_laws.proofs.Prelude.{ℕ, zero, suc, ◌+◌, ◌-◌, ◌*◌, Bool, true, false, cond, List, [], ◌∷◌, ◌++◌, refl, ◌==◌, not, Option, None, Some}
-use Rattle.strm_laws.specs.Prelude.{Turn, Blocked, Idle, HOPS, Place, Ldterm, Driver, QueueName, Side, Way, Asks, Spot, Cells, Fate, carried, in_turn}
+use Rattle.strm_laws.specs.Prelude.{Turn, Blocked, Idle, HOPS, Place, Driver, QueueName, Side, Way, Asks, Spot, Cells, Fate, carried, in_turn}
 use Rattle.strm_laws.specs.Prelude.{Message, size_of, at_place, act_among, is_open, other, without, Queue, left_with}
 use Rattle.strm_types.specs.declared.names.Place.TheVariants.{Head}
+use Rattle.strm_types.specs.declared.names.Place.TheVariants as places
 use Rattle.strm_types.specs.declared.spots.Asks.TheVariants as asked
 use Rattle.strm_laws.specs.ModuleTurns.{Calls, again_at, asked_turn, bytes_at, call_at, calls, made_below, module_called, module_turn_ended, module_turned, moved_on, moved_within, place_named, stayed_at, turned_named, turned_there, waits_there}
 use Rattle.strm_laws.specs.Past.{has_room_past, writer_waits}
@@ -128,4 +129,4 @@ module _ {C : Type 0} (cells : Cells C) where
       at : (place : Place) (t : State C) → SameBooks s t → let u = turned_at cells place name turn t in Books s u.gone u.state
       at Driver t same = booked-before cells s t _ _ same (serves-books name.side (stream name.side t).driver.queue.messages t)
       at Head t same = nothing-booked cells s t same
-      at Ldterm t same = booked-before cells s t _ _ same (module-books name turn t)
+      at (places.Module owner) t same = booked-before cells s t _ _ same (module-books name turn t)

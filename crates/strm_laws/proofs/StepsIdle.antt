@@ -32,7 +32,7 @@ module _ {C : Type 0} where
   }
 
   turns : Turns {C = C} AreIdle
-  turns = record { drivers = driver-each Idle AllIdle changes; named = λ names s idle. idle; given = delivered-idle; waits = waits-idle; modules = module_turned-rests }
+  turns = record { drivers = driver-each Idle AllIdle changes; named = λ names s adds idle. idle; given = delivered-idle; waits = waits-idle; modules = module_turned-rests }
 
   pub step-idle : (cells : Cells C) (old new : State C) (entry : PlainEntry) → AreIdle old → Step cells old entry new → AreIdle new
   step-idle cells old new entry idle step = step-each Idle AllIdle changes cells (delivered-idle cells) (turn-holds AreIdle turns cells) old new entry idle step

@@ -1,22 +1,24 @@
 -- What holds of a pair whatever stands on its drivers and whichever queues are enabled, behind deliveries, where writers wait, and behind
 -- turns of modules' queues, holds behind each turn.
-use Rattle.strm_laws.proofs.Prelude.{ℕ, Bool, true, false, cond, List, [], ◌∷◌, not}
-use Rattle.strm_laws.specs.Prelude.{Turn, Place, Ldterm, Driver, QueueName, Side, Way, Up, Spot, Cells, Message, band_of, place_past, is_open, other}
-use Rattle.strm_laws.specs.Prelude.{without, Queue, left_with}
+use Rattle.strm_laws.proofs.Prelude.{ℕ, Bool, true, false, cond, List, [], ◌∷◌, arith, ◌==◌, ◌&&◌, not}
+use Rattle.strm_laws.specs.Prelude.{Turn, Place, Driver, QueueName, Side, Way, Up, Spot, Cells, Message, band_of, place_past, is_open, other}
+use Rattle.strm_laws.specs.Prelude.{without, Queue, driver_of, enable_if, enable_some, is_none_left, left_with, relieves, size_of}
 use Rattle.strm_types.specs.declared.names.Place.TheVariants.{Head}
-use Rattle.strm_laws.specs.Earlier.{driver_place}
+use Rattle.strm_types.specs.declared.names.Place.TheVariants as places
+use Rattle.strm_laws.specs.Earlier.{before_driver, driver_place}
 use Rattle.strm_laws.specs.ModuleTurns.{module_turned}
 use Rattle.strm_laws.specs.Past.{writer_waits}
 use Rattle.strm_laws.specs.Puts.{delivered}
 use Rattle.strm_laws.specs.State.{State, stream}
 use Rattle.strm_laws.specs.TurnOutcomes.{TurnOutcome}
-use Rattle.strm_laws.specs.Turns.{driver_serves, held_back, is_stopped_across, moved_across, turned, turned_at, up_across, with_driver}
+use Rattle.strm_laws.specs.Turns.{driver_serves, held_back, is_stopped_across, moved_across, turned, turned_at, turned_queue, up_across, with_driver}
 use Rattle.strm_laws.proofs.ModuleTurnEnds.{module_turned-holds, past-holds}
+use Rattle.strm_laws.proofs.NamesAdded.{AddsNone, if-adds, some-adds, without-adds}
 use Rattle.strm_laws.proofs.PutParts.{Stays, delivered-holds}
 
 pub record Turns {C : Type 0} (P : State C → Type 0) : Type 0 where
   pub drivers : (side : Side) (q : Queue C) (s : State C) → P s → P (with_driver side q s)
-  pub named : (names : List QueueName) (s : State C) → P s → P (record s { enabled = names })
+  pub named : (names : List QueueName) (s : State C) → AddsNone s.enabled names → P s → P (record s { enabled = names })
   pub given : (cells : Cells C) (to : Spot) (m : Message C) (s : State C) → P s → P (delivered cells to m s).state
   pub waits : (side : Side) (way : Way) (at band : ℕ) (s : State C) → P s → P (writer_waits side way at band s)
   pub modules : (cells : Cells C) (name : QueueName) (turn : Turn) (s : State C) → P s → P (module_turned cells name turn s).state
@@ -42,7 +44,15 @@ module _ {C : Type 0} (P : State C → Type 0) (turns : Turns P) where
   moved-holds cells side m rest s holds =
       let from = with_driver side (left_with rest (stream side s).driver.queue) s in
       let went = (delivered cells (up_across side from) m from).state in
-      turns.named _ _ (turns.drivers side _ went (turns.given cells (up_across side from) m from (turns.drivers side (left_with rest (stream side s).driver.queue) s holds)))
+      let q = turned_queue (stream side went).driver.queue in
+      let lets_go = not (size_of m == 0) && relieves q in
+      let adds : AddsNone went.enabled (enable_if (not (is_none_left q.messages)) (driver_of side) (enable_some lets_go (before_driver side went) went.enabled)) =
+      omega (
+        arith,
+        some-adds lets_go (before_driver side went) went.enabled,
+        if-adds (not (is_none_left q.messages)) (driver_of side) (enable_some lets_go (before_driver side went) went.enabled),
+      ) in
+      turns.named _ _ adds (turns.drivers side _ went (turns.given cells (up_across side from) m from (turns.drivers side (left_with rest (stream side s).driver.queue) s holds)))
 
   serves-hold : (cells : Cells C) (side : Side) (ms : List (Message C)) (s : State C) → P s → P (driver_serves cells side ms s).state
   serves-hold cells side [] s holds = turns.drivers side (record (stream side s).driver.queue { want_read = true }) s holds
@@ -53,9 +63,9 @@ module _ {C : Type 0} (P : State C → Type 0) (turns : Turns P) where
       waits (turns.waits (other side) Up (driver_place (other side) kept) (band_of m) kept waits) (moved-holds cells side m rest s holds)
 
   pub turn-holds : (cells : Cells C) (name : QueueName) (turn : Turn) (s : State C) → P s → P (turned cells name turn s).state
-  turn-holds cells name turn s holds = at name.place (record s { enabled = without name s.enabled }) (turns.named (without name s.enabled) s holds)
+  turn-holds cells name turn s holds = at name.place (record s { enabled = without name s.enabled }) (turns.named (without name s.enabled) s (without-adds name s.enabled) holds)
     where
       at : (place : Place) (s : State C) → P s → P (turned_at cells place name turn s).state
       at Driver s holds = serves-hold cells name.side (stream name.side s).driver.queue.messages s holds
       at Head s holds = holds
-      at Ldterm s holds = turns.modules cells name turn s holds
+      at (places.Module owner) s holds = turns.modules cells name turn s holds

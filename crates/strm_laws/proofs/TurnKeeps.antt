@@ -1,8 +1,9 @@
 -- A turn loses no cell, and leaves the ends as they are and a side that isn't open nothing to be read.
 use Rattle.strm_laws.proofs.Prelude.{ℕ, ◌≡◌, ◌+◌, Bool, true, false, cond, List, [], ◌∷◌, refl, ap, arith, ◌==◌, not, weight-take}
-use Rattle.strm_laws.specs.Prelude.{Turn, Side, Master, Slave, Place, Ldterm, Driver, QueueName, Dir, Cells, Message, size_of, band_of, weight_of}
+use Rattle.strm_laws.specs.Prelude.{Turn, Side, Master, Slave, Place, Driver, QueueName, Dir, Cells, Message, size_of, band_of, weight_of}
 use Rattle.strm_laws.specs.Prelude.{is_open, other, without, direction_at, direction_from, Queue, left_with, relieved, weight, Up, Down}
 use Rattle.strm_types.specs.declared.names.Place.TheVariants.{Head}
+use Rattle.strm_types.specs.declared.names.Place.TheVariants as places
 use Rattle.strm_laws.proofs.LdtermKeeps.{way-up}
 use Rattle.strm_laws.specs.Kept.{AreIdle, state_weight, tests_at}
 use Rattle.strm_laws.specs.Places.{weight_gone, weight_made, direction_to}
@@ -82,4 +83,4 @@ module _ {C : Type 0} (p : Dir → C → Bool) where
       at : (place : Place) → tests_at cells p place → (s : State C) → AreIdle s → Keeps (turned_at cells place name turn s) (state_weight p s)
       at Driver tests s idle = serves-keeps cells name.side (stream name.side s).driver.queue.messages s refl
       at Head tests s idle = omega arith
-      at Ldterm ignores s idle = module_turned-keeps p cells ignores name turn s idle
+      at (places.Module owner) ignores s idle = module_turned-keeps p cells ignores name turn s idle

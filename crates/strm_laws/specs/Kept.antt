@@ -2,9 +2,10 @@
 -- takes away.
 use Rattle.std.specs.Prelude.{◌≡◌, ℕ, ◌+◌, Bool, false, List, [], ◌∷◌, count_by}
 use Rattle.std.specs.List.{AllByRecursion}
-use Rattle.strm_laws.specs.Prelude.{Place, Ldterm, Driver, Dir, Side, Master, Slave, Up, Down, Called, Turned, AllSides, Cells, direction_at}
+use Rattle.strm_laws.specs.Prelude.{Place, Driver, Dir, Side, Master, Slave, Up, Down, Called, Turned, AllSides, Cells, direction_at}
 use Rattle.strm_laws.specs.Prelude.{direction_from, is_open, weight, Fate, tallied, Fates, PlainEntry}
 use Rattle.strm_types.specs.declared.names.Place.TheVariants.{Head}
+use Rattle.strm_types.specs.declared.names.Place.TheVariants as places
 use Rattle.strm_laws.specs.LdtermWeights.{IgnoresMapping}
 use Rattle.strm_laws.specs.Stacked.{IsAtRest, modules_weight}
 use Rattle.strm_laws.specs.State.{State, Stream, stream}
@@ -18,7 +19,7 @@ module _ {C : Type 0} where
   abbrev pub tests_at : Cells C → (Dir → C → Bool) → Place → Type 0
   tests_at cells p Head = Unit {0}
   tests_at cells p Driver = Unit {0}
-  tests_at cells p Ldterm = IgnoresMapping cells p
+  tests_at cells p (places.Module name) = IgnoresMapping cells p
 
   abbrev pub MayTest : Cells C → (Dir → C → Bool) → PlainEntry → Type 0
   MayTest cells p (Called caller asked answer) = Unit {0}

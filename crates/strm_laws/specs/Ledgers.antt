@@ -1,14 +1,12 @@
 -- The ledger of a direction: how many bytes were written and made there, how many stand on its queues and in its unfinished lines, and how
 -- many have gone by each rule; and in how many places a single byte is (STREAMS Programming Guide, "Message Queues"; termio(7I)).
-use Rattle.std.specs.Prelude.{ℕ, ◌≡◌, ◌+◌, ◌<◌, ◌^◌, ◌==◌, nat_le, nat_lt, Bool, true, false, ◌&&◌, List, [], ◌∷◌, ◌++◌, length, sum_by}
-use Rattle.strm_laws.specs.Prelude.{Dir, MasterToSlave, SlaveToMaster, QueueName, Up, Down, Fates, RULES, Cells, Origin, Written, Made, Base, Tagged}
-use Rattle.strm_laws.specs.Prelude.{tagged, Fate, PlainEntry, other, side_from, fates_of}
+use Rattle.std.specs.Prelude.{ℕ, ◌≡◌, ◌+◌, ◌<◌, ◌^◌, ◌==◌, nat_le, nat_lt, Bool, true, false, ◌&&◌, List, [], ◌∷◌, ◌++◌, flat_map, length, sum_by}
+use Rattle.strm_laws.specs.Prelude.{Dir, MasterToSlave, SlaveToMaster, Up, Down, Fates, RULES, Cells, Origin, Written, Made, Base, Tagged, Message}
+use Rattle.strm_laws.specs.Prelude.{tagged, Fate, PlainEntry, messages_at, other, side_from, fates_of}
 use Rattle.strm_types.specs.declared.ledger.Ledger.{Ledger}
-use Rattle.strm_types.specs.declared.names.Place.TheVariants as places
 use Rattle.strm_laws.specs.Based.{based, cells_in}
 use Rattle.strm_laws.specs.Kept.{gone, state_weight}
 use Rattle.strm_laws.specs.Places.{weight_gone}
-use Rattle.strm_laws.specs.Pushes.{messages_on}
 use Rattle.strm_laws.specs.Stacked.{module_line}
 use Rattle.strm_laws.specs.State.{State, book, stream}
 use Rattle.strm_laws.specs.Step.{after, replay}
@@ -18,20 +16,19 @@ same_dir MasterToSlave MasterToSlave = true
 same_dir SlaveToMaster SlaveToMaster = true
 same_dir _ _ = false
 
--- the queues of a direction, those of the writer's stream first, each stream's from its head on
-abbrev pub queues_in : Dir → List QueueName
-queues_in dir =
-    let writer = side_from dir in
-    record { side = writer; place = places.Ldterm; way = Down } ∷ record { side = writer; place = places.Driver; way = Down }
-    ∷ record { side = other writer; place = places.Head; way = Up } ∷ record { side = other writer; place = places.Ldterm; way = Up } ∷ []
-
 module _ {C : Type 0} where
-  -- how many cells stand on a queue, and on all queues of a direction
-  abbrev pub cells_on : QueueName → State C → ℕ
-  cells_on name s = cells_in (messages_on name s)
+  -- What stands on the queues of a direction: in the writer's stream on those that go down, in the other one on those that go up, of each from its
+  -- head on.
+  abbrev pub queues_in : Dir → State C → List (List (Message C))
+  queues_in dir s =
+      let writer = stream (side_from dir) s in
+      let reader = stream (other (side_from dir)) s in
+      flat_map (messages_at Down) writer.modules ∷ writer.driver.queue.messages
+      ∷ reader.head.queue.messages ∷ flat_map (messages_at Up) reader.modules ∷ []
 
+  -- how many cells stand there
   abbrev pub queued : Dir → State C → ℕ
-  queued dir s = sum_by (λ name. cells_on name s) (queues_in dir)
+  queued dir s = sum_by (λ ms. cells_in ms) (queues_in dir s)
 
   -- how many stand in the unfinished lines of a direction, which are its reader's
   abbrev pub inline : Dir → State C → ℕ

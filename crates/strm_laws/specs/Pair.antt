@@ -1,7 +1,9 @@
 -- A pair as its callers see it, and what a call or a turn adds to it.
 use Rattle.std.specs.Prelude.{◌≡◌, ◌<◌, ◌⊎◌, ℕ, true, false, zero, suc, List, [], ◌∷◌, ◌++◌, Option, None, Some, slice_get}
-use Rattle.strm_laws.specs.Prelude.{Config, Turn, Moved, Blocked, Idle, STOP_BLOCKS, Ldterm, Side, Master, Way, Up, Down, Turned, Caller, Verdict}
+use Rattle.strm_laws.specs.Prelude.{Config, Turn, Moved, Blocked, Idle, STOP_BLOCKS, Side, Master, Way, Up, Down, Turned, Caller, Verdict}
 use Rattle.strm_laws.specs.Prelude.{QueueName, Refusal, Request, PlainEntry, is_closed, is_open, turn_blocks, plain, tallied, no_fates, Fates}
+use Rattle.strm_types.specs.declared.names.ModuleName.TheVariants as names
+use Rattle.strm_types.specs.declared.names.Place.TheVariants as places
 use Rattle.strm_laws.specs.State.{State, opening, stream}
 use Rattle.strm_laws.specs.Turns.{whole_turn}
 use Rattle.strm_types.specs.JobControl.{judged}
@@ -78,7 +80,7 @@ IsKeptAhead Down side s = is_closed (stream Master s).opened ≡ false
 -- A turn that moved so many bytes, of a pair in this state, stopped within its message, and so many blocks are free behind it: that is one of
 -- ldterm's, which treated a byte at least, and where what it sends is kept ahead fewer than `STOP_BLOCKS` blocks of some kind are free.
 pub record StopsWithin (s : State ℕ) (free : Free) (name : QueueName) (bytes : ℕ) : Type 0 where
-  pub place : name.place ≡ Ldterm
+  pub place : name.place ≡ places.Module names.Ldterm
   pub some : 0 < bytes
   pub few : IsKeptAhead name.way name.side s → enough STOP_BLOCKS free ≡ false
 

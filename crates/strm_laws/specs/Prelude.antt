@@ -42,9 +42,10 @@ unfoldable pub use Rattle.strm_types.specs.Message.{band_of, cells_of, data_mess
 unfoldable pub use Rattle.strm_types.specs.Message.{weight_of}
 pub use Rattle.strm_types.specs.ModuleQueues.{at_place, can_pass, place_before, place_past, waits_at, with_waiting}
 pub use Rattle.strm_types.specs.Modules.{act_among, change_among, may_push, put_among, stands, top_name, without_module}
-pub use Rattle.strm_types.specs.Names.{direction_at, direction_from, direction_of, driver_of, enable_found, enable_if, enable_some, head_of}
-pub use Rattle.strm_types.specs.Names.{is_closed, is_enabled, is_master, is_open, other, place_of, same_module, same_place, same_queue, same_side}
-pub use Rattle.strm_types.specs.Names.{same_way, side_from, without}
+pub use Rattle.strm_types.specs.Names.{direction_at, direction_from, direction_of, driver_of, enable_found, enable_if, enable_some, has_queues_at}
+pub use Rattle.strm_types.specs.Names.{have_queues, head_of}
+pub use Rattle.strm_types.specs.Names.{is_closed, is_enabled, is_master, is_open, other, place_of, same_module, same_place, same_queue}
+pub use Rattle.strm_types.specs.Names.{same_side, same_way, side_from, without}
 pub use Rattle.strm_types.specs.Needs.{needs}
 pub use Rattle.strm_types.specs.Numbers.{number_of}
 pub use Rattle.strm_types.specs.Options.{mode_message, options_in}
@@ -118,7 +119,7 @@ pub use Rattle.strm_types.specs.declared.names.ModuleName.{ModuleName}
 pub use Rattle.strm_types.specs.declared.names.Openness.{Openness}
 pub use Rattle.strm_types.specs.declared.names.Openness.TheVariants.{Closed, Open}
 pub use Rattle.strm_types.specs.declared.names.Place.{Place}
-pub use Rattle.strm_types.specs.declared.names.Place.TheVariants.{Driver, Ldterm}
+pub use Rattle.strm_types.specs.declared.names.Place.TheVariants.{Driver}
 pub use Rattle.strm_types.specs.declared.names.QueueName.{QueueName}
 pub use Rattle.strm_types.specs.declared.names.Side.{Side}
 pub use Rattle.strm_types.specs.declared.names.Side.TheVariants.{Master, Slave}

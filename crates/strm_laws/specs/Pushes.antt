@@ -1,11 +1,13 @@
 -- Modules that are pushed on a side's stream and taken off it: what is told the head, which queue is let come, and what goes with a
 -- module (streamio(7I): I_PUSH, I_POP, I_LOOK; STREAMS Programming Guide, "Modules"; ldterm(7M)).
-use Rattle.std.specs.Prelude.{Bool, true, false, not, if◌then◌else◌, List, [], ◌∷◌, ◌++◌, flat_map, Option, None, Some, is_some}
-use Rattle.strm_laws.specs.Prelude.{ReadMode, ByteStream, MessageKeep, ModuleName, Place, Ldterm, Driver, QueueName, Side, Way, Up, Down, Rule}
+use Rattle.std.specs.Prelude.{Bool, true, false, not, if◌then◌else◌, List, [], ◌∷◌, ◌++◌, flat_map, Option, None, Some}
+use Rattle.strm_laws.specs.Prelude.{ReadMode, ByteStream, MessageKeep, ModuleName, Place, Driver, QueueName, Side, Way, Up, Down, Rule}
 use Rattle.strm_laws.specs.Prelude.{ModulePopped, Spot, Acted, Carried, slot_dropped, new_ldterm, Message, may_push, top_name, without_module}
-use Rattle.strm_laws.specs.Prelude.{enable_if, place_of, mode_message, is_none_left, cleared, QueuePair, has_queues, messages_at, new_pair}
+use Rattle.strm_laws.specs.Prelude.{enable_if, have_queues, place_of, same_module, mode_message, is_none_left, cleared, QueuePair, has_queues}
+use Rattle.strm_laws.specs.Prelude.{messages_at, new_pair}
 use Rattle.strm_types.specs.declared.names.ModuleName.TheVariants as names
 use Rattle.strm_types.specs.declared.names.Place.TheVariants.{Head}
+use Rattle.strm_types.specs.declared.names.Place.TheVariants as places
 use Rattle.strm_laws.specs.Earlier.{before_at}
 use Rattle.strm_types.specs.Pckts.{new_pckt}
 use Rattle.strm_types.specs.Ptems.{new_ptem}
@@ -41,7 +43,7 @@ module _ {C : Type 0} where
   kind_named names.Pckt = OfPckt new_pckt
 
   abbrev pub queues_named : ModuleName → Option (QueuePair C)
-  queues_named name = if is_some (place_of name) then Some new_pair else None
+  queues_named name = if have_queues name then Some new_pair else None
 
   abbrev pub module_named : ModuleName → Standing C
   module_named name = record { part = kind_named name; queues = queues_named name }
@@ -65,11 +67,15 @@ module _ {C : Type 0} where
   abbrev pub with_modules : Side → List (Standing C) → State C → State C
   with_modules side ps s = with_stream side (record (stream side s) { modules = ps }) s
 
+  -- what stands on a module's queue of a way, where the module has this name
+  abbrev pub messages_of : ModuleName → Way → Standing C → List (Message C)
+  messages_of name way p = if same_module (module_name p) name then messages_at way p else []
+
   -- what stands on a queue of a stream, by its place
   abbrev pub messages_there : Place → Way → Stream C → List (Message C)
   messages_there Head way t = t.head.queue.messages
   messages_there Driver way t = t.driver.queue.messages
-  messages_there Ldterm way t = flat_map (messages_at way) t.modules
+  messages_there (places.Module name) way t = flat_map (messages_of name way) t.modules
 
   abbrev pub messages_on : QueueName → State C → List (Message C)
   messages_on name s = messages_there name.place name.way (stream name.side s)

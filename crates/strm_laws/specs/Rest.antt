@@ -1,11 +1,12 @@
 -- How much work a pair has before it: how many turns of its queues there are at most, before none of them is enabled and the pair rests
 -- (STREAMS Programming Guide, "Service Procedures"; srv(9E)).
-use Rattle.std.specs.Prelude.{ℕ, suc, ◌≡◌, ◌≤◌, ◌+◌, ◌*◌, Bool, true, false, List, [], ◌∷◌, length, sum_by, count_by, Option, None, Some}
+use Rattle.std.specs.Prelude.{ℕ, suc, ◌≡◌, ◌≤◌, ◌+◌, ◌*◌, Bool, true, false, not, List, [], ◌∷◌, length, sum_by, count_by, Option, None, Some}
 use Rattle.std.specs.List.{list_any}
-use Rattle.strm_laws.specs.Prelude.{MsgKind, Data, Proto, Ioctl, ModuleName, Ldterm, Driver, QueueName, Side, Master, Slave, Up, Down, disciplined}
-use Rattle.strm_laws.specs.Prelude.{Discipline, Stage, Between, Begun, Answered, Message, cells_of, is_enabled, other, echo_most}
+use Rattle.strm_laws.specs.Prelude.{MsgKind, Data, Proto, Ioctl, ModuleName, Driver, QueueName, Side, Master, Slave, Up, Down, disciplined}
+use Rattle.strm_laws.specs.Prelude.{Discipline, Stage, Between, Begun, Answered, Message, cells_of, has_queues_at, is_enabled, other, echo_most}
 use Rattle.strm_types.specs.declared.names.ModuleName.TheVariants as names
 use Rattle.strm_types.specs.declared.names.Place.TheVariants.{Head}
+use Rattle.strm_types.specs.declared.names.Place.TheVariants as places
 use Rattle.strm_laws.specs.Restorable.{is_ldterm}
 use Rattle.strm_laws.specs.StackCosts.{Stands, stands_of, stands_on}
 use Rattle.strm_laws.specs.Stacked.{Module, OfLdterm, Standing}
@@ -76,19 +77,25 @@ module _ {C : Type 0} where
   abbrev pub moves : Stands → State C → ℕ
   moves all s = stream_moves (echoes all Slave) (stream Master s) + stream_moves (echoes all Master) (stream Slave s)
 
--- each name that a queue may have
+-- each name of a place where queues stand
 abbrev pub queue_names : List QueueName
 queue_names =
     record { side = Master; place = Head; way = Up } ∷ record { side = Master; place = Head; way = Down }
-    ∷ record { side = Master; place = Ldterm; way = Up } ∷ record { side = Master; place = Ldterm; way = Down }
+    ∷ record { side = Master; place = places.Module names.Ldterm; way = Up }
+    ∷ record { side = Master; place = places.Module names.Ldterm; way = Down }
     ∷ record { side = Master; place = Driver; way = Up } ∷ record { side = Master; place = Driver; way = Down }
     ∷ record { side = Slave; place = Head; way = Up } ∷ record { side = Slave; place = Head; way = Down }
-    ∷ record { side = Slave; place = Ldterm; way = Up } ∷ record { side = Slave; place = Ldterm; way = Down }
+    ∷ record { side = Slave; place = places.Module names.Ldterm; way = Up }
+    ∷ record { side = Slave; place = places.Module names.Ldterm; way = Down }
     ∷ record { side = Slave; place = Driver; way = Up } ∷ record { side = Slave; place = Driver; way = Down } ∷ []
+
+-- how many names stand in a list of places where no queue stands: nothing adds one
+abbrev pub count_others : List QueueName → ℕ
+count_others names = count_by (λ name. not (has_queues_at name.place)) names
 
 -- how many queues are enabled
 abbrev pub count_enabled : List QueueName → ℕ
-count_enabled names = count_by (λ name. is_enabled name names) queue_names
+count_enabled names = count_by (λ name. is_enabled name names) queue_names + count_others names
 
 -- The work of a pair: one for each enabled queue, and for each move of a message 13, as it may enable each of the 12 queues that have a name.
 abbrev pub work : {C : Type 0} → State C → ℕ

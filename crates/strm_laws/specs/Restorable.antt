@@ -1,15 +1,17 @@
 -- What an image of a pair may hold. A checkpoint is refused for what no pair can have: each field here is one such reason turned round. What is
 -- said of the message in work and of options isn't stored: by it calls and turns keep the rest.
-use Rattle.std.specs.Prelude.{◌≡◌, ◌≤◌, ◌<◌, ◌+◌, ◌^◌, ◌||◌, Bool, true, false, List, [], map, length, Option, None, Some, is_some}
+use Rattle.std.specs.Prelude.{◌≡◌, ◌≤◌, ◌<◌, ◌+◌, ◌^◌, ◌&&◌, ◌||◌, Bool, true, false, List, [], map, length, Option, None, Some}
 use Rattle.std.specs.List.{AllByRecursion, list_any}
 use Rattle.strm_laws.specs.Prelude.{Put, Called, Turned, MsgKind, Ioctl, Iocack, Iocnak, Setopts, BANDS, IOCTL_MAX, IOCTL_END, MODULES, LINE_MAX}
-use Rattle.strm_laws.specs.Prelude.{COLUMN_MAX, Prio, High, ModuleName, Place, Ldterm, Driver, QueueName, Side, Way, Up, Down, Free, Termios}
+use Rattle.strm_laws.specs.Prelude.{COLUMN_MAX, Prio, High, ModuleName, Place, Driver, QueueName, Side, Way, Up, Down, Free, Termios}
 use Rattle.strm_laws.specs.Prelude.{AllSides, crosses, Request, Head as TheHead, is_data, PlainEntry, is_control_kind, is_body_kind, is_ioctl}
-use Rattle.strm_laws.specs.Prelude.{waits_there, Message, is_part, is_high_priority, is_master, is_open, place_of, options_in, Flow, IsOrdered, Queue}
+use Rattle.strm_laws.specs.Prelude.{waits_there, Message, is_part, is_high_priority, is_master, is_open, have_queues, same_module, options_in, Flow}
+use Rattle.strm_laws.specs.Prelude.{IsOrdered, Queue}
 use Rattle.strm_laws.specs.Prelude.{QueuePair, has_queues}
 use Rattle.strm_types.specs.declared.modes.Prio.TheVariants.{Band}
 use Rattle.strm_types.specs.declared.names.ModuleName.TheVariants as names
 use Rattle.strm_types.specs.declared.names.Place.TheVariants.{Head}
+use Rattle.strm_types.specs.declared.names.Place.TheVariants as places
 use Rattle.strm_types.specs.Ldterms.{Ldterm as TheLdterm}
 use Rattle.strm_types.specs.Names.{IsOnce}
 use Rattle.strm_laws.specs.Kept.{AreIdle}
@@ -72,14 +74,12 @@ pub record GoodQueue {C : Type 0} (stands : MsgKind → Bool) (q : Queue C) : Ty
   pub marks : AllByRecursion AreMarks q.flows
 
 abbrev pub is_ldterm : ModuleName → Bool
-is_ldterm names.Ldterm = true
-is_ldterm names.Ptem = false
-is_ldterm names.Pckt = false
+is_ldterm name = same_module name names.Ldterm
 
--- a queue with a service procedure is a driver's, or one of an ldterm that stands on its side (srv(9E))
+-- a queue with a service procedure is a driver's, or one of a module that stands on its side and has queues (srv(9E))
 abbrev pub is_there_among : Place → Way → List ModuleName → Bool
 is_there_among Head way on = false
-is_there_among Ldterm way on = list_any is_ldterm on
+is_there_among (places.Module name) way on = have_queues name && list_any (λ n. same_module n name) on
 is_there_among Driver Up on = false
 is_there_among Driver Down on = true
 
@@ -123,7 +123,7 @@ module _ {C : Type 0} where
   pub record GoodModule (x : Standing C) : Type 0 where
     pub kind : GoodKind x.part
     pub queues : GoodPair x.queues
-    pub has : has_queues x ≡ is_some (place_of (module_name x))
+    pub has : has_queues x ≡ have_queues (module_name x)
 
   -- three modules at most, and none twice (streamio(7I): I_PUSH)
   pub record GoodModules (ps : List (Standing C)) : Type 0 where

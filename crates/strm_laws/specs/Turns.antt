@@ -1,9 +1,10 @@
 -- Turns of the service procedures (STREAMS Programming Guide, "Service Procedures"; canput(9F), getq(9F)).
 use Rattle.std.specs.Prelude.{ℕ, Bool, true, false, not, ◌&&◌, ◌||◌, ◌==◌, if◌then◌else◌, List, [], ◌∷◌}
-use Rattle.strm_laws.specs.Prelude.{Turn, Moved, Blocked, Idle, Side, Place, Ldterm, Driver, QueueName, Message, size_of, band_of, is_held, Queue}
+use Rattle.strm_laws.specs.Prelude.{Turn, Moved, Blocked, Idle, Side, Place, Driver, QueueName, Message, size_of, band_of, is_held, Queue}
 use Rattle.strm_laws.specs.Prelude.{is_none_left, left_with, relieved, relieves, first_size, Cells, Way, Up, Spot, other, driver_of, is_open, without}
 use Rattle.strm_laws.specs.Prelude.{enable_if, enable_some}
 use Rattle.strm_types.specs.declared.names.Place.TheVariants.{Head}
+use Rattle.strm_types.specs.declared.names.Place.TheVariants as places
 use Rattle.strm_laws.specs.Puts.{delivered}
 use Rattle.strm_laws.specs.Earlier.{before_driver, driver_place, modules_on}
 use Rattle.strm_laws.specs.ModuleTurns.{module_turned, whole_module}
@@ -73,7 +74,7 @@ module _ {C : Type 0} where
   abbrev pub turned_at : Cells C → Place → QueueName → Turn → State C → TurnOutcome C
   turned_at cells Driver name turn s = driver_turned cells name.side s
   turned_at cells Head name turn s = stayed_put Idle s
-  turned_at cells Ldterm name turn s = module_turned cells name turn s
+  turned_at cells (places.Module owner) name turn s = module_turned cells name turn s
 
   -- A turn of an enabled queue, which is answered so. Where a service procedure may stop within a message, the answer says
   -- how far it went.
@@ -84,7 +85,7 @@ module _ {C : Type 0} where
   abbrev pub whole_at : Place → Way → Stream C → Turn
   whole_at Driver way from = Moved (first_size from.driver.queue.messages)
   whole_at Head way from = Idle
-  whole_at Ldterm way from = whole_module Ldterm way from
+  whole_at (places.Module owner) way from = whole_module (places.Module owner) way from
 
   abbrev pub whole_turn : QueueName → State C → Turn
   whole_turn name s = whole_at name.place name.way (stream name.side s)

@@ -1,8 +1,9 @@
 -- A head that is told its read mode, and what stands on the stream beside it.
 use Rattle.strm_pair.proofs.Prelude.{ℕ, suc, ◌≡◌, Bool, true, false, cond, List, [], ◌∷◌, refl, sym, ap, ◌∙◌, arith, nat_tests, Option, None, Some}
-use Rattle.strm_pair.proofs.Prelude.{is_some, ◌&&◌, ◌||◌, not, nat_le, nat_lt, min, get-set-same}
+use Rattle.strm_pair.proofs.Prelude.{◌&&◌, ◌||◌, not, nat_le, nat_lt, min, get-set-same}
 use Rattle.strm_pair.specs.Prelude.{MODULES, ReadMode, ModuleName, Side, Master, Slave, Up, EndClosed, plain, Carried, Fate, Goes, Took, before_among}
-use Rattle.strm_pair.specs.Prelude.{before_by, places_of, cells_of, first_place, stands, direction_at, driver_of, enable_if, is_open, other, place_of}
+use Rattle.strm_pair.specs.Prelude.{before_by, places_of, cells_of, first_place, stands, direction_at, driver_of, enable_if, have_queues, is_open}
+use Rattle.strm_pair.specs.Prelude.{other}
 use Rattle.strm_pair.specs.Prelude.{same_module, mode_message, head_above, may_stand, mode_put, module_named, named_by, with_modules, delivered}
 use Rattle.strm_pair.specs.Prelude.{is_none_left, Standing, module_name, State, Stream, stream, with_stream}
 use Rattle.std.specs.Prelude.{length}
@@ -95,10 +96,8 @@ abbrev pub driver_comes : Bool → Side → State ℕ → State ℕ
 driver_comes comes side s = record s { enabled = enable_if (comes && not (is_none_left (stream (other side) s).driver.queue.messages)) (driver_of (other side)) s.enabled }
 
 -- as no other module has one
-pub bare : (name : ModuleName) → same_module name names.Ldterm ≡ false → is_some (place_of name) ≡ false
-bare names.Ldterm other = absurd (cc)
-bare names.Ptem other = refl
-bare names.Pckt other = refl
+pub bare : (name : ModuleName) → same_module name names.Ldterm ≡ false → have_queues name ≡ false
+bare name other = other
 
 pub neither : (a b : Bool) → (a || b) ≡ false → (a ≡ false) × (b ≡ false)
 neither true b none = absurd (cc)
@@ -141,7 +140,7 @@ stays-there side p s = refl
 -- A module is pushed: the head may be told its mode before it stands there.
 pub pushed-is : (side : Side) (name : ModuleName) (p : Standing ℕ) (s : State ℕ) → named_by (Some name) ≡ Some p → AllByRecursion HasAsNamed (stream side s).modules
     → may_stand (named_by (Some name)) (stream side s).modules ≡ true → let t = mode_put side (mode_on_push name) s in
-    pushed_named side (named_by (Some name)) s ≡ record { state = driver_comes (is_some (place_of name)) side (with_modules side (p ∷ (stream side t.state).modules) t.state); gone = t.gone }
+    pushed_named side (named_by (Some name)) s ≡ record { state = driver_comes (have_queues name) side (with_modules side (p ∷ (stream side t.state).modules) t.state); gone = t.gone }
 pushed-is side names.Pckt p s is has may =
     ap (led []) (stays-there side (module_named names.Pckt) s) ∙ ap (λ q. led [] (driver_comes false side (with_modules side (q ∷ (stream side s).modules) s))) (ap or_new is)
 pushed-is side names.Ptem p s is has may =

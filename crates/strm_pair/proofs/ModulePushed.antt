@@ -1,7 +1,8 @@
 -- A module that is pushed on a stack of others.
 use Rattle.strm_pair.proofs.Prelude.{ℕ, zero, suc, ◌≡◌, ◌≤◌, ◌<◌, ◌+◌, Bool, true, false, List, [], ◌∷◌, map, refl, sym, ap, subst, ◌∙◌, arith}
 use Rattle.strm_pair.proofs.Prelude.{false≢true, sum_by-cons, Option, None, is_some, Some, IfSome, Result, Ok, Err, ◌&&◌, not, nat_lt, once-self}
-use Rattle.strm_pair.specs.Prelude.{MODULES, ModuleName, stands, place_of, same_module, stood, may_stand, module_named, named_by, Standing, kind_name}
+use Rattle.strm_pair.specs.Prelude.{MODULES, ModuleName, stands, have_queues, same_module, stood, may_stand, module_named, named_by, Standing}
+use Rattle.strm_pair.specs.Prelude.{kind_name}
 use Rattle.strm_pair.specs.Prelude.{module_name, StoreValue, list_at, all_of, AreHeld, Stack, Tables, QueuePair, owns, queues_in, queues_own}
 use Rattle.std.specs.List.{AllByRecursion}
 use Rattle.std.specs.Prelude.{MatchResult, length}
@@ -53,7 +54,7 @@ module _ (s : StoreValue) where
       omega (arith, sum_by-cons (λ y. owns y k) x xs, one-none x.queues (any-has s x held.0 ∙ bare name apart.0) k, no-queues xs held.1 apart.1 k)
 
   -- where one with queues may be pushed no other one has any
-  pub queues-alone : (kind : ModuleName) (xs : List AnyStanding) → AllByRecursion (IsHeld s) xs → may_stand (named_by (Some kind)) (map (module_in s) xs) ≡ true → is_some (place_of kind) ≡ true
+  pub queues-alone : (kind : ModuleName) (xs : List AnyStanding) → AllByRecursion (IsHeld s) xs → may_stand (named_by (Some kind)) (map (module_in s) xs) ≡ true → have_queues kind ≡ true
       → (k : ℕ) → all_of owns xs k ≡ 0
   queues-alone names.Ldterm xs held may is k =
       let ms = map (module_in s) xs in

@@ -1,17 +1,21 @@
 -- A turn that moved something treated its message whole, or a byte of it at least.
-use Rattle.strm_pair.proofs.Prelude.{ℕ, zero, suc, ◌≡◌, ◌≤◌, ◌<◌, ◌-◌, Bool, true, false, cond, List, [], ◌∷◌, length, map, inl, inr, refl, sym, ap}
+use Rattle.strm_pair.proofs.Prelude.{ℕ, zero, suc, ◌≡◌, ◌≤◌, ◌<◌, ◌-◌, Bool, true, false, cond, List, [], ◌∷◌, length, map, take, inl, inr, refl, sym}
+use Rattle.strm_pair.proofs.Prelude.{ap}
 use Rattle.strm_pair.proofs.Prelude.{subst, ◌∙◌, arith, ◌&&◌, nat_le, nat_lt, not, slice_index_or, Some, Option, None, nat_tests, FullFirst}
 use Rattle.strm_pair.proofs.Prelude.{kept-ahead, kind-is}
-use Rattle.strm_pair.specs.Prelude.{Turn, Moved, Blocked, Idle, MsgKind, STOP_BLOCKS, Data, Place, Driver, Ldterm, QueueName, Way, Spot, plain}
+use Rattle.strm_pair.specs.Prelude.{Turn, Moved, Blocked, Idle, MsgKind, STOP_BLOCKS, Data, Place, Driver, ModuleName, QueueName, Way, Spot, plain}
 use Rattle.strm_pair.specs.Prelude.{is_data_kind, is_data, bytes_left, Message, at_place, messages_at, is_open, other, first_size, disciplined}
+use Rattle.strm_pair.specs.Prelude.{have_queues, same_module, named_from, places_of, Standing, module_name, MODULES}
 use Rattle.strm_pair.specs.Prelude.{moved_by, place_named, IsKeptAhead, MovesOn, Free, enough, State, Stream, stream, discipline_of, module_at}
 use Rattle.strm_pair.specs.Prelude.{none_there, ldterm_of, TurnOutcome, stayed_put, driver_serves, driver_turned, is_stopped_across, moved_across}
 use Rattle.strm_pair.specs.Prelude.{Block, StoreValue, free_d, free_m, list_at, message_of, least_free, QueuePair, queues_in}
 use Rattle.std.specs.List.{AllByRecursion}
 use Rattle.std.proofs.Math.Nat.{le-min}
+use Rattle.strm_types.specs.declared.names.Place.TheVariants as places
 use Rattle.strm_types.specs.Ldterms as ldterms
 use Rattle.strm_laws.specs.ModuleTurns.{whole_module}
 use Rattle.strm_laws.specs.Turns.{whole_at}
+use Rattle.strm_types.proofs.EnabledNames.{queues-ldterm, same_module-sound}
 use Rattle.strm_laws.proofs.ModuleTurnCalls.{first-left}
 use Rattle.strm_msg.proofs.MadePlain.{booked-data}
 use Rattle.strm_pair.specs.declared.streams.Streams.{Streams}
@@ -50,19 +54,34 @@ module _ (here : Spot) where
   full-at s p held =
       subst (λ ms. Full (slice_index_or ms (here.at - 1) none_there)) (sym (modules-are s p here.side)) (full-among s (here.at - 1) (end_at here.side p).stack.modules.items held.each)
 
-whole-found : (way : Way) (on : Stream ℕ) (at : ℕ) → place_named Ldterm on.modules ≡ Some at → whole_module Ldterm way on ≡ Moved (at_place (λ p. first_size (messages_at way p)) 0 at on.modules)
-whole-found way on at is = rw is refl
+whole-found : (owner : ModuleName) (way : Way) (on : Stream ℕ) (at : ℕ) → place_named (places.Module owner) on.modules ≡ Some at → whole_module (places.Module owner) way on ≡ Moved (at_place (λ p. first_size (messages_at way p)) 0 at on.modules)
+whole-found owner way on at is = rw is refl
+
+-- a module whose queues are found has some
+found-has : (owner : ModuleName) (from : ℕ) (ps : List (Standing ℕ)) (at : ℕ) → named_from (places.Module owner) from (places_of ps) ≡ Some at → have_queues owner ≡ true
+found-has owner from [] at is = absurd (cc)
+found-has owner from (p ∷ ps) at is =
+    by (module_name p) (have_queues (module_name p)) refl (same_module (module_name p) owner) refl (λ more. found-has owner (suc from) ps at more) is
+  where
+    behind : Option ℕ
+    behind = named_from (places.Module owner) (suc from) (places_of ps)
+
+    by : (name : ModuleName) (has : Bool) → have_queues name ≡ has → (same : Bool) → same_module name owner ≡ same → (behind ≡ Some at → have_queues owner ≡ true)
+        → named_from (places.Module owner) from (cond has (Some (places.Module name)) None ∷ places_of ps) ≡ Some at → have_queues owner ≡ true
+    by name false none same alike more is = more is
+    by name true has true alike more is = subst (λ n. have_queues n ≡ true) (same_module-sound name owner alike) has
+    by name true has false alike more is = more (sym (ap (λ b. cond b (Some from) behind) alike) ∙ is)
 
 -- a turn that treats as many bytes as there are goes whole
-size-whole : (name : QueueName) (here : Spot) (s : State ℕ) (n : ℕ) → name.place ≡ Ldterm → here ≡ record { side = name.side; at = here.at; way = name.way } → place_named name.place (stream name.side s).modules ≡ Some here.at
+size-whole : (owner : ModuleName) (name : QueueName) (here : Spot) (s : State ℕ) (n : ℕ) → name.place ≡ places.Module owner → here ≡ record { side = name.side; at = here.at; way = name.way } → place_named name.place (stream name.side s).modules ≡ Some here.at
     → here.at - 1 < length (stream here.side s).modules → bytes_left here.way false (discipline_of (module_at here s)) ≡ n → Moved n ≡ whole_at name.place name.way (stream name.side s)
-size-whole name here s n place named found low left =
+size-whole owner name here s n place named found low left =
     let side = ap (λ (h : Spot). h.side) named in
     let way = ap (λ (h : Spot). h.way) named in
     let there = subst (λ w. at_place (λ p. first_size (messages_at w p)) 0 here.at (stream here.side s).modules ≡ n) way (first-left here s low ∙ left) in
     let size = subst (λ sd. at_place (λ p. first_size (messages_at name.way p)) 0 here.at (stream sd s).modules ≡ n) side there in
     sym (ap (λ (pl : Place). whole_at pl name.way (stream name.side s)) place
-    ∙ whole-found name.way (stream name.side s) here.at (subst (λ (pl : Place). place_named pl (stream name.side s).modules ≡ Some here.at) place found)
+    ∙ whole-found owner name.way (stream name.side s) here.at (subst (λ (pl : Place). place_named pl (stream name.side s).modules ≡ Some here.at) place found)
     ∙ ap Moved size)
 
 -- few blocks aren't enough
@@ -80,11 +99,14 @@ least-enough t few = at (nat_le STOP_BLOCKS (free_m t)) refl (nat_le STOP_BLOCKS
 
 -- a turn of a module's queue
 pub serves-moves : (name : QueueName) (here : Spot) (old begun : State ℕ) (t : StoreValue) (bytes : ℕ) → MayMove old begun name here → bytes ≤ bytes_left here.way false (discipline_of (module_at here begun))
-    → (bytes ≡ 0 → bytes_left here.way false (discipline_of (module_at here begun)) ≡ 0) → StopsFew here bytes begun t → name.place ≡ Ldterm → MovesOn old (free_in t) name (Moved bytes)
-serves-moves name here old begun t bytes may within some few place = at (nat_lt bytes left) refl
+    → (bytes ≡ 0 → bytes_left here.way false (discipline_of (module_at here begun)) ≡ 0) → StopsFew here bytes begun t → (owner : ModuleName) → name.place ≡ places.Module owner → MovesOn old (free_in t) name (Moved bytes)
+serves-moves name here old begun t bytes may within some few owner place = at (nat_lt bytes left) refl
   where
     left : ℕ
     left = bytes_left here.way false (discipline_of (module_at here begun))
+
+    found : place_named (places.Module owner) (stream name.side old).modules ≡ Some here.at
+    found = subst (λ (pl : Place). place_named pl (stream name.side old).modules ≡ Some here.at) place may.found
 
     low : here.at - 1 < length (stream here.side old).modules
     low = let inside = may.inside in let within = may.within in omega (arith, inside, within)
@@ -98,7 +120,7 @@ serves-moves name here old begun t bytes may within some few place = at (nat_lt 
     at true is =
         let less : bytes < left = grind (arith, nat_tests, is) in
         inr (record {
-          place = place;
+          place = place ∙ ap (λ n. places.Module n) (queues-ldterm owner (found-has owner 1 (take MODULES (stream name.side old).modules) here.at found));
           some = positive bytes less some;
           few = λ kept. least-enough t (few less (ahead kept));
         })
@@ -109,7 +131,7 @@ serves-moves name here old begun t bytes may within some few place = at (nat_lt 
     at false is =
         let most : left ≤ bytes = grind (arith, nat_tests, is) in
         let all : left ≡ bytes = omega (arith, most, within) in
-        inl (size-whole name here old bytes place may.named may.found low (subst (λ v. bytes_left here.way false (discipline_of (module_at here v)) ≡ bytes) may.stays all))
+        inl (size-whole owner name here old bytes place may.named may.found low (subst (λ v. bytes_left here.way false (discipline_of (module_at here v)) ≡ bytes) may.stays all))
 
 -- whichever queues are enabled
 pub moves-taken : (names : List QueueName) (s : State ℕ) (free : Free) (name : QueueName) (turn : Turn) → MovesOn (record s { enabled = names }) free name turn → MovesOn s free name turn

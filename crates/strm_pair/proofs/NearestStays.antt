@@ -1,7 +1,8 @@
 -- The nearest earlier queue goes by the names of the modules and by which have queues, so it is the same behind what a module does.
 use Rattle.strm_pair.proofs.Prelude.{ℕ, zero, suc, ◌≡◌, ◌-◌, Bool, cond, List, [], ◌∷◌, map, take, drop, refl, sym, ap, ◌∙◌, Option, None, Some}
 use Rattle.strm_pair.proofs.Prelude.{is_some, option_map, queue-names}
-use Rattle.strm_pair.specs.Prelude.{Side, Way, Up, Down, first_place, change_among, Queue, has_queues, place_of, turn_ended, Master, Slave, Spot}
+use Rattle.strm_pair.specs.Prelude.{Side, Way, Up, Down, first_place, change_among, Queue, has_queues, have_queues, place_of, turn_ended, Master}
+use Rattle.strm_pair.specs.Prelude.{Slave, Spot}
 use Rattle.strm_pair.specs.Prelude.{queue_ended, State, stream, with_stream, before_among, before_at, before_by, places_of, Standing, module_name}
 use Rattle.strm_pair.specs.Prelude.{StoreValue}
 use Rattle.std.specs.List.{AllByRecursion}
@@ -61,9 +62,9 @@ before-same side way at ps qs same has =
     ∙ sym (before-named side way at qs)
 
 -- modules that stand in a store have queues where those of their names have
-named-have : (ps : List (Standing ℕ)) → AllByRecursion HasAsNamed ps → all_have ps ≡ map (λ n. is_some (place_of n)) (map module_name ps)
+named-have : (ps : List (Standing ℕ)) → AllByRecursion HasAsNamed ps → all_have ps ≡ map have_queues (map module_name ps)
 named-have [] has = refl
-named-have (p ∷ ps) has = ap (λ b. b ∷ all_have ps) has.0 ∙ ap (λ all. is_some (place_of (module_name p)) ∷ all) (named-have ps has.1)
+named-have (p ∷ ps) has = ap (λ b. b ∷ all_have ps) has.0 ∙ ap (λ all. have_queues (module_name p) ∷ all) (named-have ps has.1)
 
 -- on streams whose modules of a side have the names that they had
 pub before-stays : (s t : StoreValue) (p q : Streams) (side : Side) (way : Way) (at : ℕ) → IsStackHeld s (end_at side p).stack → IsStackHeld t (end_at side q).stack
@@ -73,7 +74,7 @@ before-stays s t p q side way at before behind same =
     let qs = modules_in s (end_at side p).stack in
     let has =
     named-have ps (all-have t (end_at side q).stack.modules.items behind.each)
-    ∙ ap (map (λ n. is_some (place_of n))) same
+    ∙ ap (map have_queues) same
     ∙ sym (named-have qs (all-have s (end_at side p).stack.modules.items before.each)) in
     ap (before_among side way at) (modules-are t q side)
     ∙ before-same side way at ps qs same has

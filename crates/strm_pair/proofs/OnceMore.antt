@@ -1,14 +1,16 @@
 -- Values of which each stands once among others, appended one behind the other: none of them is there already.
 use Rattle.strm_pair.proofs.Prelude.{ℕ, zero, suc, ◌≡◌, ◌≤◌, ◌<◌, ◌+◌, Bool, true, false, cond, List, [], ◌∷◌, ◌++◌, length, take, get_or, refl, sym}
-use Rattle.strm_pair.proofs.Prelude.{ap, ◌∙◌, arith, ◌||◌, ◌==◌, None, Some, take_more}
-use Rattle.strm_pair.specs.Prelude.{Place, Ldterm, Driver, Side, Master, Slave, Way, Up, Down, QueueName, enable, is_enabled, same_place, AreSignals}
+use Rattle.strm_pair.proofs.Prelude.{ap, ◌∙◌, arith, ◌&&◌, ◌||◌, ◌==◌, not, None, Some, take_more}
+use Rattle.strm_pair.specs.Prelude.{Place, Driver, Side, Master, Slave, Way, Up, Down, QueueName, enable, is_enabled, same_place, AreSignals}
 use Rattle.std.specs.List.{AllByRecursion, list_any}
 use Rattle.std.proofs.lemmas.Bool.{eq-eqb}
 use Rattle.strm_types.specs.declared.names.Place.TheVariants.{Head}
-use Rattle.strm_types.specs.Names.{IsOnce, same_queue, same_side, same_way}
+use Rattle.strm_types.specs.declared.names.Place.TheVariants as places
+use Rattle.strm_types.specs.Names.{AreQueues, IsOnce, has_queues_at, same_queue, same_side, same_way}
 use Rattle.strm_types.specs.Names as names
 use Rattle.strm_types.specs.Signals.{has_signal, is_signal, signal_in, with_signal}
 use Rattle.strm_types.proofs.SignalRoom.{times, times-cons}
+use Rattle.strm_types.proofs.EnabledNames.{same_module-self}
 use Rattle.strm_image.proofs.EachOnce.{IsCount}
 
 module _ {A : Type 0} (same : A → A → Bool) (reflexive : (x : A) → same x x ≡ true) (count : A → List A → ℕ) (is : IsCount same count) where
@@ -55,7 +57,7 @@ side-self Slave = refl
 
 place-self : (p : Place) → same_place p p ≡ true
 place-self Head = refl
-place-self Ldterm = refl
+place-self (places.Module name) = same_module-self name
 place-self Driver = refl
 
 way-self : (w : Way) → same_way w w ≡ true
@@ -65,11 +67,17 @@ way-self Down = refl
 name-self : (n : QueueName) → same_queue n n ≡ true
 name-self n = rw (side-self n.side, place-self n.place, way-self n.way) refl
 
-pub name-next : (ns : List QueueName) (i : ℕ) (d : QueueName) (before after : List QueueName) → IsOnce ns → i < length ns → before ≡ take i ns → after ≡ enable (get_or ns i d) before → after ≡ take (i + 1) ns
-name-next ns i d before after once within so_far added =
+queues-at : (ns : List QueueName) (i : ℕ) (d : QueueName) → AreQueues ns → i < length ns → has_queues_at (get_or ns i d).place ≡ true
+queues-at [] i d are within = absurd (omega (arith, within))
+queues-at (n ∷ ns) zero d are within = are.0
+queues-at (n ∷ ns) (suc i) d are within = queues-at ns i d are.1 (omega (arith, within))
+
+pub name-next : (ns : List QueueName) (i : ℕ) (d : QueueName) (before after : List QueueName) → IsOnce ns → AreQueues ns → i < length ns → before ≡ take i ns → after ≡ enable (get_or ns i d) before → after ≡ take (i + 1) ns
+name-next ns i d before after once are within so_far added =
     let n = get_or ns i d in
     let absent : is_enabled n (take i ns) ≡ false = not-before same_queue name-self names.times (record { none = λ x. refl; more = λ x y xs. refl }) ns i d within (once n) in
     added
     ∙ ap (λ ks. enable n ks) so_far
-    ∙ ap (λ b. cond b (take i ns) (take i ns ++ n ∷ [])) absent
+    ∙ ap (λ b. cond (has_queues_at n.place && not b) (take i ns ++ n ∷ []) (take i ns)) absent
+    ∙ ap (λ b. cond (b && true) (take i ns ++ n ∷ []) (take i ns)) (queues-at ns i d are within)
     ∙ sym (take_more ns i d within)

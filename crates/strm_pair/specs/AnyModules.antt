@@ -2,7 +2,8 @@
 use Rattle.std.specs.Prelude.{ℕ, ◌≡◌, Bool, false, List, [], ◌∷◌, map, Option, None, Some, is_some}
 use Rattle.std.specs.List.{AllByRecursion}
 use Rattle.std.proofs.Common.{refl, ap}
-use Rattle.strm_pair.specs.Prelude.{ModuleName, Way, Spot, plain, disciplined, Message, place_of, has_queues, stood, Module, OfLdterm, OfPtem, OfPckt}
+use Rattle.strm_pair.specs.Prelude.{ModuleName, Way, Spot, plain, disciplined, Message, have_queues, has_queues, stood, Module, OfLdterm, OfPtem}
+use Rattle.strm_pair.specs.Prelude.{OfPckt}
 use Rattle.strm_pair.specs.Prelude.{Standing, kind_name, module_name, module_puts, module_serves, without_kind_line, ldterm_of, StoreValue, SameOwn}
 use Rattle.strm_pair.specs.Prelude.{Fits, keeps_of, owns, queues_in, queues_own, standing_in, own-rests, ptem_in, pckt_in}
 use Rattle.strm_types.specs.Standings.{QueuePair}
@@ -50,7 +51,7 @@ abbrev pub FitsAny : Bool → AnyModule → Type 0
 FitsAny b x = (s : StoreValue) (queues : Option frame.QueuePair) → is_some queues ≡ b → IsKindHeld s x queues
 
 pub record IsFresh (name : ModuleName) (x : AnyModule) : Type 0 where
-  pub held : FitsAny (is_some (place_of name)) x
+  pub held : FitsAny (have_queues name) x
   pub rests : (i : ℕ) → kind_keeps x i ≡ 0
 
 -- nothing of an unfinished line is left in it
@@ -95,9 +96,9 @@ any-frame s t x same held = standing-frame kind_in IsKindHeld kind_keeps module-
 
 -- It has queues where those of its name have.
 abbrev pub HasAsNamed : Standing ℕ → Type 0
-HasAsNamed p = has_queues p ≡ is_some (place_of (module_name p))
+HasAsNamed p = has_queues p ≡ have_queues (module_name p)
 
-kind-has : (s : StoreValue) (x : AnyModule) (queues : Option frame.QueuePair) → IsKindHeld s x queues → is_some (queues_in s queues) ≡ is_some (place_of (kind_name (kind_in s x)))
+kind-has : (s : StoreValue) (x : AnyModule) (queues : Option frame.QueuePair) → IsKindHeld s x queues → is_some (queues_in s queues) ≡ have_queues (kind_name (kind_in s x))
 kind-has s (kinds.Ldterm x) None held = absurd held
 kind-has s (kinds.Ldterm x) (Some pair) held = refl
 kind-has s (kinds.Ptem x) queues held = ap (λ o. is_some (queues_in s o)) held

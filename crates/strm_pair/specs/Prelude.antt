@@ -110,7 +110,7 @@ unfoldable pub use Rattle.strm_types.specs.Message.{cells_of, data_message, is_h
 pub use Rattle.strm_types.specs.ModuleQueues.{at_place, first_place, place_past}
 pub use Rattle.strm_types.specs.Modules.{act_among, change_among, stands, top_name, without_module}
 pub use Rattle.strm_types.specs.Names.{direction_at, direction_from, direction_of, driver_of, enable, enable_if, enable_some, head_of, is_enabled}
-pub use Rattle.strm_types.specs.Names.{is_open, other, place_of, same_module, same_place}
+pub use Rattle.strm_types.specs.Names.{have_queues, is_open, other, place_of, same_module, same_place}
 pub use Rattle.strm_types.specs.Needs.{needs}
 pub use Rattle.strm_types.specs.Options.{mode_message}
 pub use Rattle.strm_types.specs.OutputTurns.{Outgoing, output_serves, posted, unchanged}
@@ -151,7 +151,7 @@ pub use Rattle.strm_types.specs.declared.names.ModuleName.{ModuleName}
 pub use Rattle.strm_types.specs.declared.names.Openness.{Openness}
 pub use Rattle.strm_types.specs.declared.names.Openness.TheVariants.{Open}
 pub use Rattle.strm_types.specs.declared.names.Place.{Place}
-pub use Rattle.strm_types.specs.declared.names.Place.TheVariants.{Driver, Ldterm}
+pub use Rattle.strm_types.specs.declared.names.Place.TheVariants.{Driver}
 pub use Rattle.strm_types.specs.declared.names.QueueName.{QueueName}
 pub use Rattle.strm_types.specs.declared.names.Side.{Side}
 pub use Rattle.strm_types.specs.declared.names.Side.TheVariants.{Master, Slave}

@@ -1,8 +1,9 @@
 -- What a pair shows of its queues.
 use Rattle.std.specs.Prelude.{ℕ, ◌≡◌, ◌+◌, Bool, false, List, []}
-use Rattle.strm_pair.specs.Prelude.{Message, Place, Ldterm, Driver, Way, Up, Down, QueueName, AllSides, count_of, first_size, State, Stream, stream}
+use Rattle.strm_pair.specs.Prelude.{Message, Place, Driver, Way, Up, Down, QueueName, AllSides, count_of, first_size, State, Stream, stream}
 use Rattle.strm_pair.specs.Prelude.{StoreValue, messages_on}
 use Rattle.strm_types.specs.declared.names.Place.TheVariants.{Head}
+use Rattle.strm_types.specs.declared.names.Place.TheVariants as places
 use Rattle.strm_types.specs.ModuleQueues as modules
 use Rattle.strm_types.specs.Queue.{is_full}
 use Rattle.strm_pair.specs.Lists.{first_list}
@@ -25,7 +26,7 @@ pub record Shows (s : StoreValue) (state : State ℕ) : Type 0 where
 abbrev pub messages_in : Place → Way → Stream ℕ → List (Message ℕ)
 messages_in Head Up t = t.head.queue.messages
 messages_in Driver Down t = t.driver.queue.messages
-messages_in Ldterm way t = messages_named Ldterm way t.modules
+messages_in (places.Module owner) way t = messages_named (places.Module owner) way t.modules
 messages_in _ _ t = []
 
 -- how many bytes count in a band of it
@@ -36,7 +37,7 @@ count_in place way band t = count_of band (messages_in place way t)
 abbrev pub full_in : Place → Way → ℕ → Stream ℕ → Bool
 full_in Head Up band t = is_full band t.head.queue
 full_in Driver Down band t = is_full band t.driver.queue
-full_in Ldterm way band t = at_named Ldterm (modules.full_at way band) false t.modules
+full_in (places.Module owner) way band t = at_named (places.Module owner) (modules.full_at way band) false t.modules
 full_in _ _ band t = false
 
 -- how many bytes count in a band of a queue: none in one that doesn't exist

@@ -29,7 +29,7 @@ impl Streams {
                 Way::Up => 0,
                 Way::Down => count(store, &end.driver, band),
             },
-            Place::Ldterm => count_named(&end.stack, store, queue.place, queue.way, band),
+            Place::Module(_) => count_named(&end.stack, store, queue.place, queue.way, band),
         }
     }
 
@@ -49,7 +49,7 @@ impl Streams {
                 Way::Up => (0, 0),
                 Way::Down => sizes(store, &end.driver),
             },
-            Place::Ldterm => sizes_named(&end.stack, store, queue.place, queue.way),
+            Place::Module(_) => sizes_named(&end.stack, store, queue.place, queue.way),
         }
     }
 
@@ -68,7 +68,7 @@ impl Streams {
                 Way::Up => 0,
                 Way::Down => first_size(store, &end.driver),
             },
-            Place::Ldterm => first_size_named(&end.stack, store, queue.place, queue.way),
+            Place::Module(_) => first_size_named(&end.stack, store, queue.place, queue.way),
         }
     }
 
@@ -87,7 +87,7 @@ impl Streams {
                 Way::Up => false,
                 Way::Down => is_full(store, &end.driver, band),
             },
-            Place::Ldterm => is_full_named(&end.stack, store, queue.place, queue.way, band),
+            Place::Module(_) => is_full_named(&end.stack, store, queue.place, queue.way, band),
         }
     }
 }

@@ -3,7 +3,8 @@
 
 ghost use Rattle.std.specs.Prelude.{ℕ, ◌≡◌, ◌≤◌, ◌<◌, length, false};
 ghost use Rattle.strm_types.specs.declared.limits.TheConstants.{STOP_BLOCKS};
-ghost use Rattle.strm_types.specs.declared.names.Place.TheVariants.{Ldterm};
+ghost use Rattle.strm_types.specs.declared.names.ModuleName.{ModuleName};
+ghost use Rattle.strm_types.specs.declared.names.Place.TheVariants.{Module};
 ghost use Rattle.strm_types.specs.Cells.{plain};
 ghost use Rattle.strm_types.specs.ModuleQueues.{at_place};
 ghost use Rattle.strm_laws.specs.Ledgers.{FewBooked};
@@ -132,7 +133,7 @@ impl Streams {
         ensures leads { let s = B.value store.old in let is = module_turned plain name result (state_in s self.old) in
             Leads s (B.value store.new) self.new told.old told.new is.state is.gone }
         ensures few { FewBooked (state_in (B.value store.new) self.new) }
-        ensures stops { name.place ≡ Ldterm →
+        ensures stops { (owner : ModuleName) → name.place ≡ Module owner →
             MovesOn (state_in (B.value store.old) self.old) (free_in (B.value store.new)) name result }
     {
         match self.begin_module_turn(store, name) {

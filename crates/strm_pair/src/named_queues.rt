@@ -17,12 +17,10 @@ use strm_types::{Band, MODULES, Place, Way};
 fn is_there(place: Place, found: Option<Place>) -> bool
     ensures { result ≡ is_there place found }
 {
-    matches!(
-        (found, place),
-        (Some(Place::Head), Place::Head)
-            | (Some(Place::Ldterm), Place::Ldterm)
-            | (Some(Place::Driver), Place::Driver)
-    )
+    match found {
+        Some(there) => there.is_same(place),
+        None => false,
+    }
 }
 
 /// The place of the module of a stack whose queues have a name, where one stands there.

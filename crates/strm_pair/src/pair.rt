@@ -13,6 +13,7 @@ ghost use Rattle.strm_laws.specs.Step.{replay, IsLegal};
 ghost use Rattle.strm_laws.specs.Kept.{told_by};
 ghost use Rattle.strm_laws.specs.Ledgers.{Balanced, is_booked, ledger_of, own_places_of, places_of};
 ghost use Rattle.strm_types.specs.declared.names.Dir.{Dir};
+ghost use Rattle.strm_types.specs.Names.{AreQueues};
 ghost use Rattle.strm_types.specs.Queue.{bytes_of};
 ghost use Rattle.strm_laws.specs.ModuleTurns.{place_named};
 ghost use Rattle.strm_laws.specs.Restorable.{Restorable};
@@ -128,9 +129,10 @@ impl<B: Blocks + Drop> Pair<B> {
         self.base.write(&self.store, &self.streams, &self.fates);
     }
 
-    /// The queues that are enabled, in order of enabling.
+    /// The queues that are enabled, in order of enabling: each is of a place where queues stand.
     pub fn enabled(&self) -> &[QueueName]
-        ensures { result.now ≡ self.now.state.enabled }
+        ensures names { result.now ≡ self.now.state.enabled }
+        ensures queues { AreQueues result.now }
     {
         self.streams.enabled.as_slice()
     }

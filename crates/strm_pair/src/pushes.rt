@@ -7,7 +7,7 @@ ghost use Rattle.strm_types.specs.Dropped.{is_met};
 ghost use Rattle.strm_types.specs.Journal.{answer_len, reply_in};
 ghost use Rattle.strm_types.specs.Options.{mode_number};
 ghost use Rattle.strm_laws.specs.Pushes.{all_taken, below_top, may_stand, mode_behind, mode_on_push, mode_put, modules_emptied, named_by, popped, pushed_named, top_on, with_modules};
-ghost use Rattle.strm_types.specs.Names.{driver_of, enable_if, other, place_of};
+ghost use Rattle.strm_types.specs.Names.{driver_of, enable_if, have_queues, other};
 ghost use Rattle.strm_types.specs.Queue.{is_none_left};
 ghost use Rattle.strm_laws.specs.State.{stream};
 ghost use Rattle.strm_frame.specs.Hands.{HasRoom};
@@ -250,11 +250,11 @@ impl Streams {
     // stream has one then.
     fn come_from_driver<B: Blocks>(&mut self, store: &B, side: Side, name: ModuleName)
         ensures { let s = state_in (B.value store.now) self.old in self.new ≡ record self.old {
-          enabled = enable_if (is_some (place_of name) && not (is_none_left (stream (other side) s).driver.queue.messages)) (driver_of (other side)) s.enabled;
+          enabled = enable_if (have_queues name && not (is_none_left (stream (other side) s).driver.queue.messages)) (driver_of (other side)) s.enabled;
         } }
     {
         let other = side.other();
-        let waits = name.place().is_some() && !self.end(other).driver.is_empty(store);
+        let waits = name.has_queues() && !self.end(other).driver.is_empty(store);
         self.enabled.enable_if(waits, other.driver());
     }
 

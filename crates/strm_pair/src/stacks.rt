@@ -5,7 +5,7 @@ ghost use Rattle.std.specs.Prelude.{ℕ, ◌≡◌, ◌<◌, ◌≤◌, ◌+◌,
 ghost use Rattle.strm_types.specs.Dropped.{is_met};
 ghost use Rattle.strm_laws.specs.Earlier.{places_of};
 ghost use Rattle.strm_laws.specs.Pushes.{below_top, may_stand, named_by};
-ghost use Rattle.strm_types.specs.Names.{place_of};
+ghost use Rattle.strm_types.specs.Names.{have_queues};
 ghost use Rattle.strm_blocks.specs.Blocks.{StoreValue, list_at};
 ghost use Rattle.strm_frame.specs.Standings.{owns};
 ghost use Rattle.strm_pair.specs.AnyModules.{AnyStanding, IsBare};
@@ -121,11 +121,11 @@ pub(crate) fn take_top<B: Blocks>(
 // tables are taken off the shelf.
 fn queues_for(name: ModuleName, first: usize, shelf: &mut Option<Tables>) -> Option<QueuePair>
     requires first { first ≤ 6 }
-    requires shelf { is_some (place_of name) ≡ true → is_some shelf.old ≡ true }
+    requires shelf { have_queues name ≡ true → is_some shelf.old ≡ true }
     ensures given { GivenFor name first result }
     ensures shelf { result ≡ None → shelf.new ≡ shelf.old }
 {
-    if name.place().is_none() {
+    if !name.has_queues() {
         return None;
     }
     let Some(tables) = shelf.take() else {

@@ -265,7 +265,7 @@ impl Streams {
         self.enabled.remove(name);
         match name.place {
             Place::Driver => self.turn_driver(store, name.side, told),
-            Place::Ldterm => self.turn_module(store, name, told),
+            Place::Module(_) => self.turn_module(store, name, told),
             Place::Head => Turn::Idle,
         }
     }

@@ -95,7 +95,7 @@ all-are-told = refl
 abbrev itself : ModuleName → ModuleName
 itself name = name
 
-pub queues-of-ldterm-alone : map place_of (Ldterm ∷ Ptem ∷ Pckt ∷ []) ≡ Some places.Ldterm ∷ None ∷ None ∷ []
+pub queues-of-ldterm-alone : map place_of (Ldterm ∷ Ptem ∷ Pckt ∷ []) ≡ Some (places.Module Ldterm) ∷ None ∷ None ∷ []
 queues-of-ldterm-alone = refl
 
 pub names-are-told-apart : map (same_module Ptem) (Ldterm ∷ Ptem ∷ Pckt ∷ []) ≡ false ∷ true ∷ false ∷ []

@@ -95,7 +95,7 @@ idle-turn = refl
 
 -- the names of a module's two queues go, those of the other side stay
 abbrev named : Side → Way → QueueName
-named side way = record { side = side; place = places.Ldterm; way = way }
+named side way = record { side = side; place = places.Module Ldterm; way = way }
 
 pub names-of-a-popped-module : without_module Slave Ldterm (named Slave Up ∷ named Master Up ∷ driver_of Slave ∷ named Slave Down ∷ []) ≡ named Master Up ∷ driver_of Slave ∷ []
 names-of-a-popped-module = refl

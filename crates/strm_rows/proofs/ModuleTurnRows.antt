@@ -1,8 +1,9 @@
 -- Turns of modules' queues, as worked out by hand from the STREAMS Programming Guide, ldterm(7M) and termio(7I).
 use Rattle.strm_rows.proofs.Prelude.{ℕ, ◌≡◌, Bool, true, false, List, [], ◌∷◌, ◌++◌, map, refl, None, Some, Turn, Moved, Blocked, Idle, Turned, Open}
-use Rattle.strm_rows.proofs.Prelude.{Driver, Ldterm, QueueName, Master, Slave, Up, Down, new_book, plain, carried, Message, band_of, cells_of}
+use Rattle.strm_rows.proofs.Prelude.{Driver, QueueName, Master, Slave, Up, Down, new_book, plain, carried, Message, band_of, cells_of}
 use Rattle.strm_rows.proofs.Prelude.{data_message, is_high_priority, rank_of, size_of, driver_of, Flow, Queue, Standing, ldterm_stands, State, Stream}
 use Rattle.strm_rows.proofs.Prelude.{new_stream, TurnOutcome, turned, whole_turn, head_with, ordinary, fresh, module_named}
+use Rattle.strm_types.specs.declared.names.Place.TheVariants as places
 use Rattle.strm_types.specs.declared.names.ModuleName.TheVariants as names
 use Rattle.strm_laws.specs.ModuleTurns.{calls, module_turned, place_named, whole_module}
 use Rattle.strm_laws.specs.Stacked.{module_queues}
@@ -24,10 +25,10 @@ abbrev pair : Stream ℕ → State ℕ
 pair on = record { ends = record { master = record new_stream { opened = Open }; slave = on }; locked = false; enabled = []; next_ioctl = 1; books = record { master = new_book; slave = new_book } }
 
 abbrev reading : QueueName
-reading = record { side = Slave; place = Ldterm; way = Up }
+reading = record { side = Slave; place = places.Module names.Ldterm; way = Up }
 
 abbrev writing : QueueName
-writing = record { side = Slave; place = Ldterm; way = Down }
+writing = record { side = Slave; place = places.Module names.Ldterm; way = Down }
 
 -- what is seen behind a turn: the answer, the cells on the head's queue, on the queues of the module on top and on the driver's, which of
 -- these have a writer that waits, and which want to be read
@@ -168,14 +169,14 @@ pub room-past : map (λ at. may_pass Down at 0 two) (0 ∷ 1 ∷ 2 ∷ []) ≡ t
 unfolding cells_of band_of is_high_priority size_of
 room-past = refl
 
-pub names-found : map (λ place. place_named place two.modules) (Ldterm ∷ Driver ∷ []) ≡ Some 1 ∷ None ∷ []
+pub names-found : map (λ place. place_named place two.modules) (places.Module names.Ldterm ∷ Driver ∷ []) ≡ Some 1 ∷ None ∷ []
 names-found = refl
 
 -- a module without queues stands in no one's way: what it stands above is found, and the queue past it is asked for room
 abbrev above_one : Stream ℕ
 above_one = stacked (busy [] false) (module_named names.Ptem ∷ module_with (busy [] false) (busy full false) ∷ module_named names.Ptem ∷ []) (busy [] false)
 
-pub name-found-below : map (λ place. place_named place above_one.modules) (Ldterm ∷ Driver ∷ []) ≡ Some 2 ∷ None ∷ []
+pub name-found-below : map (λ place. place_named place above_one.modules) (places.Module names.Ldterm ∷ Driver ∷ []) ≡ Some 2 ∷ None ∷ []
 name-found-below = refl
 
 pub room-past-one : map (λ at. may_pass Down at 0 above_one) (0 ∷ 1 ∷ 2 ∷ 3 ∷ []) ≡ false ∷ false ∷ true ∷ true ∷ []
@@ -183,14 +184,14 @@ unfolding cells_of band_of is_high_priority size_of
 room-past-one = refl
 
 -- whole turns
-pub whole-turns : map (λ way. whole_module Ldterm way two) (Up ∷ Down ∷ []) ≡ Moved 0 ∷ Moved 0 ∷ []
+pub whole-turns : map (λ way. whole_module (places.Module names.Ldterm) way two) (Up ∷ Down ∷ []) ≡ Moved 0 ∷ Moved 0 ∷ []
 whole-turns = refl
 
-pub whole-of-the-first : whole_module Ldterm Up typed.ends.slave ≡ Moved 3
+pub whole-of-the-first : whole_module (places.Module names.Ldterm) Up typed.ends.slave ≡ Moved 3
 unfolding cells_of size_of
 whole-of-the-first = refl
 
-pub whole-of-none : whole_module {C = ℕ} Ldterm Up new_stream ≡ Idle
+pub whole-of-none : whole_module {C = ℕ} (places.Module names.Ldterm) Up new_stream ≡ Idle
 whole-of-none = refl
 
 -- A journal's turn of a module's queue is such a turn, once the queue is off the list of enabled ones.

@@ -1,7 +1,9 @@
 -- What the definitions of names and of refusals' numbers compute, case by case.
 use Rattle.strm_rows.proofs.Prelude.{◌≡◌, true, false, List, [], ◌∷◌, map, refl, replicate, filter, None, Some, Side, Master, Slave, Way, Up, Down}
-use Rattle.strm_rows.proofs.Prelude.{Ldterm, Driver, QueueName, MasterToSlave, SlaveToMaster, Never, Open, Closed, Einval, Eagain, Enxio, Ebadmsg}
+use Rattle.strm_rows.proofs.Prelude.{Driver, QueueName, MasterToSlave, SlaveToMaster, Never, Open, Closed, Einval, Eagain, Enxio, Ebadmsg}
 use Rattle.strm_rows.proofs.Prelude.{Enosr, Erange, JournalFull, NoMinor, NoMemory, StillShared, Eio, number_of, driver_of, head_of}
+use Rattle.strm_types.specs.declared.names.ModuleName.TheVariants as names
+use Rattle.strm_types.specs.declared.names.Place.TheVariants as places
 use Rattle.strm_types.specs.declared.names.Place.{Place}
 use Rattle.strm_types.specs.declared.names.Place.TheVariants.{Head}
 use Rattle.strm_types.specs.Names.{other, is_master, direction_from, side_from, is_open, is_never, has_service, direction_of, is_enabled, enable, enable_if, enable_some, without, times}
@@ -14,10 +16,10 @@ named side place way = record { side = side; place = place; way = way }
 
 -- the six names of a side, and all twelve
 abbrev names_of : Side → List QueueName
-names_of side = named side Head Up ∷ named side Head Down ∷ named side Ldterm Up ∷ named side Ldterm Down ∷ named side Driver Up ∷ named side Driver Down ∷ []
+names_of side = named side Head Up ∷ named side Head Down ∷ named side (places.Module names.Ldterm) Up ∷ named side (places.Module names.Ldterm) Down ∷ named side Driver Up ∷ named side Driver Down ∷ []
 
 abbrev all_names : List QueueName
-all_names = named Master Head Up ∷ named Master Head Down ∷ named Master Ldterm Up ∷ named Master Ldterm Down ∷ named Master Driver Up ∷ named Master Driver Down ∷ names_of Slave
+all_names = named Master Head Up ∷ named Master Head Down ∷ named Master (places.Module names.Ldterm) Up ∷ named Master (places.Module names.Ldterm) Down ∷ named Master Driver Up ∷ named Master Driver Down ∷ names_of Slave
 
 pub sides-and-directions : map other (Master ∷ Slave ∷ []) ≡ Slave ∷ Master ∷ []
 sides-and-directions = refl
@@ -44,7 +46,7 @@ names-of-drivers-and-heads = refl
 pub names-are-apart : map (λ name. times name all_names) all_names ≡ replicate 12 1
 names-are-apart = refl
 
-pub heads-have-no-service : filter has_service (names_of Slave) ≡ named Slave Ldterm Up ∷ named Slave Ldterm Down ∷ named Slave Driver Up ∷ named Slave Driver Down ∷ []
+pub heads-have-no-service : filter has_service (names_of Slave) ≡ named Slave (places.Module names.Ldterm) Up ∷ named Slave (places.Module names.Ldterm) Down ∷ named Slave Driver Up ∷ named Slave Driver Down ∷ []
 heads-have-no-service = refl
 
 pub directions-of-queues : map direction_of (head_of Master ∷ driver_of Master ∷ head_of Slave ∷ driver_of Slave ∷ []) ≡ SlaveToMaster ∷ MasterToSlave ∷ MasterToSlave ∷ SlaveToMaster ∷ []

@@ -67,7 +67,7 @@ pub use Rattle.strm_types.specs.declared.names.Dir.TheVariants.{MasterToSlave, S
 pub use Rattle.strm_types.specs.declared.names.ModuleName.TheVariants.{Pckt, Ptem}
 pub use Rattle.strm_types.specs.declared.names.Openness.{Openness}
 pub use Rattle.strm_types.specs.declared.names.Openness.TheVariants.{Closed, Never, Open}
-pub use Rattle.strm_types.specs.declared.names.Place.TheVariants.{Driver, Ldterm}
+pub use Rattle.strm_types.specs.declared.names.Place.TheVariants.{Driver}
 pub use Rattle.strm_types.specs.declared.names.QueueName.{QueueName}
 pub use Rattle.strm_types.specs.declared.names.Side.{Side}
 pub use Rattle.strm_types.specs.declared.names.Side.TheVariants.{Master, Slave}

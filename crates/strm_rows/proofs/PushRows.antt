@@ -1,10 +1,11 @@
 -- Pushes, pops and closes of streams with modules, worked out by hand (streamio(7I): I_PUSH, I_POP, I_LOOK; ldterm(7M); close(2)).
 use Rattle.strm_rows.proofs.Prelude.{ℕ, ◌≡◌, true, false, List, [], ◌∷◌, map, refl, replicate, None, Some, Option, Done, Name, ByteStream}
-use Rattle.strm_rows.proofs.Prelude.{MessageDiscard, MessageKeep, Open, Closed, Ldterm, QueueName, Master, Slave, Up, Down, MasterToSlave}
+use Rattle.strm_rows.proofs.Prelude.{MessageDiscard, MessageKeep, Open, Closed, QueueName, Master, Slave, Up, Down, MasterToSlave}
 use Rattle.strm_rows.proofs.Prelude.{SlaveToMaster, EndClosed, ModulePopped, new_book, closed_at, Carried, Goes, carried, Message, cells_of, size_of}
 use Rattle.strm_rows.proofs.Prelude.{is_held, band_of, is_high_priority, driver_of, module_named, Flow, at_end, Standing, module_line, module_name}
 use Rattle.strm_rows.proofs.Prelude.{ldterm_stands, State, Stream, with_stream, flow, head_with, ordinary, proto, queue, header, without_parts, fresh}
 use Rattle.strm_rows.proofs.Prelude.{PlainSlot, TCSETSW, Ioctl, Iocack, Free, Waiting, Answered}
+use Rattle.strm_types.specs.declared.names.Place.TheVariants as places
 use Rattle.strm_types.specs.declared.names.ModuleName.TheVariants as names
 use Rattle.strm_laws.specs.Calls.{name_told}
 use Rattle.strm_types.specs.Heads as heads
@@ -43,10 +44,10 @@ pair waits ps enabled = record {
 }
 
 abbrev reads : QueueName
-reads = record { side = Slave; place = Ldterm; way = Up }
+reads = record { side = Slave; place = places.Module names.Ldterm; way = Up }
 
 abbrev writes : QueueName
-writes = record { side = Slave; place = Ldterm; way = Down }
+writes = record { side = Slave; place = places.Module names.Ldterm; way = Down }
 
 -- the module that is pushed stands on top, and the head reads messages from now on
 pub push-stands-on-top : map module_line (pushed Slave (module_named names.Ldterm) (pair [] (holding [] [] [] (9 ∷ []) ∷ []) [])).state.ends.slave.modules ≡ [] ∷ (9 ∷ []) ∷ []

@@ -3,6 +3,7 @@ use Rattle.strm_rows.proofs.Prelude.{ℕ, ◌≡◌, ◌∷◌, List, [], map, r
 use Rattle.strm_rows.proofs.Prelude.{Master, Slave, Way, Up, Down, Flushed, Spot, plain, new_book, Fate, Goes, Parcel, Took, is_data_kind}
 use Rattle.strm_rows.proofs.Prelude.{flush_message, Message, band_of, cells_of, is_high_priority, rank_of, size_of, driver_of, put_in, Flow, Standing}
 use Rattle.strm_rows.proofs.Prelude.{ldterm_stands, State, Stream, flow, head_with, header, ordinary, queue, without_parts, fresh}
+use Rattle.strm_types.specs.declared.names.ModuleName.TheVariants as names
 use Rattle.strm_types.specs.declared.kinds.MsgKind.TheVariants as kinds
 use Rattle.strm_types.specs.declared.names.Place.TheVariants as places
 use Rattle.strm_laws.specs.Earlier.{before_at, before_by, before_driver, before_head, driver_place, modules_on}
@@ -44,7 +45,7 @@ abbrev pub one : ℕ → List (Message ℕ)
 one byte = ordinary (byte ∷ []) ∷ []
 
 abbrev pub ldterm : Side → Way → QueueName
-ldterm side way = record { side = side; place = places.Ldterm; way = way }
+ldterm side way = record { side = side; place = places.Module names.Ldterm; way = way }
 
 -- no module, one and two of them
 abbrev stacks : List (State ℕ)
@@ -83,7 +84,7 @@ none-before-the-fourth = refl
 pub modules-without-queues : map (λ way. before_by Slave way 0 (None ∷ None ∷ []) None) (Up ∷ Down ∷ []) ≡ Some (driver_of Master) ∷ None ∷ []
 modules-without-queues = refl
 
-pub queue-behind-one-without : map (λ way. before_by Slave way 0 (None ∷ Some places.Ldterm ∷ []) (Some 2)) (Up ∷ Down ∷ []) ≡ Some (ldterm Slave Up) ∷ Some (ldterm Slave Down) ∷ []
+pub queue-behind-one-without : map (λ way. before_by Slave way 0 (None ∷ Some (places.Module names.Ldterm) ∷ []) (Some 2)) (Up ∷ Down ∷ []) ≡ Some (ldterm Slave Up) ∷ Some (ldterm Slave Down) ∷ []
 queue-behind-one-without = refl
 
 -- puts at the slave's modules

@@ -1,10 +1,12 @@
 -- What the definitions of refusals and of the journal compute, case by case.
 use Rattle.strm_rows.proofs.Prelude.{ℕ, ◌≡◌, Bool, true, false, List, [], ◌∷◌, map, refl, replicate, Option, None, Some, Config, Done, Count, Bytes}
-use Rattle.strm_rows.proofs.Prelude.{Moved, Called, Turned, Caller, OpenMaster, Unlock, OpenSlave, Write, Openness, Never, Open, Closed, Ldterm}
+use Rattle.strm_rows.proofs.Prelude.{Moved, Called, Turned, Caller, OpenMaster, Unlock, OpenSlave, Write, Openness, Never, Open, Closed}
 use Rattle.strm_rows.proofs.Prelude.{Driver, QueueName, Side, Master, Slave, Up, Refusal, Einval, Eagain, Enxio, Enosr, JournalFull, caller_of}
 use Rattle.strm_rows.proofs.Prelude.{Message, data_message, band_of, size_of, cells_of, is_high_priority, driver_of, new_queue, new_book, head_with}
 use Rattle.strm_rows.proofs.Prelude.{State, opening, new_head, chunk_count, Request, payload_of, content_of, PlainEntry, content_max, room_of}
 use Rattle.strm_rows.proofs.Prelude.{entries_in, blocks_taken, blocks_asked, refused, turn_refused, no_fates}
+use Rattle.strm_types.specs.declared.names.ModuleName.TheVariants as names
+use Rattle.strm_types.specs.declared.names.Place.TheVariants as places
 use Rattle.strm_types.specs.declared.events.Event.TheVariants.{Read}
 use Rattle.strm_types.specs.declared.names.Place.TheVariants.{Head}
 use Rattle.strm_laws.specs.State.{new_driver}
@@ -24,7 +26,7 @@ sizes blocks events bytes = record { mblks = blocks; dblks = blocks; journal_eve
 pub turn-wants-eight-of-each : map (enough (turn_blocks Driver)) (free 8 8 ∷ free 7 8 ∷ free 8 7 ∷ []) ≡ true ∷ false ∷ false ∷ []
 turn-wants-eight-of-each = refl
 
-pub turns-want-by-place : map turn_blocks (Head ∷ Ldterm ∷ Driver ∷ []) ≡ 8 ∷ 32 ∷ 8 ∷ []
+pub turns-want-by-place : map turn_blocks (Head ∷ places.Module names.Ldterm ∷ Driver ∷ []) ≡ 8 ∷ 32 ∷ 8 ∷ []
 turns-want-by-place = refl
 
 abbrev writes : List Request
@@ -201,7 +203,7 @@ pub pair-turns-with-eight-blocks : map (λ p. queue_refused p (driver_of Master)
 pair-turns-with-eight-blocks = refl
 
 abbrev line : QueueName
-line = record { side = Slave; place = Ldterm; way = Up }
+line = record { side = Slave; place = places.Module names.Ldterm; way = Up }
 
 abbrev pair_of_line : ℕ → ℕ → PairState
 pair_of_line mblks dblks =

@@ -1,9 +1,11 @@
 -- Two ldterms that echo each other don't come to rest: six turns carry a byte round, and leave as much work as there was. A turn of an ldterm's goes
 -- from one byte on.
-use Rattle.strm_rows.proofs.Prelude.{ℕ, suc, ◌≡◌, false, List, [], ◌∷◌, map, refl, Moved, Open, Ldterm, QueueName, Master, Slave, Up, new_book, plain}
+use Rattle.strm_rows.proofs.Prelude.{ℕ, suc, ◌≡◌, false, List, [], ◌∷◌, map, refl, Moved, Open, QueueName, Master, Slave, Up, new_book, plain}
 use Rattle.strm_rows.proofs.Prelude.{carried, crosses, Message, band_of, cells_of, data_message, is_held, is_high_priority, rank_of, size_of}
 use Rattle.strm_rows.proofs.Prelude.{driver_of, Queue, Standing, ldterm_stands, State, Stream, turned, whole_turn, flow, head_with, ordinary, queue}
 use Rattle.strm_rows.proofs.Prelude.{fresh}
+use Rattle.strm_types.specs.declared.names.ModuleName.TheVariants as names
+use Rattle.strm_types.specs.declared.names.Place.TheVariants as places
 use Rattle.std.proofs.Common.{zero}
 use Rattle.strm_types.specs.Both.{twice}
 use Rattle.strm_laws.specs.Rest.{work}
@@ -54,7 +56,7 @@ as-much-work = refl
 
 -- "a" stands at the slave's ldterm, whose turn goes from that byte on: none is told as one that moved nothing of it
 abbrev typed : QueueName
-typed = record { side = Slave; place = Ldterm; way = Up }
+typed = record { side = Slave; place = places.Module names.Ldterm; way = Up }
 
 abbrev typing : State ℕ
 typing = record echoing {

@@ -1,10 +1,12 @@
 -- What calls and turns compute, case by case, as worked out by hand from the manual pages.
 use Rattle.strm_rows.proofs.Prelude.{ℕ, ◌≡◌, Bool, true, false, List, [], ◌∷◌, length, map, refl, replicate, Done, Bytes, Turn, Moved, Blocked, Idle}
 use Rattle.strm_rows.proofs.Prelude.{Caller, OpenMaster, Unlock, OpenSlave, Write, Dir, MasterToSlave, SlaveToMaster, Openness, Never, Open, Closed}
-use Rattle.strm_rows.proofs.Prelude.{Ldterm, QueueName, Side, Master, Slave, Down, Tagged, Written, plain, tagged, cells_written, caller_of, Message}
+use Rattle.strm_rows.proofs.Prelude.{QueueName, Side, Master, Slave, Down, Tagged, Written, plain, tagged, cells_written, caller_of, Message}
 use Rattle.strm_rows.proofs.Prelude.{data_message, is_held, rank_of, band_of, size_of, cells_of, is_high_priority, driver_of, head_of, Queue, Flow}
 use Rattle.strm_rows.proofs.Prelude.{new_book, State, Stream, opening, new_stream, messages_in, chunk_count, TurnOutcome, driver_serves, turned}
 use Rattle.strm_rows.proofs.Prelude.{whole_turn, Fate, Goes, carried, content_of, called, head_with, flow, queue, ordinary, proto, urgent}
+use Rattle.strm_types.specs.declared.names.ModuleName.TheVariants as names
+use Rattle.strm_types.specs.declared.names.Place.TheVariants as places
 use Rattle.strm_types.specs.declared.events.Event.TheVariants.{Read}
 use Rattle.strm_types.specs.declared.rules.Rule.TheVariants as rules
 
@@ -177,10 +179,10 @@ unfolding carried rank_of band_of size_of cells_of is_high_priority is_held
 empty-turn-relieves-nobody = refl
 
 -- queues with no service: nothing but that they aren't enabled any more
-pub other-turns-are-idle : map (λ name. turned plain name Idle (pair idle_end idle_end (head_of Slave ∷ record { side = Slave; place = Ldterm; way = Down } ∷ []))) (head_of Slave ∷ record { side = Slave; place = Ldterm; way = Down } ∷ []) ≡ record { turn = Idle; state = pair idle_end idle_end (record { side = Slave; place = Ldterm; way = Down } ∷ []); gone = [] } ∷ record { turn = Idle; state = pair idle_end idle_end (head_of Slave ∷ []); gone = [] } ∷ []
+pub other-turns-are-idle : map (λ name. turned plain name Idle (pair idle_end idle_end (head_of Slave ∷ record { side = Slave; place = places.Module names.Ldterm; way = Down } ∷ []))) (head_of Slave ∷ record { side = Slave; place = places.Module names.Ldterm; way = Down } ∷ []) ≡ record { turn = Idle; state = pair idle_end idle_end (record { side = Slave; place = places.Module names.Ldterm; way = Down } ∷ []); gone = [] } ∷ record { turn = Idle; state = pair idle_end idle_end (head_of Slave ∷ []); gone = [] } ∷ []
 other-turns-are-idle = refl
 
-pub whole-turns : map (λ name. whole_turn name (pair (waiting three) (waiting []) [])) (driver_of Master ∷ driver_of Slave ∷ head_of Master ∷ record { side = Slave; place = Ldterm; way = Down } ∷ []) ≡ Moved 1 ∷ Moved 0 ∷ Idle ∷ Idle ∷ []
+pub whole-turns : map (λ name. whole_turn name (pair (waiting three) (waiting []) [])) (driver_of Master ∷ driver_of Slave ∷ head_of Master ∷ record { side = Slave; place = places.Module names.Ldterm; way = Down } ∷ []) ≡ Moved 1 ∷ Moved 0 ∷ Idle ∷ Idle ∷ []
 unfolding size_of cells_of
 whole-turns = refl
 

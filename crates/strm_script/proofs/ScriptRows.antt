@@ -1,9 +1,10 @@
 -- What the definitions of scripts compute, for lines, answers and short scripts.
 use Rattle.strm_script.proofs.Prelude.{ℕ, Bool, ◌≡◌, [], ◌∷◌, ◌++◌, map, refl, replicate, codes}
 use Rattle.strm_script.specs.Prelude.{Done, Name, Count, Bytes, Msg, Nak, Moved, Blocked, Idle, MasterToSlave, SlaveToMaster, Master, Slave, Way, Up}
-use Rattle.strm_script.specs.Prelude.{Down, Place, Head, Ldterm, Driver, Einval, Eagain, Enxio, Ebadmsg, Enosr, Erange, JournalFull, NoMinor}
+use Rattle.strm_script.specs.Prelude.{Down, Place, Head, Driver, Einval, Eagain, Enxio, Ebadmsg, Enosr, Erange, JournalFull, NoMinor}
 use Rattle.strm_script.specs.Prelude.{NoMemory, StillShared, Eio, Ttin, Ttou, Side, ByteStream, MessageKeep, MessageDiscard, Refuse, Data, Discard}
 use Rattle.strm_script.specs.Prelude.{Unlock, OpenSlave, Shut, Push, Pop, Look, Write, Read, Ioctl, IoctlResult, head_of, driver_of, number_of}
+use Rattle.strm_types.specs.declared.names.Place.TheVariants as places
 use Rattle.std.specs.Prelude.{true, false, None, Some, Ok, Err, slice_set}
 use Rattle.std.specs.Fmt.{decimal}
 use Rattle.std.specs.List.{concat}
@@ -34,11 +35,11 @@ commands-are-spelled = refl
 abbrev turn_of : Place → Way → Reading
 turn_of place way = Spoken (Turn (record { side = Master; place = place; way = way }))
 
-pub queues-are-spelled : map reading (codes "turn m.head.r" ∷ codes "turn m.head.w" ∷ codes "turn m.ldterm.r" ∷ codes "turn m.ldterm.w" ∷ codes "turn m.drv.r" ∷ codes "turn m.drv.w" ∷ codes "turn s.drv.w" ∷ []) ≡ turn_of Head Up ∷ turn_of Head Down ∷ turn_of Ldterm Up ∷ turn_of Ldterm Down ∷ turn_of Driver Up ∷ turn_of Driver Down ∷ Spoken (Turn (record { side = Slave; place = Driver; way = Down })) ∷ []
+pub queues-are-spelled : map reading (codes "turn m.head.r" ∷ codes "turn m.head.w" ∷ codes "turn m.ldterm.r" ∷ codes "turn m.ldterm.w" ∷ codes "turn m.drv.r" ∷ codes "turn m.drv.w" ∷ codes "turn s.drv.w" ∷ []) ≡ turn_of Head Up ∷ turn_of Head Down ∷ turn_of (places.Module modules.Ldterm) Up ∷ turn_of (places.Module modules.Ldterm) Down ∷ turn_of Driver Up ∷ turn_of Driver Down ∷ Spoken (Turn (record { side = Slave; place = Driver; way = Down })) ∷ []
 unfolding reading command_in token_len token_in last_in quoted_len number_in number_from digit_of number_to text_in text_from part_in is_name prio_in wanted_in queue_in side_at place_at way_in escaped hex_of
 queues-are-spelled = refl
 
-pub names-of-queues : map queue_name (record { side = Master; place = Driver; way = Down } ∷ record { side = Slave; place = Head; way = Up } ∷ record { side = Slave; place = Ldterm; way = Up } ∷ []) ≡ codes "m.drv.w" ∷ codes "s.head.r" ∷ codes "s.ldterm.r" ∷ []
+pub names-of-queues : map queue_name (record { side = Master; place = Driver; way = Down } ∷ record { side = Slave; place = Head; way = Up } ∷ record { side = Slave; place = places.Module modules.Ldterm; way = Up } ∷ []) ≡ codes "m.drv.w" ∷ codes "s.head.r" ∷ codes "s.ldterm.r" ∷ []
 names-of-queues = refl
 
 pub malformed-lines : map reading (codes "open " ∷ codes "open 1 " ∷ codes " open" ∷ codes "opens" ∷ codes "unlock " ∷ codes "slaves" ∷ codes "write m ab" ∷ codes "write m \"ab" ∷ codes "write m \"ab\" " ∷ codes "write x \"\"" ∷ codes "read m" ∷ codes "read m 1x" ∷ codes "turn m.drv" ∷ codes "turn m.drv.x" ∷ codes "run" ∷ codes "run -1" ∷ []) ≡ replicate 16 Malformed
@@ -167,7 +168,7 @@ unfolding line_text
 lines-of-names = refl
 
 -- the queues of a stream, each with its messages and then its bytes
-pub lines-of-sizes : line_text (Sizes Slave (record { name = head_of Slave; messages = 1; bytes = 23 } ∷ record { name = record { side = Slave; place = Ldterm; way = Down }; messages = 4; bytes = 5 } ∷ record { name = driver_of Slave; messages = 6; bytes = 7 } ∷ [])) ≡ concat (codes "show s" ∷ (codes " head.r " ++ (decimal 1 ++ (codes " " ++ decimal 23))) ∷ (codes " ldterm.w " ++ (decimal 4 ++ (codes " " ++ decimal 5))) ∷ (codes " drv.w " ++ (decimal 6 ++ (codes " " ++ decimal 7))) ∷ [])
+pub lines-of-sizes : line_text (Sizes Slave (record { name = head_of Slave; messages = 1; bytes = 23 } ∷ record { name = record { side = Slave; place = places.Module modules.Ldterm; way = Down }; messages = 4; bytes = 5 } ∷ record { name = driver_of Slave; messages = 6; bytes = 7 } ∷ [])) ≡ concat (codes "show s" ∷ (codes " head.r " ++ (decimal 1 ++ (codes " " ++ decimal 23))) ∷ (codes " ldterm.w " ++ (decimal 4 ++ (codes " " ++ decimal 5))) ∷ (codes " drv.w " ++ (decimal 6 ++ (codes " " ++ decimal 7))) ∷ [])
 unfolding line_text
 lines-of-sizes = refl
 

@@ -1,7 +1,8 @@
 -- Which lines spell which command: spellings of each command, and lines that are none.
 use Rattle.strm_script.proofs.Prelude.{ℕ, ◌≡◌, ◌≢◌, List, [], ◌∷◌, map, refl, arith, codes}
-use Rattle.strm_script.specs.Prelude.{MasterToSlave, SlaveToMaster, Master, Slave, Up, Ldterm, ModuleName, Unlock, OpenSlave, Shut, Push, Pop, Look}
+use Rattle.strm_script.specs.Prelude.{MasterToSlave, SlaveToMaster, Master, Slave, Up, ModuleName, Unlock, OpenSlave, Shut, Push, Pop, Look}
 use Rattle.strm_script.specs.Prelude.{Write, Read, Ioctl, IoctlResult, MessageDiscard, Refuse}
+use Rattle.strm_types.specs.declared.names.Place.TheVariants as places
 use Rattle.std.proofs.Common.{lit<, lit≤}
 use Rattle.std.specs.Prelude.{true, false, None, Some}
 use Rattle.strm_types.specs.declared.names.ModuleName.TheVariants as modules
@@ -44,8 +45,8 @@ read-is-spelled = (words.Read, codes "read", codes " s 12", refl, (Slave, codes 
 pub run-is-spelled : IsSpelled (Run 12) (codes "run 12")
 run-is-spelled = (words.Run, codes "run", codes " 12", refl, (12, codes "12", twelve, refl, refl), refl)
 
-pub turn-is-spelled : IsSpelled (Turn (record { side = Slave; place = Ldterm; way = Up })) (codes "turn s.ldterm.r")
-turn-is-spelled = (words.Turn, codes "turn", codes " s.ldterm.r", refl, (record { side = Slave; place = Ldterm; way = Up }, codes "s.ldterm.r", refl, refl, refl), refl)
+pub turn-is-spelled : IsSpelled (Turn (record { side = Slave; place = places.Module modules.Ldterm; way = Up })) (codes "turn s.ldterm.r")
+turn-is-spelled = (words.Turn, codes "turn", codes " s.ldterm.r", refl, (record { side = Slave; place = places.Module modules.Ldterm; way = Up }, codes "s.ldterm.r", (refl, refl), refl, refl), refl)
 
 pub close-is-spelled : IsSpelled (Call Slave Shut) (codes "close s")
 close-is-spelled = (words.Close, codes "close", codes " s", refl, (Slave, codes "s", refl, refl, refl), refl)

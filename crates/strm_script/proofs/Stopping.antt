@@ -2,8 +2,10 @@
 -- to that goes to the end of the first message.
 use Rattle.strm_script.proofs.Prelude.{◌≡◌, ℕ, zero, suc, ◌+◌, ◌-◌, ◌*◌, ◌≤◌, Bool, true, false, cond, List, [], ◌∷◌, map, Option, None, Some}
 use Rattle.strm_script.proofs.Prelude.{is_some, refl, sym, ap, subst, ◌∙◌, arith, eq-eqb, nat_tests}
-use Rattle.strm_script.specs.Prelude.{Turn, Moved, Blocked, Idle, Place, Head, Ldterm, Driver, QueueName, Side, Master, Slave, Way, Up, Down, plain}
+use Rattle.strm_script.specs.Prelude.{Turn, Moved, Blocked, Idle, ModuleName, Place, Head, Driver, QueueName, Side, Master, Slave, Way, Up, Down}
+use Rattle.strm_script.specs.Prelude.{plain}
 use Rattle.strm_script.specs.Prelude.{Message, place_named, State, Stream, stream, TurnOutcome, turned, whole_turn, first_at}
+use Rattle.strm_types.specs.declared.names.Place.TheVariants as places
 use Rattle.std.proofs.Common.{min, slice_index_or}
 use Rattle.std.specs.Prelude.{max, nat_lt}
 use Rattle.strm_types.specs.declared.spots.Asks.{Asks}
@@ -111,7 +113,7 @@ module _ (name : QueueName) (turn another : Turn) (s : State ℕ) (none : moved_
   stays-same : (place : Place) → Stays (turned_at plain place name turn s) → turned_at plain place name turn s ≡ turned_at plain place name another s
   stays-same Head stays = refl
   stays-same Driver stays = refl
-  stays-same Ldterm stays = named-same (place_named name.place (stream name.side s).modules) stays
+  stays-same (places.Module owner) stays = named-same (place_named name.place (stream name.side s).modules) stays
 
 -- one that goes to the end of its message leads to the same by any number of bytes that gets so far
 module _ (side : Side) (at : ℕ) (way : Way) (name : QueueName) (s : State ℕ) where
@@ -131,8 +133,8 @@ module _ (side : Side) (at : ℕ) (way : Way) (name : QueueName) (s : State ℕ)
         let ps = (stream side s).modules in
         ap (λ (o : TurnOutcome ℕ). cond (at_place module_rests false at ps) o (stayed_put Blocked s)) (asked-alike (at_place (module_asks way) asked.Empty at ps))
 
-abbrev named : Side → Way → QueueName
-named side way = record { side = side; place = Ldterm; way = way }
+abbrev named : ModuleName → Side → Way → QueueName
+named owner side way = record { side = side; place = places.Module owner; way = way }
 
 -- what the first message of the one at a place has
 first-among : (way : Way) (i : ℕ) (ps : List (Standing ℕ)) → first_size (slice_index_or (map (messages_at way) ps) i []) ≡ slice_index_or (map (λ p. first_size (messages_at way p)) ps) i 0
@@ -145,24 +147,24 @@ goes-past : (n size : ℕ) → size ≤ n → min (max 1 n) size ≡ size
 goes-past zero size whole = omega (arith, whole)
 goes-past (suc n) size whole = omega (arith, whole)
 
-goes-whole : (side : Side) (way : Way) (n : ℕ) (s : State ℕ) (t : Stream ℕ) → (stream side s).modules ≡ t.modules → first_size (messages_named Ldterm way t.modules) ≤ n
-    → turned_named plain (named side way) (whole_module Ldterm way t) s (place_named Ldterm t.modules) ≡ turned_named plain (named side way) (Moved n) s (place_named Ldterm t.modules)
-goes-whole side way n s t is whole = by (place_named Ldterm t.modules) refl
+goes-whole : (owner : ModuleName) (side : Side) (way : Way) (n : ℕ) (s : State ℕ) (t : Stream ℕ) → (stream side s).modules ≡ t.modules → first_size (messages_named (places.Module owner) way t.modules) ≤ n
+    → turned_named plain (named owner side way) (whole_module (places.Module owner) way t) s (place_named (places.Module owner) t.modules) ≡ turned_named plain (named owner side way) (Moved n) s (place_named (places.Module owner) t.modules)
+goes-whole owner side way n s t is whole = by (place_named (places.Module owner) t.modules) refl
   where
     say : Standing ℕ → ℕ
     say p = first_size (messages_at way p)
 
-    by : (found : Option ℕ) → place_named Ldterm t.modules ≡ found
-        → turned_named plain (named side way) (whole_module Ldterm way t) s (place_named Ldterm t.modules) ≡ turned_named plain (named side way) (Moved n) s (place_named Ldterm t.modules)
+    by : (found : Option ℕ) → place_named (places.Module owner) t.modules ≡ found
+        → turned_named plain (named owner side way) (whole_module (places.Module owner) way t) s (place_named (places.Module owner) t.modules) ≡ turned_named plain (named owner side way) (Moved n) s (place_named (places.Module owner) t.modules)
     by None none = rw none refl
     by (Some at) found =
         let fits = subst (λ o. first_size (at_found (messages_at way) [] t.modules o) ≤ n) found whole in
         let size = first-among way (at - 1) t.modules in
-        let first : first_there side at way (named side way) s ≡ at_place say 0 at t.modules = ap (λ ps. at_place say 0 at ps) is in
-        let there = first_there side at way (named side way) s in
+        let first : first_there side at way (named owner side way) s ≡ at_place say 0 at t.modules = ap (λ ps. at_place say 0 at ps) is in
+        let there = first_there side at way (named owner side way) s in
         let all : there ≤ at_place say 0 at t.modules = omega (arith, first) in
         let far : there ≤ n = omega (arith, fits, size, first) in
-        rw found (there-alike side at way (named side way) s (at_place say 0 at t.modules) n (goes-past (at_place say 0 at t.modules) there all ∙ sym (goes-past n there far)))
+        rw found (there-alike side at way (named owner side way) s (at_place say 0 at t.modules) n (goes-past (at_place say 0 at t.modules) there all ∙ sym (goes-past n there far)))
 
 -- what an account says of a turn that was answered so
 pub record Accounted (turn : Turn) (name : QueueName) (s : State ℕ) : Type 0 where
@@ -179,36 +181,36 @@ only-same n false = refl
 only-at : (n : ℕ) (place : Place) (size : ℕ) → only n (reach place size (Moved n)) ≡ reach place size (Moved n)
 only-at n Head size = refl
 only-at n Driver size = refl
-only-at n Ldterm size = only-same n (nat_lt n size)
+only-at n (places.Module owner) size = only-same n (nat_lt n size)
 
 past-end : (n size : ℕ) → nat_lt n size ≡ false → size ≤ n
 past-end n size is = grind (arith, nat_tests)
 
 -- it went so far, or it goes as far as any
-goes-far : (side : Side) (way : Way) (n : ℕ) (s : State ℕ) → (b : Bool) → nat_lt n (first_at (named side way) s) ≡ b
-    → turned plain (named side way) (turn_to (cond b (Some n) None) (named side way) s) s ≡ turned plain (named side way) (Moved n) s
-goes-far side way n s true is = refl
-goes-far Master way n s false is =
-    goes-whole Master way n (record s { enabled = without (named Master way) s.enabled }) s.ends.master refl (past-end n _ is)
-goes-far Slave way n s false is =
-    goes-whole Slave way n (record s { enabled = without (named Slave way) s.enabled }) s.ends.slave refl (past-end n _ is)
+goes-far : (owner : ModuleName) (side : Side) (way : Way) (n : ℕ) (s : State ℕ) → (b : Bool) → nat_lt n (first_at (named owner side way) s) ≡ b
+    → turned plain (named owner side way) (turn_to (cond b (Some n) None) (named owner side way) s) s ≡ turned plain (named owner side way) (Moved n) s
+goes-far owner side way n s true is = refl
+goes-far owner Master way n s false is =
+    goes-whole owner Master way n (record s { enabled = without (named owner Master way) s.enabled }) s.ends.master refl (past-end n _ is)
+goes-far owner Slave way n s false is =
+    goes-whole owner Slave way n (record s { enabled = without (named owner Slave way) s.enabled }) s.ends.slave refl (past-end n _ is)
 
 goes-so : (n : ℕ) (side : Side) (place : Place) (way : Way) (s : State ℕ) →
     let name : QueueName = record { side = side; place = place; way = way } in
     turned plain name (turn_to (reach place (first_at name s) (Moved n)) name s) s ≡ turned plain name (Moved n) s
 goes-so n side Head way s = refl
 goes-so n side Driver way s = refl
-goes-so n side Ldterm way s = goes-far side way n s (nat_lt n (first_at (named side way) s)) refl
+goes-so n side (places.Module owner) way s = goes-far owner side way n s (nat_lt n (first_at (named owner side way) s)) refl
 
 blocked-reach : (place : Place) (size : ℕ) → reach place size Blocked ≡ None
 blocked-reach Head size = refl
 blocked-reach Driver size = refl
-blocked-reach Ldterm size = refl
+blocked-reach (places.Module owner) size = refl
 
 idle-reach : (place : Place) (size : ℕ) → reach place size Idle ≡ None
 idle-reach Head size = refl
 idle-reach Driver size = refl
-idle-reach Ldterm size = refl
+idle-reach (places.Module owner) size = refl
 
 -- it moved nothing
 stayed : (turn : Turn) (name : QueueName) (s : State ℕ) → moved_by turn ≡ 0 → Stays (turned plain name turn s) → reach name.place (first_at name s) turn ≡ None → Accounted turn name s

@@ -6,6 +6,7 @@ use Rattle.strm_script.specs.Prelude.{is_held, is_high_priority, rank_of, size_o
 use Rattle.std.specs.Prelude.{Result, Ok, Err}
 use Rattle.strm_types.specs.declared.names.Openness.TheVariants.{Open}
 use Rattle.strm_types.specs.declared.names.Place.TheVariants as places
+use Rattle.strm_types.specs.declared.names.ModuleName.TheVariants as modules
 use Rattle.strm_types.specs.Ldterms.{Discipline, discipline, new_ldterm}
 use Rattle.strm_types.specs.Standings.{new_pair}
 use Rattle.strm_types.specs.Queue.{Queue}
@@ -16,7 +17,7 @@ use Rattle.strm_script.specs.Script.{queue_in_stream}
 use Rattle.strm_script.specs.ScriptRun.{Supply, Enough, Within, TooFew, PlainPair, script_limits, turn_of, queues_down}
 
 abbrev reading : QueueName
-reading = record { side = Slave; place = places.Ldterm; way = Up }
+reading = record { side = Slave; place = places.Module modules.Ldterm; way = Up }
 
 -- a pair whose slave's stream has an ldterm, at which three bytes wait; two wait at the master's driver
 abbrev waiting : List (Message ℕ) → Queue ℕ → Queue ℕ

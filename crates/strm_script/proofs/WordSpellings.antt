@@ -2,8 +2,9 @@
 use Rattle.strm_script.proofs.Prelude.{◌≡◌, ◌≢◌, ℕ, suc, ◌+◌, ◌*◌, ◌<◌, ◌≤◌, Bool, true, false, not, eqb, leb, ◌&&◌, ◌||◌, List, [], ◌∷◌, ◌++◌}
 use Rattle.strm_script.proofs.Prelude.{length, Option, None, Some, refl, arith, sym, ap, ◌∙◌, inl, inr, append_assoc, subst, cond-true, cond-false}
 use Rattle.strm_script.proofs.Prelude.{ne_eqb, eq-eqb, leb-true, le-leb, lt-ltb, ltb-true, cases_Bool, and_parts, leb_tells, take-append-drop}
-use Rattle.strm_script.specs.Prelude.{Dir, MasterToSlave, SlaveToMaster, Side, Master, Slave, Way, Place, Up, Down, Head, Ldterm, Driver, ModuleName}
+use Rattle.strm_script.specs.Prelude.{Dir, MasterToSlave, SlaveToMaster, Side, Master, Slave, Way, Place, Up, Down, Head, Driver, ModuleName}
 use Rattle.strm_script.specs.Prelude.{FlushQueues, Mode, ByteStream, MessageKeep, MessageDiscard, Refuse, Data, Discard}
+use Rattle.strm_types.specs.declared.names.Place.TheVariants as places
 use Rattle.std.proofs.Common.{codes}
 use Rattle.std.proofs.lemmas.List.{length-append}
 use Rattle.std.proofs.Math.Seq.{take-append_seam, drop-append_seam}
@@ -276,17 +277,31 @@ name-plain : (o : Option ModuleName) (word : List ℕ) → IsModule o word → l
 name-plain (Some known) word h = ap (list_all is_plain) h ∙ known-plain known
 name-plain None word is = letters-plain word is.is_name.letters
 
+module-plain : (side : Side) (name : ModuleName) (way : Way) → list_all is_plain (queue_name (record { side = side; place = places.Module name; way = way })) ≡ true
+module-plain Master modules.Ldterm Up = refl
+module-plain Master modules.Ldterm Down = refl
+module-plain Master modules.Ptem Up = refl
+module-plain Master modules.Ptem Down = refl
+module-plain Master modules.Pckt Up = refl
+module-plain Master modules.Pckt Down = refl
+module-plain Slave modules.Ldterm Up = refl
+module-plain Slave modules.Ldterm Down = refl
+module-plain Slave modules.Ptem Up = refl
+module-plain Slave modules.Ptem Down = refl
+module-plain Slave modules.Pckt Up = refl
+module-plain Slave modules.Pckt Down = refl
+
 place-plain : (side : Side) (place : Place) (way : Way) → list_all is_plain (queue_name (record { side = side; place = place; way = way })) ≡ true
 place-plain Master Head Up = refl
 place-plain Master Head Down = refl
-place-plain Master Ldterm Up = refl
-place-plain Master Ldterm Down = refl
+place-plain Master (places.Module name) Up = module-plain Master name Up
+place-plain Master (places.Module name) Down = module-plain Master name Down
 place-plain Master Driver Up = refl
 place-plain Master Driver Down = refl
 place-plain Slave Head Up = refl
 place-plain Slave Head Down = refl
-place-plain Slave Ldterm Up = refl
-place-plain Slave Ldterm Down = refl
+place-plain Slave (places.Module name) Up = module-plain Slave name Up
+place-plain Slave (places.Module name) Down = module-plain Slave name Down
 place-plain Slave Driver Up = refl
 place-plain Slave Driver Down = refl
 
@@ -388,7 +403,7 @@ word-only AText text word is = record { read = quoted-only text word is; ends = 
 word-only APart part word is = record { read = part-only part word is; ends = λ more e. part-ends part word more is e }
 word-only APrio prio word is = plain APrio prio word (prio-only prio word is) (prio-plain prio word is)
 word-only AWanted wanted word is = plain AWanted wanted word (wanted-only wanted word is) (wanted-plain wanted word is)
-word-only AQueue name word e = plainly AQueue name (queue_name name) word e (queue-only name, place-plain name.side name.place name.way)
+word-only AQueue name word is = plainly AQueue name (queue_name name) word is.0 (queue-only name is.1, place-plain name.side name.place name.way)
 word-only ADirection direction word e = plainly ADirection direction (direction_name direction) word e (direction-only direction)
 word-only AModule known word is = plain AModule known word (name-only known word is) (name-plain known word is)
 word-only SomeQueues what word e = plainly SomeQueues what (flush_name what) word e (queues-only what)

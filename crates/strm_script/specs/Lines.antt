@@ -1,6 +1,8 @@
 -- The answer lines of the code, as the definitions of script text have them.
 use Rattle.std.specs.Prelude.{ℕ, if◌then◌else◌, List, [], ◌∷◌, ◌++◌, Option, None, Some, is_some, Ok}
-use Rattle.strm_script.specs.Prelude.{Ldterm, Side, Up, Down, reply_in, place_named, State, stream}
+use Rattle.strm_script.specs.Prelude.{Side, Up, Down, reply_in, place_named, State, stream}
+use Rattle.strm_types.specs.declared.names.ModuleName.TheVariants as modules
+use Rattle.strm_types.specs.declared.names.Place.TheVariants as places
 use Rattle.strm_script.specs.ScriptAnswers as script
 use Rattle.strm_script.specs.ScriptRun.{size_at}
 use Rattle.strm_script.specs.declared.answers.Line.{Line}
@@ -11,10 +13,10 @@ use Rattle.strm_script.specs.declared.answers.Line.TheVariants.{Done, Turned, Ra
 -- how much stands on the queues of the module on a side's stream that has queues
 abbrev pub module_sizes : Side → State ℕ → Option ModuleSizes
 module_sizes side s =
-    if is_some (place_named Ldterm (stream side s).modules)
+    if is_some (place_named (places.Module modules.Ldterm) (stream side s).modules)
     then Some (record {
-      up = size_at s (record { side = side; place = Ldterm; way = Up });
-      down = size_at s (record { side = side; place = Ldterm; way = Down });
+      up = size_at s (record { side = side; place = places.Module modules.Ldterm; way = Up });
+      down = size_at s (record { side = side; place = places.Module modules.Ldterm; way = Down });
     })
     else None
 

@@ -35,7 +35,7 @@ pub use Rattle.strm_types.specs.declared.names.Dir.{Dir}
 pub use Rattle.strm_types.specs.declared.names.Dir.TheVariants.{MasterToSlave, SlaveToMaster}
 pub use Rattle.strm_types.specs.declared.names.ModuleName.{ModuleName}
 pub use Rattle.strm_types.specs.declared.names.Place.{Place}
-pub use Rattle.strm_types.specs.declared.names.Place.TheVariants.{Driver, Head, Ldterm}
+pub use Rattle.strm_types.specs.declared.names.Place.TheVariants.{Driver, Head}
 pub use Rattle.strm_types.specs.declared.names.QueueName.{QueueName}
 pub use Rattle.strm_types.specs.declared.names.Side.{Side}
 pub use Rattle.strm_types.specs.declared.names.Side.TheVariants.{Master, Slave}

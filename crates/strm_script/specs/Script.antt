@@ -2,9 +2,10 @@
 use Rattle.std.specs.Prelude.{◌≡◌, ◌≢◌, ℕ, ◌≤◌, ◌<◌, ◌+◌, ◌-◌, ◌*◌, nat_le, ◌==◌, ◌&&◌, Bool, true, false, if◌then◌else◌, List, [], ◌∷◌, ◌++◌, length, codes, Option, None, Some}
 use Rattle.std.specs.Int.{w16, w32, to_be_bytes}
 use Rattle.std.specs.List.{AllByRecursion}
-use Rattle.strm_script.specs.Prelude.{Caller, Dir, MasterToSlave, SlaveToMaster, Side, Master, Slave, Way, Up, Down, Place, Head, Ldterm, Driver}
+use Rattle.strm_script.specs.Prelude.{Caller, Dir, MasterToSlave, SlaveToMaster, Side, Master, Slave, Way, Up, Down, Place, Head, Driver}
 use Rattle.strm_script.specs.Prelude.{QueueName, ModuleName, FlushQueues, Mode, ByteStream, MessageKeep, MessageDiscard, Refuse, Data, Discard}
 use Rattle.strm_script.specs.Prelude.{Request}
+use Rattle.strm_types.specs.declared.names.Place.TheVariants as places
 use Rattle.strm_types.specs.declared.names.ModuleName.TheVariants as modules
 use Rattle.strm_types.specs.declared.events.FlushQueues.TheVariants as queues
 use Rattle.strm_types.specs.declared.modes.Mode.TheVariants as modes
@@ -40,9 +41,15 @@ abbrev pub side_name : Side → List ℕ
 side_name Master = codes "m"
 side_name Slave = codes "s"
 
+-- the name of a module
+abbrev pub module_name : ModuleName → List ℕ
+module_name modules.Ldterm = codes "ldterm"
+module_name modules.Ptem = codes "ptem"
+module_name modules.Pckt = codes "pckt"
+
 abbrev pub place_name : Place → List ℕ
 place_name Head = codes "head"
-place_name Ldterm = codes "ldterm"
+place_name (places.Module name) = module_name name
 place_name Driver = codes "drv"
 
 abbrev pub way_name : Way → List ℕ
@@ -60,12 +67,6 @@ queue_in_stream name = place_name name.place ++ (codes "." ++ way_name name.way)
 
 abbrev pub queue_name : QueueName → List ℕ
 queue_name name = side_name name.side ++ (codes "." ++ queue_in_stream name)
-
--- the name of a module
-abbrev pub module_name : ModuleName → List ℕ
-module_name modules.Ldterm = codes "ldterm"
-module_name modules.Ptem = codes "ptem"
-module_name modules.Pckt = codes "pckt"
 
 -- how job control treats a caller that isn't in the foreground: whether SIGTTIN and SIGTTOU are ignored, and whether its process group is
 -- orphaned

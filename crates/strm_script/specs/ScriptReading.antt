@@ -2,8 +2,9 @@
 -- the contract of public functions of the crate that reads scripts.
 use Rattle.std.specs.Prelude.{ℕ, ◌+◌, ◌*◌, nat_lt, nat_le, ◌==◌, ◌&&◌, ◌||◌, suc, Bool, true, false, if◌then◌else◌, List, [], ◌∷◌, ◌++◌, length, take, drop, codes, Option, None, Some, option_map}
 use Rattle.std.specs.List.{position_or_len, list_all}
-use Rattle.strm_script.specs.Prelude.{Dir, MasterToSlave, SlaveToMaster, Side, Master, Slave, Way, Up, Down, Place, Head, Ldterm, Driver, QueueName}
+use Rattle.strm_script.specs.Prelude.{Dir, MasterToSlave, SlaveToMaster, Side, Master, Slave, Way, Up, Down, Place, Head, Driver, QueueName}
 use Rattle.strm_script.specs.Prelude.{ModuleName, FlushQueues, Mode as HeadMode, ByteStream, MessageKeep, MessageDiscard, Refuse, Data, Discard}
+use Rattle.strm_types.specs.declared.names.Place.TheVariants as places
 use Rattle.strm_types.specs.declared.names.ModuleName.TheVariants as modules
 use Rattle.strm_types.specs.declared.events.FlushQueues.TheVariants as queues
 use Rattle.strm_types.specs.declared.modes.Mode.TheVariants as modes
@@ -143,7 +144,7 @@ side_at line = either_of (before (codes "m") Master line) (before (codes "s") Sl
 unfoldable pub place_at : List ℕ → Option (Front Place)
 place_at line =
     either_of (before (codes "head") Head line)
-    (either_of (before (codes "ldterm") Ldterm line)
+    (either_of (before (codes "ldterm") (places.Module modules.Ldterm) line)
     (before (codes "drv") Driver line))
 
 unfoldable pub way_in : List ℕ → Option Way

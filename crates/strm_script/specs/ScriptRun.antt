@@ -1,9 +1,12 @@
 -- What a script writes: its answers, in the order of its lines.
-use Rattle.std.specs.Prelude.{ℕ, zero, suc, nat_le, nat_lt, ◌&&◌, ◌||◌, ◌==◌, Bool, true, false, if◌then◌else◌, List, [], ◌∷◌, ◌++◌, length, map, Option, None, Some, option_map, is_some, Result, Ok, Err, unwrap_or, slice_get}
-use Rattle.strm_script.specs.Prelude.{Turn, Moved, Blocked, Idle, Both, Caller, Dir, Master, Slave, Place, Head, Ldterm, Driver, QueueName, Up, Down}
+use Rattle.std.specs.Prelude.{ℕ, zero, suc, nat_le, nat_lt, ◌&&◌, ◌||◌, ◌==◌, Bool, true, false, if◌then◌else◌, List, [], ◌∷◌, ◌++◌, length, map}
+use Rattle.std.specs.Prelude.{Option, None, Some, option_map, is_some, Result, Ok, Err, unwrap_or, slice_get}
+use Rattle.strm_script.specs.Prelude.{Turn, Moved, Blocked, Idle, Both, Caller, Dir, Master, Slave, Place, Head, Driver, QueueName, Up, Down}
 use Rattle.strm_script.specs.Prelude.{Refusal, Einval, Enxio, Enosr, place_named, get, no_fates, State, opening, stream, head_of, driver_of, Side}
 use Rattle.strm_script.specs.Prelude.{FlushQueues, first_at, Called, Turned, Prio, Wanted, plain, tallied, turned, whole_turn, Request, Reply, called}
 use Rattle.strm_script.specs.Prelude.{refused, turn_refused, blocks_asked}
+use Rattle.strm_types.specs.declared.names.ModuleName.TheVariants as modules
+use Rattle.strm_types.specs.declared.names.Place.TheVariants as places
 use Rattle.strm_types.specs.declared.limits.Config.{Config}
 use Rattle.strm_laws.specs.Ledgers.{ledger_of}
 use Rattle.strm_types.specs.Both.{set}
@@ -105,9 +108,9 @@ call_of supply p caller asked = call_happens (call_refusal supply p caller asked
 abbrev pub reach : Place → ℕ → Turn → Option ℕ
 reach Head size turn = None
 reach Driver size turn = None
-reach Ldterm size (Moved bytes) = if nat_lt bytes size then Some bytes else None
-reach Ldterm size Blocked = None
-reach Ldterm size Idle = None
+reach (places.Module owner) size (Moved bytes) = if nat_lt bytes size then Some bytes else None
+reach (places.Module owner) size Blocked = None
+reach (places.Module owner) size Idle = None
 
 -- the number that is there, where it is this one
 abbrev pub only : ℕ → Option ℕ → Option ℕ
@@ -196,8 +199,9 @@ by_get caller wanted cmax dmax account p = by_named caller (λ wanted. calls.Get
 -- the queues of the module on a side's stream that has queues, the read queue first
 abbrev pub module_queues : Side → State ℕ → List QueueName
 module_queues side s =
-    if is_some (place_named Ldterm (stream side s).modules)
-    then record { side = side; place = Ldterm; way = Up } ∷ record { side = side; place = Ldterm; way = Down } ∷ []
+    if is_some (place_named (places.Module modules.Ldterm) (stream side s).modules)
+    then record { side = side; place = places.Module modules.Ldterm; way = Up }
+    ∷ record { side = side; place = places.Module modules.Ldterm; way = Down } ∷ []
     else []
 
 -- the queues of a side's stream, from the head down

@@ -1,5 +1,5 @@
 -- How each command is spelled: its word, a row of `verbs`, and by `form_of` the form of what stands behind it.
-use Rattle.std.specs.Prelude.{◌≡◌, ℕ, Bool, List, [], ◌∷◌, ◌++◌, codes, Option, None, Some}
+use Rattle.std.specs.Prelude.{◌≡◌, ℕ, Bool, true, List, [], ◌∷◌, ◌++◌, codes, Option, None, Some}
 use Rattle.strm_script.specs.Prelude.{Dir, Side, Master, Slave, QueueName, ModuleName, FlushQueues, Unlock, OpenSlave, Shut, Push, Pop, Look, Write}
 use Rattle.strm_script.specs.Prelude.{Read, Ioctl, IoctlResult, Mode}
 use Rattle.strm_types.specs.declared.events.Event.TheVariants as calls
@@ -11,6 +11,7 @@ use Rattle.strm_script.specs.declared.ioctls.IoctlName.{IoctlName}
 use Rattle.strm_script.specs.declared.ioctls.IoctlName.TheVariants as ioctls
 use Rattle.strm_script.specs.declared.verbs.Verb.{Verb}
 use Rattle.strm_script.specs.declared.verbs.Verb.TheVariants as words
+use Rattle.strm_types.specs.Names.{has_queues_at}
 use Rattle.strm_script.specs.Named.{named}
 use Rattle.strm_script.specs.Script.{Command, Open, Call, Flush, Put, Get, Turn, Run, Show, Ledger, Cut, Group, side_name, queue_name, direction_name, flags_name, flush_name, mode_name, usual_size, byte_max, short_max, window_bytes, group_bytes, IsNumber, IsNumberTo, IsQuoted, IsPart, IsPrio, IsWanted, IsModule}
 
@@ -106,7 +107,7 @@ IsWord AText text word = IsQuoted text word
 IsWord APart part word = IsPart part word
 IsWord APrio prio word = IsPrio prio word
 IsWord AWanted wanted word = IsWanted wanted word
-IsWord AQueue name word = word ≡ queue_name name
+IsWord AQueue name word = (word ≡ queue_name name) × (has_queues_at name.place ≡ true)
 IsWord ADirection direction word = word ≡ direction_name direction
 IsWord AModule known word = IsModule known word
 IsWord SomeQueues what word = word ≡ flush_name what

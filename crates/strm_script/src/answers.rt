@@ -207,7 +207,7 @@ fn place_name(place: Place) -> &'static str
 {
     match place {
         Place::Head => "head",
-        Place::Ldterm => "ldterm",
+        Place::Module(name) => module_name(name),
         Place::Driver => "drv",
     }
 }

@@ -12,7 +12,7 @@ use crate::ledgers::LedgerOf;
 use crate::outcomes::Answered;
 use strm_blocks::Blocks;
 use strm_pair::Pair;
-use strm_types::{Dir, Place, QueueName, Side, Way};
+use strm_types::{Dir, ModuleName, Place, QueueName, Side, Way};
 
 /// How much stands on a queue.
 fn size<B: Blocks + Drop>(pair: &Pair<B>, name: QueueName) -> QueueSize
@@ -30,7 +30,7 @@ fn size<B: Blocks + Drop>(pair: &Pair<B>, name: QueueName) -> QueueSize
 fn module_sizes<B: Blocks + Drop>(pair: &Pair<B>, side: Side) -> Option<ModuleSizes>
     ensures { result ≡ module_sizes side pair.now.state }
 {
-    let place = Place::Ldterm;
+    let place = Place::Module(ModuleName::Ldterm);
     if !pair.has_queues(side, place) {
         return None;
     }

@@ -17,7 +17,7 @@ fn has_stopped(place: Place, size: usize, turn: Turn) -> bool
     match place {
         Place::Head => false,
         Place::Driver => false,
-        Place::Ldterm => match turn {
+        Place::Module(_) => match turn {
             Turn::Moved(bytes) => (bytes as usize) < size,
             Turn::Blocked => false,
             Turn::Idle => false,

@@ -143,7 +143,7 @@ fn place_at(text: &[u8]) -> Option<(Place, &[u8])>
         return Some((Place::Head, rest));
     }
     if let Some(rest) = after(text, b"ldterm") {
-        return Some((Place::Ldterm, rest));
+        return Some((Place::Module(ModuleName::Ldterm), rest));
     }
     if let Some(rest) = after(text, b"drv") {
         return Some((Place::Driver, rest));

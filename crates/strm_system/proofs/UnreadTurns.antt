@@ -245,7 +245,7 @@ module _ {C : Type 0} (dir : Dir) (cells : Cells C) where
       at : (place : Place) (t : State C) → reads dir (turned_at cells place name turn t).gone ≡ 0
       at places.Driver t = driver-turn name.side (stream name.side t).driver.queue.messages t
       at places.Head t = refl
-      at places.Ldterm t = module-turn name turn t
+      at (places.Module owner) t = module-turn name turn t
 
 -- a push, a pop and a close
 module _ {C : Type 0} (dir : Dir) (cells : Cells C) where

@@ -109,7 +109,7 @@ fn the_queues_of_a_popped_module_leave_the_enabled_list(rt: HostRuntime) -> Resu
         for way in [Way::Up, Way::Down] {
             enabled.enable(QueueName {
                 side,
-                place: Place::Ldterm,
+                place: Place::Module(ModuleName::Ldterm),
                 way,
             });
         }

@@ -7,9 +7,11 @@ use Rattle.strm_types.specs.declared.names.Side.TheVariants.{Master, Slave}
 use Rattle.strm_types.specs.declared.names.Way.{Way}
 use Rattle.strm_types.specs.declared.names.Way.TheVariants.{Up, Down}
 use Rattle.strm_types.specs.declared.names.Place.{Place}
-use Rattle.strm_types.specs.declared.names.Place.TheVariants.{Head, Ldterm, Driver}
+use Rattle.strm_types.specs.declared.names.Place.TheVariants.{Head, Module, Driver}
+use Rattle.strm_types.specs.declared.names.ModuleName.{ModuleName}
+use Rattle.strm_types.specs.declared.names.ModuleName.TheVariants as modules
 use Rattle.strm_types.specs.declared.names.QueueName.{QueueName}
-use Rattle.strm_types.specs.Names.{same_side, same_place, same_way, same_queue, is_enabled, without, times, IsOnce}
+use Rattle.strm_types.specs.Names.{same_side, same_module, same_place, same_way, same_queue, has_queues_at, have_queues, is_enabled, without, times, AreQueues, IsOnce}
 
 -- what a test counts for
 one_where : {b : Bool} → b ≡ true → ◌≡◌ {A = ℕ} (if b then 1 else 0) 1
@@ -24,16 +26,37 @@ same_side-sound Slave Slave h = refl
 same_side-sound Master Slave h = cc
 same_side-sound Slave Master h = cc
 
+-- names of modules that compare alike are one, and each compares alike with itself
+pub same_module-sound : (a b : ModuleName) → same_module a b ≡ true → a ≡ b
+same_module-sound modules.Ldterm modules.Ldterm h = refl
+same_module-sound modules.Ptem modules.Ptem h = refl
+same_module-sound modules.Pckt modules.Pckt h = refl
+same_module-sound modules.Ldterm modules.Ptem h = cc
+same_module-sound modules.Ldterm modules.Pckt h = cc
+same_module-sound modules.Ptem modules.Ldterm h = cc
+same_module-sound modules.Ptem modules.Pckt h = cc
+same_module-sound modules.Pckt modules.Ldterm h = cc
+same_module-sound modules.Pckt modules.Ptem h = cc
+
+pub same_module-self : (name : ModuleName) → same_module name name ≡ true
+same_module-self modules.Ldterm = refl
+same_module-self modules.Ptem = refl
+same_module-self modules.Pckt = refl
+
+-- the one name of modules that have queues
+pub queues-ldterm : (name : ModuleName) → have_queues name ≡ true → name ≡ modules.Ldterm
+queues-ldterm name has = same_module-sound name modules.Ldterm has
+
 same_place-sound : (a b : Place) → same_place a b ≡ true → a ≡ b
 same_place-sound Head Head h = refl
-same_place-sound Ldterm Ldterm h = refl
+same_place-sound (Module a) (Module b) h = ap (λ name. Module name) (same_module-sound a b h)
 same_place-sound Driver Driver h = refl
-same_place-sound Head Ldterm h = cc
+same_place-sound Head (Module b) h = cc
 same_place-sound Head Driver h = cc
-same_place-sound Ldterm Head h = cc
-same_place-sound Ldterm Driver h = cc
+same_place-sound (Module a) Head h = cc
+same_place-sound (Module a) Driver h = cc
 same_place-sound Driver Head h = cc
-same_place-sound Driver Ldterm h = cc
+same_place-sound Driver (Module b) h = cc
 
 same_way-sound : (a b : Way) → same_way a b ≡ true → a ≡ b
 same_way-sound Up Up h = refl
@@ -56,14 +79,14 @@ same_queue-sound a b h =
     let way = same_way-sound a.way b.way parts.2 in
     ap (λ (p : Side × Place × Way). record { side = p.0; place = p.1; way = p.2 }) (cc)
 
--- all names there are
+-- all names of places where queues stand
 all_names : List QueueName
 all_names =
     record { side = Master; place = Head; way = Up } ∷ record { side = Master; place = Head; way = Down }
-    ∷ record { side = Master; place = Ldterm; way = Up } ∷ record { side = Master; place = Ldterm; way = Down }
+    ∷ record { side = Master; place = Module modules.Ldterm; way = Up } ∷ record { side = Master; place = Module modules.Ldterm; way = Down }
     ∷ record { side = Master; place = Driver; way = Up } ∷ record { side = Master; place = Driver; way = Down }
     ∷ record { side = Slave; place = Head; way = Up } ∷ record { side = Slave; place = Head; way = Down }
-    ∷ record { side = Slave; place = Ldterm; way = Up } ∷ record { side = Slave; place = Ldterm; way = Down }
+    ∷ record { side = Slave; place = Module modules.Ldterm; way = Up } ∷ record { side = Slave; place = Module modules.Ldterm; way = Down }
     ∷ record { side = Slave; place = Driver; way = Up } ∷ record { side = Slave; place = Driver; way = Down } ∷ []
 
 -- how often any of some names stands in a list
@@ -87,27 +110,31 @@ unfolding times_any
 times_any-none [] = refl
 times_any-none (n ∷ ns) = omega (arith, times_any-none ns)
 
--- each name is one of all names, once
-hits-all : (side : Side) (place : Place) (way : Way) → hits all_names (record { side = side; place = place; way = way }) ≡ 1
+-- each name of a place where queues stand is one of all names, once
+hits-all : (side : Side) (place : Place) (way : Way) → has_queues_at place ≡ true → hits all_names (record { side = side; place = place; way = way }) ≡ 1
 unfolding hits all_names
-hits-all Master Head Up = refl
-hits-all Master Head Down = refl
-hits-all Master Ldterm Up = refl
-hits-all Master Ldterm Down = refl
-hits-all Master Driver Up = refl
-hits-all Master Driver Down = refl
-hits-all Slave Head Up = refl
-hits-all Slave Head Down = refl
-hits-all Slave Ldterm Up = refl
-hits-all Slave Ldterm Down = refl
-hits-all Slave Driver Up = refl
-hits-all Slave Driver Down = refl
+hits-all Master Head Up has = refl
+hits-all Master Head Down has = refl
+hits-all Slave Head Up has = refl
+hits-all Slave Head Down has = refl
+hits-all Master Driver Up has = refl
+hits-all Master Driver Down has = refl
+hits-all Slave Driver Up has = refl
+hits-all Slave Driver Down has = refl
+hits-all side (Module name) way has =
+    subst (λ n. hits all_names (record { side = side; place = Module n; way = way }) ≡ 1) (sym (queues-ldterm name has)) (at side way)
+  where
+    at : (side : Side) (way : Way) → hits all_names (record { side = side; place = Module modules.Ldterm; way = way }) ≡ 1
+    at Master Up = refl
+    at Master Down = refl
+    at Slave Up = refl
+    at Slave Down = refl
 
-length-times : (names : List QueueName) → length names ≡ times_any all_names names
-length-times [] = sym (times_any-none all_names)
-length-times (n ∷ names) =
-    let one : hits all_names n ≡ 1 = hits-all n.side n.place n.way in
-    let ih : length names ≡ times_any all_names names = length-times names in
+length-times : (names : List QueueName) → AreQueues names → length names ≡ times_any all_names names
+length-times [] has = sym (times_any-none all_names)
+length-times (n ∷ names) has =
+    let one : hits all_names n ≡ 1 = hits-all n.side n.place n.way has.0 in
+    let ih : length names ≡ times_any all_names names = length-times names has.1 in
     omega (arith, one, ih, times_any-cons all_names n names)
 
 times-absent-at : (name : QueueName) (names : List QueueName) (b : Bool) → (b || is_enabled name names) ≡ false → (is_enabled name names ≡ false → times name names ≡ 0) → (if b then 1 else 0) + times name names ≡ 0
@@ -132,11 +159,34 @@ room-one (n ∷ ns) names name once none =
     room-at false e = omega (arith, once n)
 
 -- while a name is absent, fewer than all twelve are there
-pub once-room : (names : List QueueName) (name : QueueName) → IsOnce names → is_enabled name names ≡ false → length names < 12
-once-room names name once h =
-    let one : hits all_names name ≡ 1 = hits-all name.side name.place name.way in
+pub once-room : (names : List QueueName) (name : QueueName) → IsOnce names → AreQueues names → has_queues_at name.place ≡ true → is_enabled name names ≡ false
+    → length names < 12
+once-room names name once are has h =
+    let one : hits all_names name ≡ 1 = hits-all name.side name.place name.way has in
     let all : length all_names ≡ 12 = unfold all_names in refl in
-    omega (arith, one, all, length-times names, room-one all_names names name once (times-absent name names h))
+    omega (arith, one, all, length-times names are, room-one all_names names name once (times-absent name names h))
+
+-- one of them is of a place where queues stand
+pub queues-among : (names : List QueueName) (name : QueueName) → AreQueues names → is_enabled name names ≡ true → has_queues_at name.place ≡ true
+queues-among [] name are is = absurd (cc)
+queues-among (n ∷ names) name are is = at (same_queue n name) refl is (queues-among names name are.1)
+  where
+    at : (same : Bool) → same_queue n name ≡ same → (same || is_enabled name names) ≡ true → (is_enabled name names ≡ true → has_queues_at name.place ≡ true)
+        → has_queues_at name.place ≡ true
+    at true same is more = subst (λ q. has_queues_at q.place ≡ true) (same_queue-sound n name same) are.0
+    at false same is more = more is
+
+pub queues-added : (names : List QueueName) (name : QueueName) → AreQueues names → has_queues_at name.place ≡ true → AreQueues (names ++ name ∷ [])
+queues-added [] name are has = (has, tt)
+queues-added (n ∷ names) name are has = (are.0, queues-added names name are.1 has)
+
+pub queues-without : (names : List QueueName) (name : QueueName) → AreQueues names → AreQueues (without name names)
+queues-without [] name are = tt
+queues-without (n ∷ names) name are = at (not (same_queue n name)) (queues-without names name are.1)
+  where
+    at : (stays : Bool) → AreQueues (without name names) → AreQueues (cond stays (n ∷ without name names) (without name names))
+    at true more = (are.0, more)
+    at false more = more
 
 times-append : (name n : QueueName) (names : List QueueName) → times name (names ++ n ∷ []) ≡ times name names + (if same_queue n name then 1 else 0)
 times-append name n [] = omega arith

@@ -3,23 +3,19 @@ use Rattle.std.specs.Prelude.{ℕ, zero, suc, Bool, ◌&&◌, not, nat_lt, List,
 use Rattle.std.specs.List.{list_any}
 use Rattle.strm_types.specs.declared.limits.TheConstants.{MODULES}
 use Rattle.strm_types.specs.declared.names.ModuleName.{ModuleName}
-use Rattle.strm_types.specs.declared.names.Place.{Place}
+use Rattle.strm_types.specs.declared.names.Place.TheVariants.{Module}
 use Rattle.strm_types.specs.declared.names.QueueName.{QueueName}
 use Rattle.strm_types.specs.declared.names.Side.{Side}
 use Rattle.strm_types.specs.declared.names.Way.TheVariants.{Up, Down}
 use Rattle.strm_types.specs.declared.spots.Spot.{Spot}
 use Rattle.strm_types.specs.Message.{Message}
-use Rattle.strm_types.specs.Names.{same_module, place_of, without}
+use Rattle.strm_types.specs.Names.{same_module, without}
 use Rattle.strm_types.specs.Deliver.{Acted}
 
--- the names of queues without those of a module that is taken off a side's stream
-abbrev pub without_place : Side → Option Place → List QueueName → List QueueName
-without_place side None names = names
-without_place side (Some place) names =
-    without (record { side = side; place = place; way = Down }) (without (record { side = side; place = place; way = Up }) names)
-
+-- the names of queues without those of a module that is taken off a side's stream: its read queue and its write queue
 abbrev pub without_module : Side → ModuleName → List QueueName → List QueueName
-without_module side name names = without_place side (place_of name) names
+without_module side name names =
+    without (record { side = side; place = Module name; way = Down }) (without (record { side = side; place = Module name; way = Up }) names)
 
 module _ {P : Type 0} (name_of : P → ModuleName) where
   -- a module of this name stands there

@@ -1,12 +1,12 @@
 -- Names of queues, and lists of them in which each stands once.
-use Rattle.std.specs.Prelude.{ℕ, ◌+◌, ◌≤◌, Bool, true, false, ◌&&◌, not, if◌then◌else◌, List, [], ◌∷◌, ◌++◌, filter, Option, None, Some}
-use Rattle.std.specs.List.{list_any}
+use Rattle.std.specs.Prelude.{ℕ, ◌≡◌, ◌+◌, ◌≤◌, Bool, true, false, ◌&&◌, not, if◌then◌else◌, List, [], ◌∷◌, ◌++◌, filter, Option, None, Some}
+use Rattle.std.specs.List.{AllByRecursion, list_any}
 use Rattle.strm_types.specs.declared.names.Side.{Side}
 use Rattle.strm_types.specs.declared.names.Side.TheVariants.{Master, Slave}
 use Rattle.strm_types.specs.declared.names.Way.{Way}
 use Rattle.strm_types.specs.declared.names.Way.TheVariants.{Up, Down}
 use Rattle.strm_types.specs.declared.names.Place.{Place}
-use Rattle.strm_types.specs.declared.names.Place.TheVariants.{Head, Ldterm, Driver}
+use Rattle.strm_types.specs.declared.names.Place.TheVariants.{Head, Module, Driver}
 use Rattle.strm_types.specs.declared.names.QueueName.{QueueName}
 use Rattle.strm_types.specs.declared.names.ModuleName.{ModuleName}
 use Rattle.strm_types.specs.declared.names.ModuleName.TheVariants as modules
@@ -57,9 +57,15 @@ same_side Master Master = true
 same_side Slave Slave = true
 same_side _ _ = false
 
+abbrev pub same_module : ModuleName → ModuleName → Bool
+same_module modules.Ldterm modules.Ldterm = true
+same_module modules.Ptem modules.Ptem = true
+same_module modules.Pckt modules.Pckt = true
+same_module _ _ = false
+
 abbrev pub same_place : Place → Place → Bool
 same_place Head Head = true
-same_place Ldterm Ldterm = true
+same_place (Module a) (Module b) = same_module a b
 same_place Driver Driver = true
 same_place _ _ = false
 
@@ -79,22 +85,24 @@ driver_of side = record { side = side; place = Driver; way = Down }
 abbrev pub head_of : Side → QueueName
 head_of side = record { side = side; place = Head; way = Up }
 
-abbrev pub same_module : ModuleName → ModuleName → Bool
-same_module modules.Ldterm modules.Ldterm = true
-same_module modules.Ptem modules.Ptem = true
-same_module modules.Pckt modules.Pckt = true
-same_module _ _ = false
+-- whether modules of a name have queues: of ldterm(7M), ptem(7M) and pckt(7M) ldterm alone
+abbrev pub have_queues : ModuleName → Bool
+have_queues name = same_module name modules.Ldterm
 
--- the place of a module's queues, where it has any
+-- the place of the queues of modules of a name, where they have any
 abbrev pub place_of : ModuleName → Option Place
-place_of modules.Ldterm = Some Ldterm
-place_of modules.Ptem = None
-place_of modules.Pckt = None
+place_of name = if have_queues name then Some (Module name) else None
+
+-- whether queues stand at a place: those of a head, of a driver, and of modules that have any
+abbrev pub has_queues_at : Place → Bool
+has_queues_at Head = true
+has_queues_at (Module name) = have_queues name
+has_queues_at Driver = true
 
 -- whether a queue has a service procedure: every queue but a head's
 abbrev pub has_service_at : Place → Bool
 has_service_at Head = false
-has_service_at Ldterm = true
+has_service_at (Module name) = true
 has_service_at Driver = true
 
 abbrev pub has_service : QueueName → Bool
@@ -113,9 +121,9 @@ direction_of name = direction_at name.way name.side
 abbrev pub is_enabled : QueueName → List QueueName → Bool
 is_enabled name names = list_any (λ n. same_queue n name) names
 
--- the names with one more at the end, where it isn't among them
+-- The names with one more at the end, where it isn't among them. None joins them of a place where no queue stands.
 abbrev pub enable : QueueName → List QueueName → List QueueName
-enable name names = if is_enabled name names then names else names ++ name ∷ []
+enable name names = if has_queues_at name.place && not (is_enabled name names) then names ++ name ∷ [] else names
 
 -- the same on a condition
 abbrev pub enable_if : Bool → QueueName → List QueueName → List QueueName
@@ -138,6 +146,10 @@ without name names = filter (λ n. not (same_queue n name)) names
 abbrev pub times : QueueName → List QueueName → ℕ
 times name [] = 0
 times name (n ∷ names) = (if same_queue n name then 1 else 0) + times name names
+
+-- each name is of a place where queues stand
+abbrev pub AreQueues : List QueueName → Type 0
+AreQueues names = AllByRecursion (λ name. has_queues_at name.place ≡ true) names
 
 -- each name stands there at most once
 abbrev pub IsOnce : List QueueName → Type 0

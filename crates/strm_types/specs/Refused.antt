@@ -22,7 +22,7 @@ unless false refusal = Some refusal
 abbrev pub turn_blocks : Place → ℕ
 turn_blocks places.Driver = TURN_BLOCKS
 turn_blocks places.Head = TURN_BLOCKS
-turn_blocks places.Ldterm = STOP_BLOCKS
+turn_blocks (places.Module name) = STOP_BLOCKS
 
 module _ {C : Type 0} where
   -- no message of data stands on a queue

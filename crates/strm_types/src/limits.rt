@@ -96,6 +96,6 @@ pub fn turn_blocks(place: Place) -> usize
 {
     match place {
         Place::Driver | Place::Head => TURN_BLOCKS,
-        Place::Ldterm => STOP_BLOCKS,
+        Place::Module(_) => STOP_BLOCKS,
     }
 }

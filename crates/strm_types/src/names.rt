@@ -103,16 +103,35 @@ pub enum Way {
     Down,
 }
 
-/// What a queue belongs to: the stream head, the line discipline `ldterm` where it stands, or the driver.
+/// What a queue belongs to: the stream head, a module, by its name, or the driver.
 #[derive(Clone, Copy, Debug, Default, PartialEq)]
 pub enum Place {
     #[default]
     Head,
-    Ldterm,
+    Module(ModuleName),
     Driver,
 }
 
-/// The name of a queue, as `m.drv.w`. A head has a read queue alone and a driver a write queue alone; `ldterm` has
+impl Place {
+    /// Whether queues stand there: those of a head, of a driver, and of modules of a name that have any.
+    pub fn has_queues(self) -> bool
+        ensures { result ≡ names.has_queues_at self }
+    {
+        match self {
+            Place::Head | Place::Driver => true,
+            Place::Module(name) => name.has_queues(),
+        }
+    }
+
+    /// Whether two places are one.
+    pub fn is_same(self, other: Place) -> bool
+        ensures { result ≡ names.same_place self other }
+    {
+        self == other
+    }
+}
+
+/// The name of a queue, as `m.drv.w`. A head has a read queue alone and a driver a write queue alone; a module that has queues has
 /// both. A name may be of a queue that doesn't exist.
 #[derive(Clone, Copy, Debug, Default, PartialEq)]
 pub struct QueueName {
@@ -123,7 +142,7 @@ pub struct QueueName {
 
 /// A module that may be pushed on a stream: the line discipline `ldterm(7M)`, the terminal emulation `ptem(7M)`, or the
 /// packet mode `pckt(7M)`.
-#[derive(Clone, Copy, PartialEq)]
+#[derive(Clone, Copy, Debug, PartialEq)]
 pub enum ModuleName {
     Ldterm,
     Ptem,
@@ -138,13 +157,21 @@ impl ModuleName {
         self == other
     }
 
-    /// The place of its queues; None where it has none.
+    /// Whether modules of this name have queues: of the three `ldterm` alone.
+    pub fn has_queues(self) -> bool
+        ensures { result ≡ names.have_queues self }
+    {
+        self.is_same(ModuleName::Ldterm)
+    }
+
+    /// The place of the queues of modules of this name; None where they have none.
     pub fn place(self) -> Option<Place>
         ensures { result ≡ names.place_of self }
     {
-        match self {
-            ModuleName::Ldterm => Some(Place::Ldterm),
-            ModuleName::Ptem | ModuleName::Pckt => None,
+        if self.has_queues() {
+            Some(Place::Module(self))
+        } else {
+            None
         }
     }
 }

@@ -66,14 +66,14 @@ pub fn put_side(out: &mut Sink, side: Side)
     out.put(&[code]);
 }
 
-/// What a queue belongs to.
+/// What a queue belongs to: of modules `ldterm` alone has queues.
 #[tactic(auto, unfolding(crate::specs::Codes::place))]
 pub fn put_place(out: &mut Sink, place: Place)
     ensures { out.new ≡ put (codes.place.text place) out.old }
 {
     let code = match place {
         Place::Head => 0,
-        Place::Ldterm => 1,
+        Place::Module(_) => 1,
         Place::Driver => 2,
     };
     out.put(&[code]);

@@ -2,7 +2,7 @@
 
 ghost use Rattle.std.specs.Prelude.{◌≡◌, [], replicate};
 ghost use Rattle.strm_types.specs.declared.limits.TheConstants.{LISTS};
-ghost use Rattle.strm_types.specs.Names.{IsOnce};
+ghost use Rattle.strm_types.specs.Names.{AreQueues, IsOnce};
 ghost use Rattle.strm_laws.specs.Restorable.{Restorable};
 ghost use Rattle.strm_frame.specs.Hands.{HasRoom};
 ghost use Rattle.strm_image.specs.AccountTexts.{account_now};
@@ -21,7 +21,8 @@ use strm_types::{Book, Both, Fates, QueueName, Side};
 
 // The enabled queues, in order of enabling.
 fn enabled_of(names: &[QueueName]) -> Enabled
-    requires { IsOnce names.now }
+    requires once { IsOnce names.now }
+    requires queues { AreQueues names.now }
     ensures { result ≡ names.now }
 {
     let mut enabled = Enabled::new();

@@ -11,7 +11,8 @@ use strm_blocks::{Blocks, Reserve, TableStore};
 use strm_pair::Pair;
 use strm_raw::RawStore;
 use strm_types::{
-    Answer, Band, Config, Event, Place, Prio, QueueName, Refusal, Side, Turn, Wanted, Way,
+    Answer, Band, Config, Event, ModuleName, Place, Prio, QueueName, Refusal, Side, Turn, Wanted,
+    Way,
 };
 
 // An image of version 2 up to the streams: both sides are open, the slave isn't locked, the next ioctl is the first one.
@@ -347,13 +348,13 @@ const STOPPED: [&[u8]; 15] = [
 
 const LDTERM_READ: QueueName = QueueName {
     side: Side::Slave,
-    place: Place::Ldterm,
+    place: Place::Module(ModuleName::Ldterm),
     way: Way::Up,
 };
 
 const LDTERM_WRITE: QueueName = QueueName {
     side: Side::Slave,
-    place: Place::Ldterm,
+    place: Place::Module(ModuleName::Ldterm),
     way: Way::Down,
 };
 

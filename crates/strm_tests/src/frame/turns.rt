@@ -10,7 +10,7 @@ use std::test::Fail;
 use strm_blocks::{Blocks, TableStore};
 use strm_frame::Tables;
 use strm_msg::from_bytes;
-use strm_types::{Band, MsgKind, Place, QueueName, Side, Spot, Turn, Way};
+use strm_types::{Band, ModuleName, MsgKind, Place, QueueName, Side, Spot, Turn, Way};
 
 // What is done to the stream.
 enum Step {
@@ -103,7 +103,7 @@ fn play_all<B: Blocks>(rt: &impl Abort, store: &mut B, rig: &mut Rig, rows: &[Ro
 
 const UPPER: &[QueueName] = &[QueueName {
     side: Side::Slave,
-    place: Place::Ldterm,
+    place: Place::Module(ModuleName::Ldterm),
     way: Way::Down,
 }];
 

@@ -1,7 +1,9 @@
 use Rattle.strm_script.proofs.Prelude.{◌≡◌, ℕ, Bool, true, false, cond, List, [], ◌∷◌, ◌++◌, length, map, Option, None, Some, is_some, ap, sym, refl}
 use Rattle.strm_script.proofs.Prelude.{◌∙◌}
-use Rattle.strm_script.specs.Prelude.{Both, Caller, Ldterm, QueueName, Up, Down, place_named, get, head_of, driver_of, State, stream, Side}
+use Rattle.strm_script.specs.Prelude.{Both, Caller, QueueName, Up, Down, place_named, get, head_of, driver_of, State, stream, Side}
 use Rattle.strm_script.specs.Prelude.{FlushQueues, Request, Einval, PairState}
+use Rattle.strm_types.specs.declared.names.ModuleName.TheVariants as modules
+use Rattle.strm_types.specs.declared.names.Place.TheVariants as places
 use Rattle.strm_script.specs.ScriptAnswers.{Sizes}
 use Rattle.strm_script.specs.Script.{Call, Flush, Put, Get, Cut}
 use Rattle.strm_script.specs.declared.commands.NamedPrio.{NamedPrio}
@@ -65,13 +67,13 @@ returns-in-Flush g c = known _ _ _ _ _ _ _ c.in-Flush.is (flushes _ _ _ _ _ _ _ 
 -- a look, by whether a module with queues stands there
 shown : (side : Side) (s : State ℕ) → Sizes side (size_at s (head_of side) ∷ (sizes_of (module_sizes side s) ++ size_at s (driver_of side) ∷ []))
     ≡ Sizes side (map (size_at s) (queues_down side s))
-shown side s = by (is_some (place_named Ldterm (stream side s).modules))
+shown side s = by (is_some (place_named (places.Module modules.Ldterm) (stream side s).modules))
   where
     up : QueueName
-    up = record { side = side; place = Ldterm; way = Up }
+    up = record { side = side; place = places.Module modules.Ldterm; way = Up }
 
     down : QueueName
-    down = record { side = side; place = Ldterm; way = Down }
+    down = record { side = side; place = places.Module modules.Ldterm; way = Down }
 
     by : (stands : Bool) → Sizes side (size_at s (head_of side) ∷ (sizes_of (cond stands (Some (record { up = size_at s up; down = size_at s down })) None) ++ size_at s (driver_of side) ∷ []))
         ≡ Sizes side (map (size_at s) (head_of side ∷ (cond stands (up ∷ down ∷ []) [] ++ driver_of side ∷ [])))

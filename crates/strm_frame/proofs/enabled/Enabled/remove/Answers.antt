@@ -2,7 +2,7 @@
 use Rattle.strm_frame.proofs.Prelude.{◌≡◌, ◌-◌, ◌∙◌, [], length, take, arith, refl, sym, ap, subst, take_all}
 use Rattle.strm_frame.specs.Prelude.{without}
 use Rattle.std.specs.Bool.{OnTrue}
-use Rattle.strm_types.proofs.EnabledNames.{once-without, without-kept, without-gone}
+use Rattle.strm_types.proofs.EnabledNames.{once-without, queues-without, without-kept, without-gone}
 use Rattle.strm_frame.proofs.enabled.Enabled.remove.Goals as goal
 use Rattle.strm_frame.proofs.enabled.Enabled.remove.Goals.{then-not-is_same, else-not-is_same}
 
@@ -24,7 +24,8 @@ loop-other-preserved c =
 pub invariant_of-self-2 : goal.invariant_of-self-2
 invariant_of-self-2 c =
     let whole = c.loop-other.invariant.rest ∙ ap (without c.args.name) (take_all _ _ c.loop-other-test.false ∙ c.as_slice-other-items.ensures.value) in
-    rw whole (once-without c.self.inside.names.items c.args.name c.self.invariant)
+    let names = c.self.inside.names.items in
+    rw whole (once-without names c.args.name c.self.invariant.0, queues-without names c.args.name c.self.invariant.1)
 
 pub invariant_of-self : goal.invariant_of-self
 invariant_of-self c =
@@ -33,4 +34,4 @@ invariant_of-self c =
     let one : length names ≡ 1 = ap length view ∙ subst (λ b. OnTrue b (length c.args.self.now ≡ 1)) c.if-is_only.true c.is_only.ensures.one in
     let none : without c.args.name names ≡ [] = ap (without c.args.name) view ∙ subst (λ b. OnTrue b (without c.args.name c.args.self.now ≡ [])) c.if-is_only.true c.is_only.ensures.none_else in
     let gone : c.pop.new.self.items ≡ without c.args.name names = c.pop.ensures.rest ∙ ap (λ n. take (n - 1) names) one ∙ sym none in
-    rw gone (once-without names c.args.name c.self.invariant)
+    rw gone (once-without names c.args.name c.self.invariant.0, queues-without names c.args.name c.self.invariant.1)

@@ -1,6 +1,10 @@
 -- The master's stream stands first, and stays as it is.
 use Rattle.strm_pair.proofs.Prelude.{refl, subst, sym, ◌∙◌}
 use Rattle.strm_pair.specs.Prelude.{Master, Slave, laid_blocks, laid_now}
+use Rattle.strm_types.specs.Names.{AreQueues}
+use Rattle.strm_laws.specs.StackCosts.{stands_of}
+use Rattle.strm_image.specs.ImageTexts.{imaged_now}
+use Rattle.strm_image.proofs.FitImages.{are_queues}
 use Rattle.strm_pair.specs.Laying.{IsStood, stream_now}
 use Rattle.strm_pair.specs.Streams.{IsBlank}
 use Rattle.strm_pair.proofs.PairsMade.{blank-behind, blank-last, both-sides, master-stream}
@@ -20,6 +24,11 @@ end_of-slave-requires-clause-blank g c =
     let text = c.args.text.now in
     let stood = subst (λ n. IsStood s t n (stream_now text.opened.master text.streams.master) (laid_blocks (laid_now text.streams.master)) c.end_of-master.result) c.first_list.ensures.list c.end_of-master.ensures in
     subst (λ n. IsBlank t n) (sym c.first_list-2.ensures.list) (blank-behind stood (blank-last s c.requires.lists))
+
+pub enabled_of-requires-clause-queues : goal.enabled_of-requires-clause-queues
+enabled_of-requires-clause-queues g c =
+    let s = (imaged_now c.args.text.now).state in
+    subst AreQueues (sym c.as_slice.ensures.value) (are_queues (stands_of s) s.enabled c.requires.good.enabled.there)
 
 pub returns-clause-state : goal.returns-clause-state
 returns-clause-state g c =

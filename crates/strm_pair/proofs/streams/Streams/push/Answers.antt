@@ -1,6 +1,6 @@
 -- The head is told its mode, the module stands there, and what waits before it may come.
-use Rattle.strm_pair.proofs.Prelude.{ℕ, ◌≡◌, ◌∷◌, ap, sym, subst, ◌∙◌, Option, Some, IfSome, is_some}
-use Rattle.strm_pair.specs.Prelude.{Carried, tallied, may_stand, mode_put, named_by, with_modules, place_of, State, stream}
+use Rattle.strm_pair.proofs.Prelude.{ℕ, ◌≡◌, ◌∷◌, ap, sym, subst, ◌∙◌, Option, Some, IfSome}
+use Rattle.strm_pair.specs.Prelude.{Carried, tallied, may_stand, mode_put, named_by, with_modules, have_queues, State, stream}
 use Rattle.strm_pair.specs.declared.streams.Streams.{Streams}
 use Rattle.std.specs.List.{AllByRecursion}
 use Rattle.strm_pair.specs.AnyModules.{HasAsNamed, all-have}
@@ -26,7 +26,7 @@ returns-clause-leads g c =
     let v = state_in t c.put_on.new.self in
     let name = c.in-Some.name in
     let told = c.put_mode.ensures in
-    let reads = is_some (place_of name) in
+    let reads = have_queues name in
     let may = ap (λ (o : Option _). may_stand (named_by o) (stream c.args.side s).modules) (sym c.in-Some.is) ∙ c.requires.may_stand in
     let now = g.B.Blocks.value c.args.store.now in
     let items = (end_at c.args.side c.args.self.now).stack.modules.items in

@@ -24,7 +24,7 @@ returns-in-Driver-clause-stops g c =
     moves-taken c.remove.new.self (state_in (g.B.Blocks.value c.args.store.now) c.args.self.now) free c.args.name c.turn_driver.result
     (driver-moves c.args.name c.turn_driver.result from free c.in-Driver.is c.turn_driver.ensures.turn)
 
-pub returns-in-Ldterm-clause-stops : goal.returns-in-Ldterm-clause-stops
-returns-in-Ldterm-clause-stops g c =
+pub returns-in-Module-clause-stops : goal.returns-in-Module-clause-stops
+returns-in-Module-clause-stops g c =
     moves-taken c.remove.new.self (state_in (g.B.Blocks.value c.args.store.now) c.args.self.now) (free_in (g.B.Blocks.value c.turn_module.new.store)) c.args.name c.turn_module.result
-    (c.turn_module.ensures.stops c.in-Ldterm.is)
+    (c.turn_module.ensures.stops c.in-Module.field-0 c.in-Module.is)

@@ -99,10 +99,10 @@ returns-in-Serves-clause-few g c =
 
 -- a byte went, where the message has one
 pub returns-in-Over-clause-stops : goal.returns-in-Over-clause-stops
-returns-in-Over-clause-stops g c = λ place. stays-moves c.args.name (state_in (g.B.Blocks.value c.args.store.now) c.args.self.now) (free_in (g.B.Blocks.value c.args.store.now)) c.in-Over.turn c.in-Over.ensures.begins.0
+returns-in-Over-clause-stops g c = λ owner place. stays-moves c.args.name (state_in (g.B.Blocks.value c.args.store.now) c.args.self.now) (free_in (g.B.Blocks.value c.args.store.now)) c.in-Over.turn c.in-Over.ensures.begins.0
 
 pub returns-in-Serves-clause-stops : goal.returns-in-Serves-clause-stops
-returns-in-Serves-clause-stops g c = λ place.
+returns-in-Serves-clause-stops g c = λ owner place.
     let s = g.B.Blocks.value c.args.store.now in
     serves-moves c.args.name c.in-Serves.here (state_in s c.args.self.now) (state_in s c.begin_module_turn.new.self) (g.B.Blocks.value c.call_on-bytes.new.store) c.call_on-bytes.result c.in-Serves.ensures.begins
-    c.call_on-bytes.ensures.treats.within c.call_on-bytes.ensures.treats.some c.call_on-bytes.ensures.few place
+    c.call_on-bytes.ensures.treats.within c.call_on-bytes.ensures.treats.some c.call_on-bytes.ensures.few owner place
