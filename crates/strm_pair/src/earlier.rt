@@ -6,6 +6,7 @@ ghost use Rattle.strm_types.specs.declared.limits.TheConstants.{MODULES};
 ghost use Rattle.strm_types.specs.declared.names.Way.{Way};
 ghost use Rattle.strm_laws.specs.Earlier.{before_at, before_modules, driver_place, modules_on, queue_named};
 ghost use Rattle.strm_types.specs.Names.{enable_some};
+ghost use Rattle.strm_laws.specs.Puts.{noted};
 ghost use Rattle.strm_pair.specs.Nearest.{earlier_of, noted_on};
 
 use crate::stacks::{module_count, place_at};
