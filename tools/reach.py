@@ -1,8 +1,8 @@
 """Which definitions the proof of a function or a lemma can reach, by the text alone: for tools/wrong.
 
 A declaration is one of a crate's files of specs/ and proofs/, or a function or a constant of its src/. It reaches each one that a word of its text
-names there, by the file's own declarations and by what the file imports, what those reach, and so on. A function's text has its contract, its body
-and the files of its proof in it. A variable that is spelled like a definition reaches that one too: more is reached than a proof uses, and never
+names there, by the file's own declarations and by what the file imports, also through files that pass it on (`pub use`), what those reach, and so
+on. A function's text has its contract, its body and the files of its proof in it. A variable that is spelled like a definition reaches that one too: more is reached than a proof uses, and never
 less.
 """
 import glob
@@ -11,7 +11,8 @@ import re
 
 WORD = re.compile(r"[^\s(){}\[\],;.:=\"⟦⟧⌜⌝`&|*!?<>@#/\\◌]+")
 MODIFIERS = re.compile(r"(?:(?:abbrev|pub|record|data|private|axiom) )*")
-USE = re.compile(r"^(?:pub |ghost )?use (Rattle\.[\w.«»+-]+?)(?:\.\{([^}]*)\}| as (\w+))?;?$", re.M)
+USE = re.compile(r"^(?:(?:unfoldable )?pub |ghost )?use (Rattle\.[\w.«»+-]+?)(?:\.\{([^}]*)\}| as (\w+))?;?$", re.M)
+PASSED = re.compile(r"^(?:unfoldable )?pub use (Rattle\.[\w.«»+-]+?)\.\{([^}]*)\}$", re.M)
 FUNCTION = re.compile(r"^(?: *#\[[^\n]*\]\n+)* *(?:pub(?:\([a-z ]+\))? )?(?:(?:const |unsafe |extern \"C\" )*fn|const) (\w+)", re.M)
 COMMENT = re.compile(r"^ *//.*\n", re.M)
 
@@ -52,11 +53,25 @@ def functions(text):
     return found
 
 
+def file_of(module):
+    """(crate, path) of the file that a module is."""
+    crate, _, inside = module[len("Rattle."):].partition(".")
+    return crate, inside.replace(".", "/") + ".antt"
+
+
+def each_name(names):
+    """(name, what it is called here) of each in the braces of a line `use`; the second is empty where that is the same."""
+    for name in filter(None, (it.strip() for it in names.split(","))):
+        given, _, own = name.partition(" as ")
+        yield given, own
+
+
 class Texts:
     """The declarations of some crates, each known as (crate, path, name)."""
 
     def __init__(self, folders):
         self.text, self.uses, self.inside, self.named, self.brings, self.stepped, self.back = {}, {}, {}, {}, {}, {}, {}
+        self.passed = {}
         for crate, folder in folders.items():
             for part in ("src", "specs", "proofs"):
                 for path in glob.glob(f"{folder}/{part}/**/*.*", recursive=True):
@@ -70,16 +85,17 @@ class Texts:
                 for known in (name, (crate, name)):
                     self.named.setdefault(known, set()).add((crate, path, name))
         self.uses[crate, path] = USE.findall(text)
+        for module, names in PASSED.findall(text):
+            for given, own in each_name(names):
+                self.passed[crate, path, own or given] = (file_of(module), given)
         self.inside[crate, path] = [(crate, path, name) for name in told]
 
     def imports(self, crate, path):
         """{word: declarations} of what a file's lines `use` bring in, and of its own declarations."""
         found = {}
         for module, names, alias in self.uses[crate, path]:
-            of, _, inside = module[len("Rattle."):].partition(".")
-            file = (of, inside.replace(".", "/") + ".antt")
-            for name in filter(None, (it.strip() for it in names.split(","))):
-                given, _, own = name.partition(" as ")
+            file = file_of(module)
+            for given, own in each_name(names):
                 for word in WORD.findall(own or given):
                     found.setdefault(word, set()).update(self.called(file, given))
             if alias:
@@ -90,8 +106,10 @@ class Texts:
         return found
 
     def called(self, file, name):
-        """What a name of a module is: a declaration of that file, or, of a function's own modules, the function."""
+        """What a name of a module is: a declaration of that file or one that it passes on, or, of a function's own modules, the function."""
         it = (*file, name)
+        if it in self.passed:
+            return self.called(*self.passed[it])
         if file in self.uses:
             return {it} if it in self.text else set()
         of, path = file
