@@ -17,6 +17,7 @@ pub mod PlaceCosts
 pub mod PutSteps
 pub mod ModuleSteps
 pub mod NearestStays
+pub mod NotesDone
 pub mod StopsFew
 pub mod ServeSteps
 pub mod CallsOn

@@ -1,13 +1,13 @@
 //! The nearest earlier queue of a place on a side's stream: the one that is enabled where there is room again (STREAMS Programming
 //! Guide, "Flow Control"). Places count from the head's, 0, over the modules from the top, to the driver's.
 
-ghost use Rattle.std.specs.Prelude.{◌≡◌, ◌≤◌, ◌<◌, ◌+◌};
+ghost use Rattle.std.specs.Prelude.{◌≡◌, ◌≤◌, ◌<◌, ◌+◌, [], ◌∷◌};
 ghost use Rattle.strm_types.specs.declared.limits.TheConstants.{MODULES};
 ghost use Rattle.strm_types.specs.declared.names.Way.{Way};
 ghost use Rattle.strm_laws.specs.Earlier.{before_at, before_modules, driver_place, modules_on, queue_named};
 ghost use Rattle.strm_types.specs.Names.{enable_some};
-ghost use Rattle.strm_laws.specs.Puts.{earlier_at, noted};
-ghost use Rattle.strm_pair.specs.Nearest.{earlier_of};
+ghost use Rattle.strm_laws.specs.Puts.{noted};
+ghost use Rattle.strm_pair.specs.Nearest.{earlier_of, noted_on};
 
 use crate::stacks::{module_count, place_at};
 use crate::streams::Streams;
@@ -130,32 +130,40 @@ impl Streams {
         }
     }
 
-    // Does what a put says of the queues of a place of a side's stream, one note after the other. The nearest earlier queue is looked for
-    // where a note asks for it, and else not.
+    // Does what one note of a put says of the queues of a place of a side's stream. The nearest earlier queue is looked for where the note asks for
+    // it, and else not. Inlined, since mostly there is one, and of a head or a driver.
+    #[inline(always)]
+    fn note_one(&mut self, side: Side, place: Option<Place>, at: usize, note: Note)
+        ensures { (s : StoreValue) → self.new ≡ noted_on s side place at (note ∷ []) self.old }
+    {
+        match note {
+            Note::Enable(way) => self.enabled.enable_found(queue_named(side, way, place)),
+            Note::Room(way) => self.let_go(side, way, at, true),
+        }
+    }
+
+    // Does what each note says, one after the other.
     fn note_each(&mut self, side: Side, place: Option<Place>, at: usize, notes: &[Note])
-        ensures { (s : StoreValue) → self.new ≡ record self.old {
-          enabled = noted side place (earlier_at side at (state_in s self.old)) notes.now self.old.enabled;
-        } }
+        ensures { (s : StoreValue) → self.new ≡ noted_on s side place at notes.now self.old }
     {
         let Some((first, rest)) = notes.split_first() else {
             return;
         };
-        match *first {
-            Note::Enable(way) => self.enabled.enable_found(queue_named(side, way, place)),
-            Note::Room(way) => self.let_go(side, way, at, true),
-        }
+        self.note_one(side, place, at, *first);
         self.note_each(side, place, at, rest);
     }
 
     /// Does what a put says of the queues of a place of a side's stream, which mostly is nothing.
     #[inline(always)]
     pub(crate) fn note(&mut self, side: Side, place: Option<Place>, at: usize, notes: &[Note])
-        ensures { (s : StoreValue) → self.new ≡ record self.old {
-          enabled = noted side place (earlier_at side at (state_in s self.old)) notes.now self.old.enabled;
-        } }
+        ensures { (s : StoreValue) → self.new ≡ noted_on s side place at notes.now self.old }
     {
-        if !notes.is_empty() {
-            self.note_each(side, place, at, notes);
+        let Some((first, rest)) = notes.split_first() else {
+            return;
+        };
+        self.note_one(side, place, at, *first);
+        if !rest.is_empty() {
+            self.note_each(side, place, at, rest);
         }
     }
 }
