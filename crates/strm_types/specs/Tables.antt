@@ -44,11 +44,17 @@ pckt_does Up FlushRW = packs_flush
 pckt_does Up FlushMixed = packs_flush
 pckt_does way shape = passes_on way shape
 
+-- A module of a user's own: an M_IOCTL on its way down is changed into its answer, M_IOCACK or M_IOCNAK, or goes on. No put takes a block.
+abbrev pub own_does : Table
+own_does Down Asking = record { own = 0; makes = 0; emits = (Up, Acking) ∷ (Up, Passing) ∷ (Down, Asking) ∷ [] }
+own_does way shape = passes_on way shape
+
 -- a module of a name
 abbrev pub name_does : ModuleName → Table
 name_does names.Ldterm = ldterm_does
 name_does names.Ptem = ptem_does
 name_does names.Pckt = pckt_does
+name_does (names.Own n) = own_does
 
 -- a head: an M_FLUSH with FLUSHW goes down again without FLUSHR, and an M_IOCTL is answered
 abbrev pub head_does : Shape → Does
