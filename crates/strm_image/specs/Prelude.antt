@@ -2,8 +2,10 @@
 pub use Rattle.strm_laws.specs.Bases.{IsBase}
 pub use Rattle.strm_laws.specs.LdtermTurns.{ldterm_rests}
 pub use Rattle.strm_laws.specs.Ledgers.{FewBooked, inline, queued}
-pub use Rattle.strm_laws.specs.Restorable.{AreMarks, GoodMessage, GoodModule, GoodModules, GoodQueue, GoodStream, IsShut, IsThere, IsWhole, StandsOn}
-pub use Rattle.strm_laws.specs.Restorable.{goes_out, has_header, is_part_kind, is_there_among, stands_below}
+pub use Rattle.strm_laws.specs.GoodMessages.{GoodMessage}
+pub use Rattle.strm_laws.specs.Restorable.{AreMarks, GoodModule, GoodModules, GoodQueue, GoodStream, IsShut, IsThere, IsWhole, StandsOn}
+pub use Rattle.strm_laws.specs.GoodMessages.{has_header, is_part_kind}
+pub use Rattle.strm_laws.specs.Restorable.{goes_out, is_there_among, stands_below}
 pub use Rattle.strm_laws.specs.StackCosts.{EachOnce, stands_of, times_there}
 pub use Rattle.strm_laws.specs.Stacked.{IsAtRest, Module, OfLdterm, OfPckt, OfPtem, Standing, ldterm_stands, module_line, module_name, module_queues}
 pub use Rattle.strm_laws.specs.Stacked.{queues_of_modules}

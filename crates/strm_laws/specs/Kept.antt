@@ -6,6 +6,7 @@ use Rattle.strm_laws.specs.Prelude.{Place, Driver, Dir, Side, Master, Slave, Up,
 use Rattle.strm_laws.specs.Prelude.{direction_from, is_open, weight, Fate, tallied, Fates, PlainEntry}
 use Rattle.strm_types.specs.declared.names.Place.TheVariants.{Head}
 use Rattle.strm_types.specs.declared.names.Place.TheVariants as places
+use Rattle.strm_laws.specs.Behaviours.{Behaviour}
 use Rattle.strm_laws.specs.LdtermWeights.{IgnoresMapping}
 use Rattle.strm_laws.specs.Stacked.{IsAtRest, modules_weight}
 use Rattle.strm_laws.specs.State.{State, Stream, stream}
@@ -43,22 +44,22 @@ module _ {C : Type 0} where
   AreIdle s = AllSides (λ side t. AllByRecursion (λ p. IsAtRest p) t.modules) s.ends
 
   -- the cells that an entry brings: what a write takes, and what a putmsg sends
-  abbrev pub came : Cells C → State C → PlainEntry → List C
-  came cells s (Called caller asked answer) = (called cells caller asked s).came
-  came cells s (Turned name turn) = []
+  abbrev pub came : Behaviour → Cells C → State C → PlainEntry → List C
+  came K cells s (Called caller asked answer) = (called K cells caller asked s).came
+  came K cells s (Turned name turn) = []
 
   -- how many of them pass the test of their direction
-  abbrev pub count_came : Cells C → (Dir → C → Bool) → State C → PlainEntry → ℕ
-  count_came cells p s (Called caller asked answer) = count_by (p (direction_from caller.side)) (came cells s (Called caller asked answer))
-  count_came cells p s (Turned name turn) = 0
+  abbrev pub count_came : Behaviour → Cells C → (Dir → C → Bool) → State C → PlainEntry → ℕ
+  count_came K cells p s (Called caller asked answer) = count_by (p (direction_from caller.side)) (came K cells s (Called caller asked answer))
+  count_came K cells p s (Turned name turn) = 0
 
   -- what an entry takes away, by its rules: what a read or a get gives, what a flush or a close takes, and what goes on its way;
   -- and what is made on the way
-  abbrev pub gone : Cells C → State C → PlainEntry → List (Fate C)
-  gone cells s (Called caller asked answer) = (called cells caller asked s).gone
-  gone cells s (Turned name turn) = (turned cells name turn s).gone
+  abbrev pub gone : Behaviour → Cells C → State C → PlainEntry → List (Fate C)
+  gone K cells s (Called caller asked answer) = (called K cells caller asked s).gone
+  gone K cells s (Turned name turn) = (turned K cells name turn s).gone
 
   -- what entries let go, one after the other, told by its rules, and what they make
-  abbrev pub told_by : Cells C → State C → List PlainEntry → Fates → Fates
-  told_by cells s [] fates = fates
-  told_by cells s (entry ∷ entries) fates = told_by cells (after cells s entry) entries (tallied (gone cells s entry) fates)
+  abbrev pub told_by : Behaviour → Cells C → State C → List PlainEntry → Fates → Fates
+  told_by K cells s [] fates = fates
+  told_by K cells s (entry ∷ entries) fates = told_by K cells (after K cells s entry) entries (tallied (gone K cells s entry) fates)

@@ -59,7 +59,8 @@ pub use Rattle.strm_laws.specs.Pushes.{top_on, top_taken, with_modules}
 pub use Rattle.strm_laws.specs.Puts.{across_of, delivered, earlier_at, module_acted, noted, passed_up, put_at_driver, put_at_head, put_at_module}
 pub use Rattle.strm_laws.specs.Puts.{put_behind, put_below, put_in}
 pub use Rattle.strm_laws.specs.Refusals.{Free, blocks_asked, enough, has_room, in_range, refused_at_once, refused_by_state, stop_of, unfit}
-pub use Rattle.strm_laws.specs.Restorable.{AreWithinEntries, GoodStream, Restorable, is_part_kind}
+pub use Rattle.strm_laws.specs.GoodMessages.{is_part_kind}
+pub use Rattle.strm_laws.specs.Restorable.{AreWithinEntries, GoodStream, Restorable}
 pub use Rattle.strm_laws.specs.SideCosts.{costs}
 pub use Rattle.strm_laws.specs.Spares.{spare, spare_behind}
 pub use Rattle.strm_laws.specs.StackCosts.{EachOnce, module_takes, stands_of}
