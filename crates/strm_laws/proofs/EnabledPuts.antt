@@ -201,7 +201,7 @@ module _ {C : Type 0} (all : Stands) where
       stream-enabled here.side (queue_ended here took t) s (queue-names here.way (turn_ended took) (here.at - 1) t.modules) is
 
   module _ (K : Behaviour) (cells : Cells C) (here : Spot) where
-    calls-enabled : (n : ℕ) (again : Bool) (left : ℕ) (s : State C) → Enabled s → Enabled (calls cells here K n again left s).state
+    calls-enabled : (n : ℕ) (again : Bool) (left : ℕ) (s : State C) → Enabled s → Enabled (calls K cells here n again left s).state
     calls-enabled zero again left s is = is
     calls-enabled (suc more) again left s is =
         let ps = (stream here.side s).modules in
@@ -213,9 +213,9 @@ module _ {C : Type 0} (all : Stands) where
         calls-either Enabled (again_at cells here made again left ps) _ _ (calls-enabled more true (left - bytes_at cells here made again left ps) u.state sent) sent
 
     module _ (name : QueueName) (there : IsThere all name) where
-      moved-enabled : (bytes : ℕ) (s : State C) → Enabled s → Enabled (moved_on cells here K name bytes s).state
+      moved-enabled : (bytes : ℕ) (s : State C) → Enabled s → Enabled (moved_on K cells here name bytes s).state
       moved-enabled bytes s is =
-          let t = calls cells here K (3 * bytes + 1) false bytes s in
+          let t = calls K cells here (3 * bytes + 1) false bytes s in
           let behind = calls-enabled (3 * bytes + 1) false bytes s is in
           let took = not (t.bytes == 0) in
           let on = stream here.side t.state in
@@ -226,16 +226,16 @@ module _ {C : Type 0} (all : Stands) where
           )
           is
 
-      asked-enabled : (asks : Asks) (turn : Turn) (s : State C) → Enabled s → Enabled (asked_turn cells here K asks name turn s).state
+      asked-enabled : (asks : Asks) (turn : Turn) (s : State C) → Enabled s → Enabled (asked_turn K cells here asks name turn s).state
       asked-enabled asked.Empty turn s is = ended-enabled here false s is
       asked-enabled asked.Held turn s is = ended-enabled here false s is
       asked-enabled asked.Free turn s is = moved-enabled _ s is
       asked-enabled (asked.Room band) turn s is =
           let waiting = writer_waits here.side here.way here.at band.0 s in
-          outcome-holds Enabled (has_room_past here.side here.way here.at band.0 s) (moved_within cells here K name turn s) (waits_there band.0 here s) (moved-enabled _ s is)
+          outcome-holds Enabled (has_room_past here.side here.way here.at band.0 s) (moved_within K cells here name turn s) (waits_there band.0 here s) (moved-enabled _ s is)
           (ended-enabled here false waiting (waits-enabled here.side here.way here.at band.0 s is))
 
-      there-enabled : (turn : Turn) (s : State C) → Enabled s → Enabled (turned_there cells here K name turn s).state
+      there-enabled : (turn : Turn) (s : State C) → Enabled s → Enabled (turned_there K cells here name turn s).state
       there-enabled turn s is =
           let ps = (stream here.side s).modules in
           outcome-holds Enabled (at_place module_rests false here.at ps) _ _ (asked-enabled (at_place (module_asks here.way) asked.Empty here.at ps) turn s is) is

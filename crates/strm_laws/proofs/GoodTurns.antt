@@ -102,7 +102,7 @@ module _ {C : Type 0} (cells : Cells C) where
         let took = acted-good cells here acted s (serve-names cells here made again (Some left) i ps) good all in
         sent-good GoodMessage AreStreams K cells (stream-parts cells K) t.sent t.state took.sent took.state
 
-    calls-good : (n : ℕ) (again : Bool) (left : ℕ) (s : State C) → AreStreams s → AreStreams (calls cells here K n again left s).state
+    calls-good : (n : ℕ) (again : Bool) (left : ℕ) (s : State C) → AreStreams s → AreStreams (calls K cells here n again left s).state
     calls-good zero again left s all = all
     calls-good (suc more) again left s all =
         let ps = (stream here.side s).modules in
@@ -112,21 +112,21 @@ module _ {C : Type 0} (cells : Cells C) where
         let sent = call-good again left s all in
         calls-either AreStreams (again_at cells here made again left ps) _ _ (calls-good more true (left - bytes_at cells here made again left ps) u.state sent) sent
 
-    moved-good : (name : QueueName) (bytes : ℕ) (s : State C) → AreStreams s → AreStreams (moved_on cells here K name bytes s).state
+    moved-good : (name : QueueName) (bytes : ℕ) (s : State C) → AreStreams s → AreStreams (moved_on K cells here name bytes s).state
     moved-good name bytes s all =
-        let t = calls cells here K (3 * bytes + 1) false bytes s in
+        let t = calls K cells here (3 * bytes + 1) false bytes s in
         outcome-holds AreStreams t.ended _ _ (ended-streams here (not (t.bytes == 0)) t.state (calls-good (3 * bytes + 1) false bytes s all)) all
 
-    asked-good : (asks : Asks) (name : QueueName) (turn : Turn) (s : State C) → AreStreams s → AreStreams (asked_turn cells here K asks name turn s).state
+    asked-good : (asks : Asks) (name : QueueName) (turn : Turn) (s : State C) → AreStreams s → AreStreams (asked_turn K cells here asks name turn s).state
     asked-good asked.Empty name turn s all = ended-streams here false s all
     asked-good asked.Held name turn s all = ended-streams here false s all
     asked-good asked.Free name turn s all = moved-good name _ s all
     asked-good (asked.Room band) name turn s all =
         let waiting = writer_waits here.side here.way here.at band.0 s in
-        outcome-holds AreStreams (has_room_past here.side here.way here.at band.0 s) (moved_within cells here K name turn s) (writers_wait band.0 here s) (moved-good name _ s all)
+        outcome-holds AreStreams (has_room_past here.side here.way here.at band.0 s) (moved_within K cells here name turn s) (writers_wait band.0 here s) (moved-good name _ s all)
         (ended-streams here false waiting (waits-good here.side here.way here.at band.0 s all))
 
-    there-good : (name : QueueName) (turn : Turn) (s : State C) → AreStreams s → AreStreams (turned_there cells here K name turn s).state
+    there-good : (name : QueueName) (turn : Turn) (s : State C) → AreStreams s → AreStreams (turned_there K cells here name turn s).state
     there-good name turn s all =
         let ps = (stream here.side s).modules in
         outcome-holds AreStreams (at_place module_rests false here.at ps) _ _ (asked-good (at_place (module_asks here.way) asked.Empty here.at ps) name turn s all) all

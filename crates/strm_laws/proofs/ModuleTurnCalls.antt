@@ -91,23 +91,23 @@ module _ (here : Spot) where
 
   module _ (K : Behaviour) (again : Bool) (stop : Option ℕ) where
     -- the module behind it
-    pub led-under-way : (s : State ℕ) → map under_way (stream here.side (led here again stop K s).state).modules ≡ map under_way (called here again stop (stream here.side s).modules).state
+    pub led-under-way : (s : State ℕ) → map under_way (stream here.side (led K here again stop s).state).modules ≡ map under_way (called here again stop (stream here.side s).modules).state
     led-under-way s =
         let t = module_acted here (called here again stop (stream here.side s).modules) s in
         sent-stays K t.sent t.state here.side ∙ ap (λ ps. map under_way ps) (acted-modules (called here again stop (stream here.side s).modules) s)
 
-    pub led-length : (s : State ℕ) → length (stream here.side (led here again stop K s).state).modules ≡ length (stream here.side s).modules
+    pub led-length : (s : State ℕ) → length (stream here.side (led K here again stop s).state).modules ≡ length (stream here.side s).modules
     led-length s =
         let ps = (stream here.side s).modules in
         let same = ap length (led-under-way s) in
-        let before = length-map (stream here.side (led here again stop K s).state).modules under_way in
+        let before = length-map (stream here.side (led K here again stop s).state).modules under_way in
         let behind = length-map (called here again stop ps).state under_way in
         sym before ∙ same ∙ behind ∙ act-length (λ p. (module_serves plain here 0 again stop p).acted) (here.at - 1) ps
 
-    pub led-at : (s : State ℕ) → here.at - 1 < length (stream here.side s).modules → under_way (module_at here (led here again stop K s).state) ≡ under_way (module_serves plain here 0 again stop (module_at here s)).acted.state
+    pub led-at : (s : State ℕ) → here.at - 1 < length (stream here.side s).modules → under_way (module_at here (led K here again stop s).state) ≡ under_way (module_serves plain here 0 again stop (module_at here s)).acted.state
     led-at s low =
         let ps = (stream here.side s).modules in
-        let qs = (stream here.side (led here again stop K s).state).modules in
+        let qs = (stream here.side (led K here again stop s).state).modules in
         let i = here.at - 1 in
         let acts : Standing ℕ → Acted ℕ (Standing ℕ) = λ p. (module_serves plain here 0 again stop p).acted in
         let none = under_way none_there in
@@ -127,7 +127,7 @@ module _ (here : Spot) where
   next_of K more left t bytes again s =
       let w = module_acted here t s in
       let u = in_turn (carried (put_in K plain) HOPS) w.sent w.state in
-      let v = calls plain here K more true (left - bytes) u.state in
+      let v = calls K plain here more true (left - bytes) u.state in
       cond {A = Calls ℕ} again (record { state = v.state; gone = w.gone ++ u.gone ++ v.gone; bytes = bytes + v.bytes; ended = v.ended }) (record { state = u.state; gone = w.gone ++ u.gone; bytes = bytes; ended = true })
 
   next-same : (K : Behaviour) (more left : ℕ) (s : State ℕ) (t t' : Acted ℕ (List (Standing ℕ))) (b b' : ℕ) (g g' : Bool) → t ≡ t' → b ≡ b' → g ≡ g' → next_of K more left t b g s ≡ next_of K more left t' b' g' s
@@ -136,7 +136,7 @@ module _ (here : Spot) where
   -- a call within a limit is as one without it, where the module does alike
   call-same : (K : Behaviour) (more left : ℕ) (again : Bool) (stop : Option ℕ) (s : State ℕ) → here.at - 1 < length (stream here.side s).modules
       → ((made : ℕ) → module_serves plain here made again (Some left) (module_at here s) ≡ module_serves plain here 0 again stop (module_at here s))
-      → let ps = (stream here.side s).modules in calls plain here K (suc more) again left s ≡ next_of K more left (called here again stop ps) (treated here again stop ps) (asks_on here again stop ps) s
+      → let ps = (stream here.side s).modules in calls K plain here (suc more) again left s ≡ next_of K more left (called here again stop ps) (treated here again stop ps) (asks_on here again stop ps) s
   call-same K more left again stop s low alike =
       let ps = (stream here.side s).modules in
       let i = here.at - 1 in
@@ -157,7 +157,7 @@ module _ (here : Spot) where
       pub begins : Begins here.way again (discipline_of (module_at here s))
       pub few : made ≤ 3 * bytes + stages_done (discipline_of (module_at here s)).stage
       pub within : bytes + bytes_left here.way again (discipline_of (module_at here s)) ≤ bytes_left here.way false (discipline_of (module_at here s0))
-      pub goes : (left more : ℕ) → stages_done (discipline_of (module_at here s)).stage ≤ 3 * left → calls plain here K (made + more) false (bytes + left) s0 ≡ behind gone bytes (calls plain here K more again left s)
+      pub goes : (left more : ℕ) → stages_done (discipline_of (module_at here s)).stage ≤ 3 * left → calls K plain here (made + more) false (bytes + left) s0 ≡ behind gone bytes (calls K plain here more again left s)
 
     none-behind : (v : Calls ℕ) → behind [] 0 v ≡ v
     none-behind v = ap (λ (n : ℕ). record { state = v.state; gone = v.gone; bytes = n; ended = v.ended }) (let e : 0 + v.bytes ≡ v.bytes = omega arith in e)
@@ -170,9 +170,9 @@ module _ (here : Spot) where
       few = omega arith;
       within = omega arith;
       goes = λ left more fits.
-          ap (λ n. calls plain here K n false (0 + left) s0) (let e : 0 + more ≡ more = omega arith in e)
-          ∙ ap (λ n. calls plain here K more false n s0) (let e : 0 + left ≡ left = omega arith in e)
-          ∙ sym (none-behind (calls plain here K more false left s0));
+          ap (λ n. calls K plain here n false (0 + left) s0) (let e : 0 + more ≡ more = omega arith in e)
+          ∙ ap (λ n. calls K plain here more false n s0) (let e : 0 + left ≡ left = omega arith in e)
+          ∙ sym (none-behind (calls K plain here more false left s0));
     }
 
     both-behind : (gone first second : List (Fate ℕ)) (bytes more : ℕ) (v : Calls ℕ)
@@ -184,7 +184,7 @@ module _ (here : Spot) where
 
     -- one more call, which asks for another one
     pub reached-next : (K : Behaviour) (again : Bool) (bytes : ℕ) (gone : List (Fate ℕ)) (s : State ℕ) → Reached K again bytes gone s → let ps = (stream here.side s).modules in
-        asks_on here again None ps ≡ true → Reached K true (bytes + treated here again None ps) (gone ++ (led here again None K s).gone) (led here again None K s).state
+        asks_on here again None ps ≡ true → Reached K true (bytes + treated here again None ps) (gone ++ (led K here again None s).gone) (led K here again None s).state
     reached-next K again bytes gone s r asks =
         record {
           made = suc r.made;
@@ -205,7 +205,7 @@ module _ (here : Spot) where
         t = module_serves plain here 0 again None l
 
         q : Standing ℕ
-        q = module_at here (led here again None K s).state
+        q = module_at here (led K here again None s).state
 
         b : ℕ
         b = treated here again None ps
@@ -228,18 +228,18 @@ module _ (here : Spot) where
         left_is : bytes_left here.way true (discipline_of q) ≡ to_treat (discipline_of t.acted.state)
         left_is = ap (λ w. bytes_left w true (discipline_of q)) g.up ∙ ap (λ (x : UnderWay). to_treat (record (discipline_of q) { stage = x.stage; in_work = x.in_work })) at
 
-        goes : (left more : ℕ) → stages_done (discipline_of q).stage ≤ 3 * left → calls plain here K (suc r.made + more) false (bytes + b + left) s0 ≡ behind (gone ++ (led here again None K s).gone) (bytes + b) (calls plain here K more true left (led here again None K s).state)
+        goes : (left more : ℕ) → stages_done (discipline_of q).stage ≤ 3 * left → calls K plain here (suc r.made + more) false (bytes + b + left) s0 ≡ behind (gone ++ (led K here again None s).gone) (bytes + b) (calls K plain here more true left (led K here again None s).state)
         goes left more fits =
             let w = module_acted here (called here again None ps) s in
             let u = in_turn (carried (put_in K plain) HOPS) w.sent w.state in
-            let v = calls plain here K more true left u.state in
-            ap (λ n. calls plain here K n false (bytes + b + left) s0) (let e : suc r.made + more ≡ r.made + suc more = omega arith in e)
-            ∙ ap (λ n. calls plain here K (r.made + suc more) false n s0) (let e : bytes + b + left ≡ bytes + (b + left) = omega arith in e)
+            let v = calls K plain here more true left u.state in
+            ap (λ n. calls K plain here n false (bytes + b + left) s0) (let e : suc r.made + more ≡ r.made + suc more = omega arith in e)
+            ∙ ap (λ n. calls K plain here (r.made + suc more) false n s0) (let e : bytes + b + left ≡ bytes + (b + left) = omega arith in e)
             ∙ r.goes (b + left) (suc more) (omega (arith, g.done, bytes_is, done, fits))
             ∙ ap (behind gone bytes) (call-same K more (b + left) again None s r.inside
             (λ made. (plainly l).alike here again works (b + left) made (omega (arith, bytes_is, done, fits))))
             ∙ ap (λ x. behind gone bytes (next_of K more (b + left) (called here again None ps) b x s)) asks
-            ∙ ap (λ n. let v = calls plain here K more true n u.state in behind gone bytes (record { state = v.state; gone = w.gone ++ u.gone ++ v.gone; bytes = b + v.bytes; ended = v.ended })) (let e : b + left - b ≡ left = omega arith in e)
+            ∙ ap (λ n. let v = calls K plain here more true n u.state in behind gone bytes (record { state = v.state; gone = w.gone ++ u.gone ++ v.gone; bytes = b + v.bytes; ended = v.ended })) (let e : b + left - b ≡ left = omega arith in e)
             ∙ both-behind gone w.gone u.gone bytes b v
 
     -- the last call
@@ -249,7 +249,7 @@ module _ (here : Spot) where
       all stop = bytes + treated here again stop (stream here.side s).modules
 
       abbrev ended : Option ℕ → TurnOutcome ℕ
-      ended stop = record { turn = Moved (all stop); state = module_turn_ended name here (not (all stop == 0)) (led here again stop K s).state; gone = gone ++ (led here again stop K s).gone }
+      ended stop = record { turn = Moved (all stop); state = module_turn_ended name here (not (all stop == 0)) (led K here again stop s).state; gone = gone ++ (led K here again stop s).gone }
 
       -- it is the same within what it treated
       abbrev IsLast : Option ℕ → Type 0
@@ -272,7 +272,7 @@ module _ (here : Spot) where
             λ made. ap (λ b. module_serves plain here made again (Some b) l) (sym is.0) ∙ (plainly l).call_same here again (Some n) made,
           )
 
-      last-moves : (stop : Option ℕ) → asks_on here again stop (stream here.side s).modules ≡ false → IsLast stop → moved_on plain here K name (all stop) s0 ≡ ended stop
+      last-moves : (stop : Option ℕ) → asks_on here again stop (stream here.side s).modules ≡ false → IsLast stop → moved_on K plain here name (all stop) s0 ≡ ended stop
       last-moves stop over is =
           let ps = (stream here.side s).modules in
           let b = treated here again stop ps in
@@ -280,14 +280,14 @@ module _ (here : Spot) where
           let w = module_acted here (called here again stop ps) s in
           let u = in_turn (carried (put_in K plain) HOPS) w.sent w.state in
           ap (λ (t : Calls ℕ). cond {A = TurnOutcome ℕ} t.ended (record { turn = Moved t.bytes; state = module_turn_ended name here (not (t.bytes == 0)) t.state; gone = t.gone }) (stayed_put Blocked s0))
-          (ap (λ n. calls plain here K n false (bytes + b) s0) (let few = r.few in let done = is.0.done in let e : 3 * (bytes + b) + 1 ≡ r.made + suc more = omega (arith, few, done) in e)
+          (ap (λ n. calls K plain here n false (bytes + b) s0) (let few = r.few in let done = is.0.done in let e : 3 * (bytes + b) + 1 ≡ r.made + suc more = omega (arith, few, done) in e)
           ∙ r.goes b (suc more) is.0.done
           ∙ ap (behind gone bytes) (call-same K more b again stop s r.inside is.1)
           ∙ ap (λ x. behind gone bytes (next_of K more b (called here again stop ps) b x s)) over)
 
       -- The turn went so far, and led to that.
       pub reached-last : (stop : Option ℕ) → asks_on here again stop (stream here.side s).modules ≡ false → Stopped here again s stop
-          → (all stop ≤ bytes_left here.way false (discipline_of (module_at here s0))) × (moved_on plain here K name (all stop) s0 ≡ ended stop)
+          → (all stop ≤ bytes_left here.way false (discipline_of (module_at here s0))) × (moved_on K plain here name (all stop) s0 ≡ ended stop)
       reached-last stop over stopped =
           let is = last-is stop over stopped in
           (let treat = is.0.treat in omega (arith, r.within, treat), last-moves stop over is)
@@ -309,8 +309,8 @@ module _ (here : Spot) where
 
   -- and no further than to the end of the first message, of which a byte was treated where it has one
   pub moves-within : (K : Behaviour) (name : QueueName) (bytes : ℕ) (s : State ℕ) → here.at - 1 < length (stream here.side s).modules → bytes ≤ bytes_left here.way false (discipline_of (module_at here s))
-      → (bytes ≡ 0 → bytes_left here.way false (discipline_of (module_at here s)) ≡ 0) → moved_within plain here K name (Moved bytes) s ≡ moved_on plain here name bytes s
+      → (bytes ≡ 0 → bytes_left here.way false (discipline_of (module_at here s)) ≡ 0) → moved_within K plain here name (Moved bytes) s ≡ moved_on K plain here name bytes s
   moves-within K name bytes s low within some =
       let ps = (stream here.side s).modules in
       let first = first-left s low in
-      ap (λ n. moved_on plain here name n s) (one-at-least bytes (at_place (λ p. first_size (messages_at here.way p)) 0 here.at ps) (omega (arith, first, within)) (λ none. (let e = some none in omega (arith, first, e))))
+      ap (λ n. moved_on K plain here name n s) (one-at-least bytes (at_place (λ p. first_size (messages_at here.way p)) 0 here.at ps) (omega (arith, first, within)) (λ none. (let e = some none in omega (arith, first, e))))

@@ -177,7 +177,7 @@ module _ {C : Type 0} (cells : Cells C) (are : AreCells cells) where
   went_on-same false bytes t u v =
       ap (λ gone. record { state = map_state f u.state; gone = gone; bytes = bytes; ended = true }) (sym (map-join (map_fate f) t.gone u.gone))
 
-  calls-same : (K : Behaviour) (here : Spot) (n : ℕ) (again : Bool) (left : ℕ) (s : State C) → calls plain here K n again left (map_state f s) ≡ map_calls f (calls cells here K n again left s)
+  calls-same : (K : Behaviour) (here : Spot) (n : ℕ) (again : Bool) (left : ℕ) (s : State C) → calls K plain here n again left (map_state f s) ≡ map_calls f (calls K cells here n again left s)
   calls-same K here zero again left s = refl
   calls-same K here (suc more) again left s =
       let ps = (stream here.side s).modules in
@@ -186,48 +186,48 @@ module _ {C : Type 0} (cells : Cells C) (are : AreCells cells) where
       let u = in_turn (carried (put_in K cells) HOPS) t.sent t.state in
       let bytes = bytes_at cells here made again left ps in
       let goes = again_at cells here made again left ps in
-      let next : Bool → ℕ → Took ℕ (State ℕ) → Calls ℕ = λ b n x. (let y = in_turn (carried (put_in K plain) HOPS) x.sent x.state in went_on b n x y (calls plain here K more true (left - n) y.state)) in
+      let next : Bool → ℕ → Took ℕ (State ℕ) → Calls ℕ = λ b n x. (let y = in_turn (carried (put_in K plain) HOPS) x.sent x.state in went_on b n x y (calls K plain here more true (left - n) y.state)) in
       ap (λ (on : Stream ℕ). next (again_at plain here (made_below here.side (map_state f s)) again left on.modules) (bytes_at plain here (made_below here.side (map_state f s)) again left on.modules) (module_called plain here again left (map_state f s))) (stream-forgets f here.side s)
       ∙ ap (λ b. next b (bytes_at plain here made again left (map (map_module f) ps)) (module_called plain here again left (map_state f s)))
       (at_place-same f (λ p. (module_serves cells here made again (Some left) p).again) (λ p. (module_serves plain here made again (Some left) p).again) (again-same here made again left) false here.at ps)
       ∙ ap (λ n. next goes n (module_called plain here again left (map_state f s)))
       (at_place-same f (λ p. (module_serves cells here made again (Some left) p).bytes) (λ p. (module_serves plain here made again (Some left) p).bytes) (bytes-same here made again left) 0 here.at ps)
       ∙ ap (λ x. next goes bytes x) (called-same here again left s)
-      ∙ ap (λ (y : Carried ℕ (State ℕ)). went_on goes bytes (map_took f (map_state f) t) y (calls plain here K more true (left - bytes) y.state)) (sent-same K t)
+      ∙ ap (λ (y : Carried ℕ (State ℕ)). went_on goes bytes (map_took f (map_state f) t) y (calls K plain here more true (left - bytes) y.state)) (sent-same K t)
       ∙ ap (λ v. went_on goes bytes (map_took f (map_state f) t) (map_carried f (map_state f) u) v) (calls-same K here more true (left - bytes) u.state)
-      ∙ went_on-same goes bytes t u (calls cells here K more true (left - bytes) u.state)
+      ∙ went_on-same goes bytes t u (calls K cells here more true (left - bytes) u.state)
 
   -- a turn that treats bytes
   abbrev moved_so : {E : Type 0} → QueueName → Spot → Calls E → State E → TurnOutcome E
   moved_so name here t s =
       cond t.ended (record { turn = Moved t.bytes; state = module_turn_ended name here (not (t.bytes == 0)) t.state; gone = t.gone }) (stayed_put Blocked s)
 
-  moved-same : (K : Behaviour) (here : Spot) (name : QueueName) (bytes : ℕ) (s : State C) → moved_on plain here K name bytes (map_state f s) ≡ map_turn_outcome f (moved_on cells here K name bytes s)
+  moved-same : (K : Behaviour) (here : Spot) (name : QueueName) (bytes : ℕ) (s : State C) → moved_on K plain here name bytes (map_state f s) ≡ map_turn_outcome f (moved_on K cells here name bytes s)
   moved-same K here name bytes s =
-      let t = calls cells here K (3 * bytes + 1) false bytes s in
+      let t = calls K cells here (3 * bytes + 1) false bytes s in
       ap (λ x. moved_so name here x (map_state f s)) (calls-same K here (3 * bytes + 1) false bytes s)
       ∙ either-same f t.ended (record { turn = Moved t.bytes; state = module_turn_ended name here (not (t.bytes == 0)) t.state; gone = t.gone }) (stayed_put Blocked s) _ _
       (ap (λ x. record { turn = Moved t.bytes; state = x; gone = map (map_fate f) t.gone }) (turn_ended-same f name here (not (t.bytes == 0)) t.state)) refl
 
-  within-same : (K : Behaviour) (here : Spot) (name : QueueName) (turn : Turn) (s : State C) → moved_within plain here K name turn (map_state f s) ≡ map_turn_outcome f (moved_within cells here K name turn s)
+  within-same : (K : Behaviour) (here : Spot) (name : QueueName) (turn : Turn) (s : State C) → moved_within K plain here name turn (map_state f s) ≡ map_turn_outcome f (moved_within K cells here name turn s)
   within-same K here name turn s =
       let ps = (stream here.side s).modules in
       let size = at_place (λ p. first_size (messages_at here.way p)) 0 here.at ps in
-      ap (λ (t : Stream ℕ). moved_on plain here K name (min (moved_by turn) (at_place (λ p. first_size (messages_at here.way p)) 0 here.at t.modules)) (map_state f s)) (stream-forgets f here.side s)
-      ∙ ap (λ n. moved_on plain here K name (min (moved_by turn) n) (map_state f s))
+      ap (λ (t : Stream ℕ). moved_on K plain here name (min (moved_by turn) (at_place (λ p. first_size (messages_at here.way p)) 0 here.at t.modules)) (map_state f s)) (stream-forgets f here.side s)
+      ∙ ap (λ n. moved_on K plain here name (min (moved_by turn) n) (map_state f s))
       (at_place-same f (λ p. first_size (messages_at here.way p)) (λ p. first_size (messages_at here.way p)) (size-same f here.way) 0 here.at ps)
       ∙ moved-same K here name (min (moved_by turn) size) s
 
-  asked-turn-same : (K : Behaviour) (here : Spot) (asks : Asks) (name : QueueName) (turn : Turn) (s : State C) → asked_turn plain here K asks name turn (map_state f s) ≡ map_turn_outcome f (asked_turn cells here K asks name turn s)
+  asked-turn-same : (K : Behaviour) (here : Spot) (asks : Asks) (name : QueueName) (turn : Turn) (s : State C) → asked_turn K plain here asks name turn (map_state f s) ≡ map_turn_outcome f (asked_turn K cells here asks name turn s)
   asked-turn-same K here asked.Empty name turn s = stayed-same f Idle here s
   asked-turn-same K here asked.Held name turn s = stayed-same f Blocked here s
   asked-turn-same K here asked.Free name turn s = within-same K here name turn s
   asked-turn-same K here (asked.Room band) name turn s =
       let room = has_room_past here.side here.way here.at band.0 s in
-      ap (λ b. cond b (moved_within plain here K name turn (map_state f s)) (waits_there band.0 here (map_state f s))) (room-forgets f here.side here.way here.at band.0 s)
-      ∙ either-same f room (moved_within cells here K name turn s) (waits_there band.0 here s) _ _ (within-same K here name turn s) (waits-same f band.0 here s)
+      ap (λ b. cond b (moved_within K plain here name turn (map_state f s)) (waits_there band.0 here (map_state f s))) (room-forgets f here.side here.way here.at band.0 s)
+      ∙ either-same f room (moved_within K cells here name turn s) (waits_there band.0 here s) _ _ (within-same K here name turn s) (waits-same f band.0 here s)
 
-  there-same : (K : Behaviour) (here : Spot) (name : QueueName) (turn : Turn) (s : State C) → turned_there plain here K name turn (map_state f s) ≡ map_turn_outcome f (turned_there cells here K name turn s)
+  there-same : (K : Behaviour) (here : Spot) (name : QueueName) (turn : Turn) (s : State C) → turned_there K plain here name turn (map_state f s) ≡ map_turn_outcome f (turned_there K cells here name turn s)
   there-same K here name turn s =
       let ps = (stream here.side s).modules in
       let rests = at_place module_rests false here.at ps in
@@ -238,7 +238,7 @@ module _ {C : Type 0} (cells : Cells C) (are : AreCells cells) where
         at_place-same f module_rests module_rests (λ p. ((lawful p).image f).rests) false here.at ps,
         at_place-same f (module_asks here.way) (module_asks here.way) (λ p. ((lawful p).image f).asks here.way) asked.Empty here.at ps,
       )
-      (either-same f rests (asked_turn cells here K asks name turn s) (stayed_put Blocked s) _ _ (asked-turn-same K here asks name turn s) refl)
+      (either-same f rests (asked_turn K cells here asks name turn s) (stayed_put Blocked s) _ _ (asked-turn-same K here asks name turn s) refl)
 
   turned_named-same : (K : Behaviour) (name : QueueName) (turn : Turn) (s : State C) (at : Option ℕ) → turned_named K plain name turn (map_state f s) at ≡ map_turn_outcome f (turned_named K cells name turn s at)
   turned_named-same K name turn s None = refl

@@ -145,7 +145,7 @@ module _ {C : Type 0} (cells : Cells C) (here : Spot) where
       (one-of-idle (λ l. IsReadyAt false here.way left l) (λ l. (lawful l).ready here.way left) (here.at - 1) (stream here.side s).modules) idle
 
   -- calls, up to the end of the turn
-  calls-rest : (K : Behaviour) (n : ℕ) (again : Bool) (left : ℕ) (s : State C) → InTurn here.side (HasCall again left) s → let v = calls cells here K n again left s in v.ended ≡ true → InTurn here.side AllIdle v.state
+  calls-rest : (K : Behaviour) (n : ℕ) (again : Bool) (left : ℕ) (s : State C) → InTurn here.side (HasCall again left) s → let v = calls K cells here n again left s in v.ended ≡ true → InTurn here.side AllIdle v.state
   calls-rest K zero again left s turn ended = absurd (false≢true ended)
   calls-rest K (suc more) again left s turn ended = at (again_at cells here made again left ps) refl (λ goes. calls-rest K more true (left - bytes_at cells here made again left ps) (called_out K again left s).state goes) ended
     where
@@ -159,10 +159,10 @@ module _ {C : Type 0} (cells : Cells C) (here : Spot) where
       less = left - bytes_at cells here made again left ps
 
       at : (goes : Bool) → again_at cells here made again left ps ≡ goes
-          → (InTurn here.side (HasCall true less) (called_out K again left s).state → let v = calls cells here K more true less (called_out K again left s).state in v.ended ≡ true → InTurn here.side AllIdle v.state)
+          → (InTurn here.side (HasCall true less) (called_out K again left s).state → let v = calls K cells here more true less (called_out K again left s).state in v.ended ≡ true → InTurn here.side AllIdle v.state)
           → (let t = module_called cells here again left s in
           let u = called_out K again left s in
-          let v = calls cells here K more true less u.state in
+          let v = calls K cells here more true less u.state in
           let bytes = bytes_at cells here made again left ps in
           let w : Calls C = cond goes (record { state = v.state; gone = t.gone ++ u.gone ++ v.gone; bytes = bytes + v.bytes; ended = v.ended }) (record { state = u.state; gone = t.gone ++ u.gone; bytes = bytes; ended = true }) in
           w.ended ≡ true → InTurn here.side AllIdle w.state)
@@ -172,30 +172,30 @@ module _ {C : Type 0} (cells : Cells C) (here : Spot) where
   abbrev Rests : TurnOutcome C → Type 0
   Rests t = AreIdle t.state
 
-  moved-rests : (K : Behaviour) (name : QueueName) (bytes : ℕ) (s : State C) → AreIdle s → Rests (moved_on cells here K name bytes s)
+  moved-rests : (K : Behaviour) (name : QueueName) (bytes : ℕ) (s : State C) → AreIdle s → Rests (moved_on K cells here name bytes s)
   moved-rests K name bytes s idle = at t.ended (λ ended. idle-of-turn here.side t.state (calls-rest K (3 * bytes + 1) false bytes s (begun bytes s idle) ended))
     where
       t : Calls C
-      t = calls cells here K (3 * bytes + 1) false bytes s
+      t = calls K cells here (3 * bytes + 1) false bytes s
 
       at : (ended : Bool) → (ended ≡ true → AreIdle t.state) → Rests (cond ended (record { turn = Moved t.bytes; state = module_turn_ended name here (not (t.bytes == 0)) t.state; gone = t.gone }) (stayed_put Blocked s))
       at true behind = ended-idle here (not (t.bytes == 0)) t.state (behind refl)
       at false behind = idle
 
-  asked-rests : (K : Behaviour) (asks : Asks) (name : QueueName) (turn : Turn) (s : State C) → AreIdle s → Rests (asked_turn cells here K asks name turn s)
+  asked-rests : (K : Behaviour) (asks : Asks) (name : QueueName) (turn : Turn) (s : State C) → AreIdle s → Rests (asked_turn K cells here asks name turn s)
   asked-rests K asked.Empty name turn s idle = ended-idle here false s idle
   asked-rests K asked.Held name turn s idle = ended-idle here false s idle
   asked-rests K asked.Free name turn s idle = moved-rests K name _ s idle
   asked-rests K (asked.Room band) name turn s idle =
       let waiting = writer_waits here.side here.way here.at band.0 s in
-      either Rests (has_room_past here.side here.way here.at band.0 s) (moved_within cells here K name turn s) (waits_there band.0 here s) (moved-rests K name _ s idle)
+      either Rests (has_room_past here.side here.way here.at band.0 s) (moved_within K cells here name turn s) (waits_there band.0 here s) (moved-rests K name _ s idle)
       (ended-idle here false waiting (waits-idle here.side here.way here.at band.0 s idle))
 
-  there-rests : (K : Behaviour) (name : QueueName) (turn : Turn) (s : State C) → AreIdle s → Rests (turned_there cells here K name turn s)
+  there-rests : (K : Behaviour) (name : QueueName) (turn : Turn) (s : State C) → AreIdle s → Rests (turned_there K cells here name turn s)
   there-rests K name turn s idle =
       let ps = (stream here.side s).modules in
       let asks = at_place (module_asks here.way) asked.Empty here.at ps in
-      either Rests (at_place module_rests false here.at ps) (asked_turn cells here K asks name turn s) (stayed_put Blocked s) (asked-rests K asks name turn s idle) idle
+      either Rests (at_place module_rests false here.at ps) (asked_turn K cells here asks name turn s) (stayed_put Blocked s) (asked-rests K asks name turn s idle) idle
 
 module _ {C : Type 0} where
   pub module_turned-rests : (K : Behaviour) (cells : Cells C) (name : QueueName) (turn : Turn) (s : State C) → AreIdle s → AreIdle (module_turned K cells name turn s).state
@@ -243,7 +243,7 @@ module _ {C : Type 0} (p : Dir → C → Bool) where
           made-append p t.gone u.gone,
         )
 
-    calls-keep : (K : Behaviour) (n : ℕ) (again : Bool) (left : ℕ) (s : State C) → InTurn here.side (HasCall cells here again left) s → let v = calls cells here K n again left s in
+    calls-keep : (K : Behaviour) (n : ℕ) (again : Bool) (left : ℕ) (s : State C) → InTurn here.side (HasCall cells here again left) s → let v = calls K cells here n again left s in
         state_weight p v.state + weight_gone p v.gone ≡ state_weight p s + weight_made p v.gone
     calls-keep K zero again left s turn = omega arith
     calls-keep K (suc more) again left s turn = at (again_at cells here made again left ps) refl (λ goes. calls-keep K more true (left - bytes_at cells here made again left ps) (called_out cells here K again left s).state goes)
@@ -259,17 +259,17 @@ module _ {C : Type 0} (p : Dir → C → Bool) where
 
         at : (goes : Bool) → again_at cells here made again left ps ≡ goes
             → (let u = called_out cells here K again left s in
-            InTurn here.side (HasCall cells here true less) u.state → let v = calls cells here K more true less u.state in state_weight p v.state + weight_gone p v.gone ≡ state_weight p u.state + weight_made p v.gone)
+            InTurn here.side (HasCall cells here true less) u.state → let v = calls K cells here more true less u.state in state_weight p v.state + weight_gone p v.gone ≡ state_weight p u.state + weight_made p v.gone)
             → (let t = module_called cells here again left s in
             let u = called_out cells here K again left s in
             let bytes = bytes_at cells here made again left ps in
-            let v = calls cells here K more true (left - bytes) u.state in
+            let v = calls K cells here more true (left - bytes) u.state in
             let w : Calls C = cond goes (record { state = v.state; gone = t.gone ++ u.gone ++ v.gone; bytes = bytes + v.bytes; ended = v.ended }) (record { state = u.state; gone = t.gone ++ u.gone; bytes = bytes; ended = true }) in
             state_weight p w.state + weight_gone p w.gone ≡ state_weight p s + weight_made p w.gone)
         at true works behind =
             let t = module_called cells here again left s in
             let u = called_out cells here K again left s in
-            let v = calls cells here K more true less u.state in
+            let v = calls K cells here more true less u.state in
             omega (arith, out-keeps K again left s turn, behind (out-goes cells here again left s turn K works), gone-append p (t.gone ++ u.gone) v.gone, made-append p (t.gone ++ u.gone) v.gone)
         at false over behind = out-keeps K again left s turn
 
@@ -277,26 +277,26 @@ module _ {C : Type 0} (p : Dir → C → Bool) where
     abbrev Keeps : ℕ → TurnOutcome C → Type 0
     Keeps n t = state_weight p t.state + weight_gone p t.gone ≡ n + weight_made p t.gone
 
-    moved-keeps : (K : Behaviour) (name : QueueName) (bytes : ℕ) (s : State C) → AreIdle s → Keeps (state_weight p s) (moved_on cells here K name bytes s)
+    moved-keeps : (K : Behaviour) (name : QueueName) (bytes : ℕ) (s : State C) → AreIdle s → Keeps (state_weight p s) (moved_on K cells here name bytes s)
     moved-keeps K name bytes s idle =
-        let t = calls cells here K (3 * bytes + 1) false bytes s in
+        let t = calls K cells here (3 * bytes + 1) false bytes s in
         let kept = calls-keep K (3 * bytes + 1) false bytes s (begun cells here bytes s idle) in
         either (Keeps (state_weight p s)) t.ended _ (stayed_put Blocked s) (omega (arith, kept, ended-keeps here (not (t.bytes == 0)) t.state)) (omega arith)
 
-    asked-keeps : (K : Behaviour) (asks : Asks) (name : QueueName) (turn : Turn) (s : State C) → AreIdle s → Keeps (state_weight p s) (asked_turn cells here K asks name turn s)
+    asked-keeps : (K : Behaviour) (asks : Asks) (name : QueueName) (turn : Turn) (s : State C) → AreIdle s → Keeps (state_weight p s) (asked_turn K cells here asks name turn s)
     asked-keeps K asked.Empty name turn s idle = omega (arith, ended-keeps here false s)
     asked-keeps K asked.Held name turn s idle = omega (arith, ended-keeps here false s)
     asked-keeps K asked.Free name turn s idle = moved-keeps K name _ s idle
     asked-keeps K (asked.Room band) name turn s idle =
         let waiting = writer_waits here.side here.way here.at band.0 s in
-        either (Keeps (state_weight p s)) (has_room_past here.side here.way here.at band.0 s) (moved_within cells here K name turn s) (waits_there band.0 here s) (moved-keeps K name _ s idle)
+        either (Keeps (state_weight p s)) (has_room_past here.side here.way here.at band.0 s) (moved_within K cells here name turn s) (waits_there band.0 here s) (moved-keeps K name _ s idle)
         (omega (arith, ended-keeps here false waiting, waits-keeps p here.side here.way here.at band.0 s))
 
-    there-keeps : (K : Behaviour) (name : QueueName) (turn : Turn) (s : State C) → AreIdle s → Keeps (state_weight p s) (turned_there cells here K name turn s)
+    there-keeps : (K : Behaviour) (name : QueueName) (turn : Turn) (s : State C) → AreIdle s → Keeps (state_weight p s) (turned_there K cells here name turn s)
     there-keeps K name turn s idle =
         let ps = (stream here.side s).modules in
         let asks = at_place (module_asks here.way) asked.Empty here.at ps in
-        either (Keeps (state_weight p s)) (at_place module_rests false here.at ps) (asked_turn cells here K asks name turn s) (stayed_put Blocked s) (asked-keeps K asks name turn s idle) (omega arith)
+        either (Keeps (state_weight p s)) (at_place module_rests false here.at ps) (asked_turn K cells here asks name turn s) (stayed_put Blocked s) (asked-keeps K asks name turn s idle) (omega arith)
 
   pub module_turned-keeps : (K : Behaviour) (cells : Cells C) → IgnoresMapping cells p → (name : QueueName) (turn : Turn) (s : State C) → AreIdle s → let t = module_turned K cells name turn s in
       state_weight p t.state + weight_gone p t.gone ≡ state_weight p s + weight_made p t.gone

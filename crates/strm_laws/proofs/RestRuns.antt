@@ -163,4 +163,4 @@ next-goes K n old new ran less events bytes range blocks = at (slice_get new.sta
     at (Some name) is =
         let on = first-enabled new.state.enabled name is in
         not-refused (is_enabled name new.state.enabled) (in_range new.state) (enough (turn_blocks name.place) new.free) (has_room new.journal new.limits 0)
-        on range (has-room n old new ran less events bytes (let one = taken-off name new.state.enabled on in omega (arith, one))) (enough-blocks name.place new.free blocks)
+        on range (has-room K n old new ran less events bytes (let one = taken-off name new.state.enabled on in omega (arith, one))) (enough-blocks name.place new.free blocks)

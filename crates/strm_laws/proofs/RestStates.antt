@@ -23,6 +23,7 @@ abbrev pub FitsName : Bool → Bool → ℕ → ℕ → ModuleName → Type 0
 FitsName echoed across post at names.Ldterm = (echoed ≡ true) × (across ≡ false) × (post ≡ at)
 FitsName echoed across post at names.Ptem = Unit {0}
 FitsName echoed across post at names.Pckt = at_or_above echoed post (at - 1) ≡ false
+FitsName echoed across post at (names.Own n) = Unit {0}
 
 abbrev pub FitNames : Bool → Bool → ℕ → ℕ → List ModuleName → Type 0
 FitNames echoed across post at [] = Unit {0}

@@ -295,7 +295,7 @@ module _ {C : Type 0} (all : Stands) where
               by way part down = refl
       down-once made left (suc i) again (q ∷ qs) down = down-once made left i again qs down
 
-      calls-later : (K : Behaviour) (n left : ℕ) (s : State C) → stands_of s ≡ all → AreStreams s → here.way ≡ Up → let v = calls cells here K n true left s in (stands_of v.state ≡ all) × (moves all v.state ≤ moves all s)
+      calls-later : (K : Behaviour) (n left : ℕ) (s : State C) → stands_of s ≡ all → AreStreams s → here.way ≡ Up → let v = calls K cells here n true left s in (stands_of v.state ≡ all) × (moves all v.state ≤ moves all s)
       calls-later K zero left s is good up = (is, omega arith)
       calls-later K (suc more) left s is good up =
           let ps = (stream here.side s).modules in
@@ -307,7 +307,7 @@ module _ {C : Type 0} (all : Stands) where
           (behind.0, omega (arith, behind.1, this)) (on-stands K true left s is, this)
 
       calls-fewer : (K : Behaviour) (n left : ℕ) (s : State C) → 0 < n → stands_of s ≡ all → AreStreams s → At (Ready left) (here.at - 1) (stream here.side s).modules
-          → let v = calls cells here K n false left s in (stands_of v.state ≡ all) × (suc (moves all v.state) ≤ moves all s)
+          → let v = calls K cells here n false left s in (stands_of v.state ≡ all) × (suc (moves all v.state) ≤ moves all s)
       calls-fewer K zero left s goes is good ready = absurd (omega (arith, goes))
       calls-fewer K (suc more) left s goes is good ready = at (again_at cells here (made_below here.side s) false left ps) refl here.way refl (on-first K left s is good ready)
         where
@@ -321,7 +321,7 @@ module _ {C : Type 0} (all : Stands) where
               → (let t = module_called cells here false left s in
               let u = in_turn (carried (put_in K cells) HOPS) t.sent t.state in
               let bytes = bytes_at cells here (made_below here.side s) false left ps in
-              let v = calls cells here K more true (left - bytes) u.state in
+              let v = calls K cells here more true (left - bytes) u.state in
               let w : Calls C = cond again (record { state = v.state; gone = t.gone ++ u.gone ++ v.gone; bytes = bytes + v.bytes; ended = v.ended }) (record { state = u.state; gone = t.gone ++ u.gone; bytes = bytes; ended = true }) in
               (stands_of w.state ≡ all) × (suc (moves all w.state) ≤ moves all s))
           at false is-it way is-way this = (on-stands K false left s is, this)
@@ -331,9 +331,9 @@ module _ {C : Type 0} (all : Stands) where
               (behind.0, omega (arith, behind.1, this))
 
       -- a turn that treats so many bytes of the first message
-      pub moved-leaves-here : (K : Behaviour) (name : QueueName) (bytes : ℕ) (s : State C) → stands_of s ≡ all → AreStreams s → At (Ready bytes) (here.at - 1) (stream here.side s).modules → Leaves (moves all s) s.enabled (moved_on cells here K name bytes s).state
+      pub moved-leaves-here : (K : Behaviour) (name : QueueName) (bytes : ℕ) (s : State C) → stands_of s ≡ all → AreStreams s → At (Ready bytes) (here.at - 1) (stream here.side s).modules → Leaves (moves all s) s.enabled (moved_on K cells here name bytes s).state
       moved-leaves-here K name bytes s is good ready =
-          let t = calls cells here K (3 * bytes + 1) false bytes s in
+          let t = calls K cells here (3 * bytes + 1) false bytes s in
           let behind = calls-fewer K (3 * bytes + 1) bytes s (omega arith) is good ready in
           let took = not (t.bytes == 0) in
           either-leaves (moves all s) s.enabled t.ended _ (stayed_put Blocked s)
@@ -372,11 +372,11 @@ module _ {C : Type 0} (all : Stands) where
       Answers Idle t = t.turn ≡ Idle
 
       within-leaves : (K : Behaviour) (name : QueueName) (turn : Turn) (s : State C) → stands_of s ≡ all → AreStreams s → at_place module_rests false here.at (stream here.side s).modules ≡ true
-          → is_waiting (at_place (module_asks here.way) asked.Empty here.at (stream here.side s).modules) ≡ true → Answers turn (moved_within cells here K name turn s) → Leaves (moves all s) s.enabled (moved_within cells here K name turn s).state
+          → is_waiting (at_place (module_asks here.way) asked.Empty here.at (stream here.side s).modules) ≡ true → Answers turn (moved_within K cells here name turn s) → Leaves (moves all s) s.enabled (moved_within K cells here name turn s).state
       within-leaves K name (Moved bytes) s is good rests waits answers =
           let most = min (max 1 bytes) (first_there s) in
           moved-leaves-here K name most s is good (one-ready most (here.at - 1) (stream here.side s).modules rests waits (goes-far bytes (first_there s)))
-      within-leaves K name Blocked s is good rests waits answers = blocked (calls cells here K (3 * min 0 (first_there s) + 1) false (min 0 (first_there s)) s) answers
+      within-leaves K name Blocked s is good rests waits answers = blocked (calls K cells here (3 * min 0 (first_there s) + 1) false (min 0 (first_there s)) s) answers
         where
           blocked : (t : Calls C) → let u : TurnOutcome C = cond t.ended (record { turn = Moved t.bytes; state = module_turn_ended name here (not (t.bytes == 0)) t.state; gone = t.gone }) (stayed_put Blocked s) in u.turn ≡ Blocked → Leaves (moves all s) s.enabled u.state
           blocked t answers = at t.ended answers
@@ -384,7 +384,7 @@ module _ {C : Type 0} (all : Stands) where
               at : (ended : Bool) → let u : TurnOutcome C = cond ended (record { turn = Moved t.bytes; state = module_turn_ended name here (not (t.bytes == 0)) t.state; gone = t.gone }) (stayed_put Blocked s) in u.turn ≡ Blocked → Leaves (moves all s) s.enabled u.state
               at true answers = absurd (cc)
               at false answers = (is, inr (omega arith, refl))
-      within-leaves K name Idle s is good rests waits answers = never (calls cells here K (3 * min 0 (first_there s) + 1) false (min 0 (first_there s)) s) answers
+      within-leaves K name Idle s is good rests waits answers = never (calls K cells here (3 * min 0 (first_there s) + 1) false (min 0 (first_there s)) s) answers
         where
           never : (t : Calls C) → let u : TurnOutcome C = cond t.ended (record { turn = Moved t.bytes; state = module_turn_ended name here (not (t.bytes == 0)) t.state; gone = t.gone }) (stayed_put Blocked s) in u.turn ≡ Idle → Leaves (moves all s) s.enabled u.state
           never t answers = at t.ended answers
@@ -394,17 +394,17 @@ module _ {C : Type 0} (all : Stands) where
               at false answers = (is, inr (omega arith, refl))
 
       asked-leaves : (K : Behaviour) (asks : Asks) (name : QueueName) (turn : Turn) (s : State C) → stands_of s ≡ all → AreStreams s → at_place module_rests false here.at (stream here.side s).modules ≡ true
-          → at_place (module_asks here.way) asked.Empty here.at (stream here.side s).modules ≡ asks → Answers turn (asked_turn cells here K asks name turn s) → Leaves (moves all s) s.enabled (asked_turn cells here K asks name turn s).state
+          → at_place (module_asks here.way) asked.Empty here.at (stream here.side s).modules ≡ asks → Answers turn (asked_turn K cells here asks name turn s) → Leaves (moves all s) s.enabled (asked_turn K cells here asks name turn s).state
       asked-leaves K asked.Empty name turn s is good rests asks answers = stayed-leaves Idle s is
       asked-leaves K asked.Held name turn s is good rests asks answers = stayed-leaves Blocked s is
       asked-leaves K asked.Free name turn s is good rests asks answers = within-leaves K name turn s is good rests (ap is_waiting asks) answers
       asked-leaves K (asked.Room band) name turn s is good rests asks answers = at (has_room_past here.side here.way here.at band.0 s) answers
         where
-          at : (room : Bool) → Answers turn (cond room (moved_within cells here K name turn s) (waits_there band.0 here s)) → Leaves (moves all s) s.enabled (cond room (moved_within cells here K name turn s) (waits_there band.0 here s)).state
+          at : (room : Bool) → Answers turn (cond room (moved_within K cells here name turn s) (waits_there band.0 here s)) → Leaves (moves all s) s.enabled (cond room (moved_within K cells here name turn s) (waits_there band.0 here s)).state
           at true answers = within-leaves K name turn s is good rests (ap is_waiting asks) answers
           at false answers = waits-leaves band.0 s is
 
-      pub there-leaves : (K : Behaviour) (name : QueueName) (turn : Turn) (s : State C) → stands_of s ≡ all → AreStreams s → Answers turn (turned_there cells here K name turn s) → Leaves (moves all s) s.enabled (turned_there cells here K name turn s).state
+      pub there-leaves : (K : Behaviour) (name : QueueName) (turn : Turn) (s : State C) → stands_of s ≡ all → AreStreams s → Answers turn (turned_there K cells here name turn s) → Leaves (moves all s) s.enabled (turned_there K cells here name turn s).state
       there-leaves K name turn s is good answers = at (at_place module_rests false here.at ps) refl answers
         where
           ps : List (Standing C)
@@ -413,7 +413,7 @@ module _ {C : Type 0} (all : Stands) where
           asks : Asks
           asks = at_place (module_asks here.way) asked.Empty here.at ps
 
-          at : (rests : Bool) → at_place module_rests false here.at ps ≡ rests → Answers turn (cond rests (asked_turn cells here K asks name turn s) (stayed_put Blocked s))
-              → Leaves (moves all s) s.enabled (cond rests (asked_turn cells here K asks name turn s) (stayed_put Blocked s)).state
+          at : (rests : Bool) → at_place module_rests false here.at ps ≡ rests → Answers turn (cond rests (asked_turn K cells here asks name turn s) (stayed_put Blocked s))
+              → Leaves (moves all s) s.enabled (cond rests (asked_turn K cells here asks name turn s) (stayed_put Blocked s)).state
           at true rests answers = asked-leaves K asks name turn s is good rests refl answers
           at false rests answers = (is, inr (omega arith, refl))

@@ -127,6 +127,7 @@ fits-none (names.Ldterm ∷ ns) echoed across post at none free = absurd (cc)
 fits-none (names.Ptem ∷ ns) echoed across post at none free = (tt, fits-none ns echoed across post (suc at) none free)
 fits-none (names.Pckt ∷ ns) echoed across post at none (inl bare) = (ap (λ b. b && nat_le post (at - 1)) bare, fits-none ns echoed across post (suc at) none (inl bare))
 fits-none (names.Pckt ∷ ns) echoed across post at none (inr free) = absurd (cc)
+fits-none (names.Own n ∷ ns) echoed across post at none free = (tt, fits-none ns echoed across post (suc at) none free)
 
 none-counted : (ns : List ModuleName) → count_by is_ldterm ns ≤ 0 → list_any is_ldterm ns ≡ false
 none-counted [] none = refl
@@ -152,6 +153,8 @@ fits-one (names.Ldterm ∷ ns) echoed across at some here there stands one free 
     ((here, there, refl), fits-none ns echoed across at (suc at) (none-counted ns (omega (arith, one, sum_by-cons (λ n. cond (is_ldterm n) 1 0) names.Ldterm ns))) (inr free))
 fits-one (names.Ptem ∷ ns) echoed across at some here there stands one free =
     (tt, fits-one ns echoed across (suc at) (omega arith) here there stands (omega (arith, one, sum_by-cons (λ n. cond (is_ldterm n) 1 0) names.Ptem ns)) free)
+fits-one (names.Own n ∷ ns) echoed across at some here there stands one free =
+    (tt, fits-one ns echoed across (suc at) (omega arith) here there stands (omega (arith, one, sum_by-cons (λ n. cond (is_ldterm n) 1 0) (names.Own n) ns)) free)
 fits-one (names.Pckt ∷ ns) echoed across at some here there stands one free = (
   not-above echoed (ldterm_from (suc at) ns) at some (let behind = ldterm-from ns (suc at) stands in omega (arith, behind)),
   fits-one ns echoed across (suc at) (omega arith) here there stands (omega (arith, one, sum_by-cons (λ n. cond (is_ldterm n) 1 0) names.Pckt ns)) free,
@@ -225,8 +228,8 @@ module _ {C : Type 0} where
             let here : Spot = record { side = name.side; at = at; way = name.way } in
             there-leaves all cells (posts_of all) (fits-once all once) here (named-least (places.Module owner) 1 (places_of (take MODULES (stream name.side s).modules)) at there) K called turn s is good (answers turn answered)
           where
-            answers : (turn : Turn) → (turned_there cells (record { side = name.side; at = at; way = name.way }) K called turn s).turn ≡ turn
-                → Answers all cells (posts_of all) (fits-once all once) (record { side = name.side; at = at; way = name.way }) (named-least (places.Module owner) 1 (places_of (take MODULES (stream name.side s).modules)) at there) turn (turned_there cells (record { side = name.side; at = at; way = name.way }) K called turn s)
+            answers : (turn : Turn) → (turned_there K cells (record { side = name.side; at = at; way = name.way }) called turn s).turn ≡ turn
+                → Answers all cells (posts_of all) (fits-once all once) (record { side = name.side; at = at; way = name.way }) (named-least (places.Module owner) 1 (places_of (take MODULES (stream name.side s).modules)) at there) turn (turned_there K cells (record { side = name.side; at = at; way = name.way }) called turn s)
             answers (Moved bytes) answered = tt
             answers Blocked answered = answered
             answers Idle answered = answered

@@ -67,6 +67,8 @@ held-goes names.Ptem Up = refl
 held-goes names.Ptem Down = refl
 held-goes names.Pckt Up = refl
 held-goes names.Pckt Down = refl
+held-goes (names.Own n) Up = refl
+held-goes (names.Own n) Down = refl
 
 -- What costs nothing where another side costs is of the same side; and so with ways and with shapes.
 side-same : (here there : Side) → cond (same_side there here) 0 1 ≤ cond (same_side here here) 0 1 → there ≡ here

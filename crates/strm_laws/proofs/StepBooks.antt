@@ -39,7 +39,7 @@ module _ {C : Type 0} (cells : Cells C) where
         let made = made_below here.side s in
         acted-books cells here.side here (call_at cells here made again left ps) s (acts-order made again left (here.at - 1) ps)
 
-    calls-books : (K : Behaviour) (n : ℕ) (again : Bool) (left : ℕ) (s : State C) → let v = calls cells here K n again left s in Books s v.gone v.state
+    calls-books : (K : Behaviour) (n : ℕ) (again : Bool) (left : ℕ) (s : State C) → let v = calls K cells here n again left s in Books s v.gone v.state
     calls-books K zero again left s = nothing-booked cells s s refl
     calls-books K (suc more) again left s =
         let ps = (stream here.side s).modules in
@@ -47,7 +47,7 @@ module _ {C : Type 0} (cells : Cells C) where
         let t = module_called cells here again left s in
         let u = in_turn (carried (put_in K cells) HOPS) t.sent t.state in
         let less = left - bytes_at cells here made again left ps in
-        let v = calls cells here K more true less u.state in
+        let v = calls K cells here more true less u.state in
         let out = books-both cells s t.state u.state t.gone u.gone (called-books again left s) (sent-books cells K t.sent t.state) in
         either-calls (again_at cells here made again left ps) _ _ (books-both cells s u.state v.state (t.gone ++ u.gone) v.gone out (calls-books K more true less u.state)) out
       where
@@ -72,27 +72,27 @@ module _ {C : Type 0} (cells : Cells C) where
     pub ended-books : (name : QueueName) (took : Bool) (s : State C) → SameBooks s (module_turn_ended name here took s)
     ended-books name took s = refl
 
-    moved-books : (K : Behaviour) (name : QueueName) (bytes : ℕ) (s : State C) → TurnBooks s (moved_on cells here K name bytes s)
+    moved-books : (K : Behaviour) (name : QueueName) (bytes : ℕ) (s : State C) → TurnBooks s (moved_on K cells here name bytes s)
     moved-books K name bytes s =
-        let t = calls cells here K (3 * bytes + 1) false bytes s in
+        let t = calls K cells here (3 * bytes + 1) false bytes s in
         either-turns s t.ended _ (stayed_put Blocked s)
         (booked-behind cells s t.state (module_turn_ended name here (not (t.bytes == 0)) t.state) t.gone (calls-books K (3 * bytes + 1) false bytes s) (ended-books name (not (t.bytes == 0)) t.state))
         (stays-books Blocked s)
 
-    asked-books : (K : Behaviour) (asks : Asks) (name : QueueName) (turn : Turn) (s : State C) → TurnBooks s (asked_turn cells here K asks name turn s)
+    asked-books : (K : Behaviour) (asks : Asks) (name : QueueName) (turn : Turn) (s : State C) → TurnBooks s (asked_turn K cells here asks name turn s)
     asked-books K asked.Empty name turn s = stayed-books Idle s
     asked-books K asked.Held name turn s = stayed-books Blocked s
     asked-books K asked.Free name turn s = moved-books K name _ s
     asked-books K (asked.Room band) name turn s =
         let waits = writer_waits here.side here.way here.at band.0 s in
-        either-turns s (has_room_past here.side here.way here.at band.0 s) (moved_within cells here K name turn s) (waits_there band.0 here s) (moved-books K name _ s)
+        either-turns s (has_room_past here.side here.way here.at band.0 s) (moved_within K cells here name turn s) (waits_there band.0 here s) (moved-books K name _ s)
         (booked-before cells s waits _ [] (waits-books here.side here.way here.at band.0 s) (stayed-books Blocked waits))
 
-    there-books : (K : Behaviour) (name : QueueName) (turn : Turn) (s : State C) → TurnBooks s (turned_there cells here K name turn s)
+    there-books : (K : Behaviour) (name : QueueName) (turn : Turn) (s : State C) → TurnBooks s (turned_there K cells here name turn s)
     there-books K name turn s =
         let ps = (stream here.side s).modules in
         let asks = at_place (module_asks here.way) asked.Empty here.at ps in
-        either-turns s (at_place module_rests false here.at ps) (asked_turn cells here K asks name turn s) (stayed_put Blocked s) (asked-books K asks name turn s) (stays-books Blocked s)
+        either-turns s (at_place module_rests false here.at ps) (asked_turn K cells here asks name turn s) (stayed_put Blocked s) (asked-books K asks name turn s) (stays-books Blocked s)
 
   pub module-books : (K : Behaviour) (name : QueueName) (turn : Turn) (s : State C) → let t = module_turned K cells name turn s in Books s t.gone t.state
   module-books K name turn s = named (place_named name.place (stream name.side s).modules)

@@ -80,55 +80,56 @@ module _ {C : Type 0} where
     abbrev pub module_called : Bool → ℕ → State C → Took C (State C)
     module_called again left s = module_acted here (call_at (made_below here.side s) again left (stream here.side s).modules) s
 
+  module _ (K : Behaviour) (cells : Cells C) (here : Spot) where
     -- Calls one after the other, so many at most, until the turn's bytes are treated: what each has sent is delivered before the next
     -- one.
-    abbrev pub calls : Behaviour → ℕ → Bool → ℕ → State C → Calls C
-    calls K zero again left s = record { state = s; gone = []; bytes = 0; ended = false }
-    calls K (suc more) again left s =
+    abbrev pub calls : ℕ → Bool → ℕ → State C → Calls C
+    calls zero again left s = record { state = s; gone = []; bytes = 0; ended = false }
+    calls (suc more) again left s =
         let ps = (stream here.side s).modules in
         let made = made_below here.side s in
-        let t = module_called again left s in
+        let t = module_called cells here again left s in
         let u = in_turn (carried (put_in K cells) HOPS) t.sent t.state in
-        let bytes = bytes_at made again left ps in
-        let v = calls K more true (left - bytes) u.state in
-        if again_at made again left ps
+        let bytes = bytes_at cells here made again left ps in
+        let v = calls more true (left - bytes) u.state in
+        if again_at cells here made again left ps
         then record { state = v.state; gone = t.gone ++ u.gone ++ v.gone; bytes = bytes + v.bytes; ended = v.ended }
         else record { state = u.state; gone = t.gone ++ u.gone; bytes = bytes; ended = true }
 
     -- A turn that treats so many bytes. Each call but the last one sends something of a byte, which does so twice at most. Where that
     -- didn't bring the turn to its end, it would be as though nothing was done.
-    abbrev pub moved_on : Behaviour → QueueName → ℕ → State C → TurnOutcome C
-    moved_on K name bytes s =
-        let t = calls K (3 * bytes + 1) false bytes s in
+    abbrev pub moved_on : QueueName → ℕ → State C → TurnOutcome C
+    moved_on name bytes s =
+        let t = calls (3 * bytes + 1) false bytes s in
         if t.ended
         then record { turn = Moved t.bytes; state = module_turn_ended name here (not (t.bytes == 0)) t.state; gone = t.gone }
         else stayed_put Blocked s
 
     -- No further than to the end of the first message. Of one that has bytes at least one is treated, so that no turn is told as one that moved
     -- something and leaves all as it was.
-    abbrev pub moved_within : Behaviour → QueueName → Turn → State C → TurnOutcome C
-    moved_within K name turn s =
-        moved_on K name (min (moved_by turn) (at_place (λ p. first_size (messages_at here.way p)) 0 here.at (stream here.side s).modules)) s
+    abbrev pub moved_within : QueueName → Turn → State C → TurnOutcome C
+    moved_within name turn s =
+        moved_on name (min (moved_by turn) (at_place (λ p. first_size (messages_at here.way p)) 0 here.at (stream here.side s).modules)) s
 
     -- By what the first message asks. No turn begins while another one is under way in the module.
-    abbrev pub asked_turn : Behaviour → Asks → QueueName → Turn → State C → TurnOutcome C
-    asked_turn K asked.Empty name turn s = stayed_at Idle here s
-    asked_turn K asked.Held name turn s = stayed_at Blocked here s
-    asked_turn K asked.Free name turn s = moved_within K name turn s
-    asked_turn K (asked.Room band) name turn s =
-        if has_room_past here.side here.way here.at band.0 s then moved_within K name turn s else waits_there band.0 here s
+    abbrev pub asked_turn : Asks → QueueName → Turn → State C → TurnOutcome C
+    asked_turn asked.Empty name turn s = stayed_at Idle here s
+    asked_turn asked.Held name turn s = stayed_at Blocked here s
+    asked_turn asked.Free name turn s = moved_within name turn s
+    asked_turn (asked.Room band) name turn s =
+        if has_room_past here.side here.way here.at band.0 s then moved_within name turn s else waits_there band.0 here s
 
-    abbrev pub turned_there : Behaviour → QueueName → Turn → State C → TurnOutcome C
-    turned_there K name turn s =
+    abbrev pub turned_there : QueueName → Turn → State C → TurnOutcome C
+    turned_there name turn s =
         let ps = (stream here.side s).modules in
         if at_place module_rests false here.at ps
-        then asked_turn K (at_place (module_asks here.way) asked.Empty here.at ps) name turn s
+        then asked_turn (at_place (module_asks here.way) asked.Empty here.at ps) name turn s
         else stayed_put Blocked s
 
   -- A turn of a module's queue, taken off the enabled list, which is answered so. Without such a module it is idle.
   abbrev pub turned_named : Behaviour → Cells C → QueueName → Turn → State C → Option ℕ → TurnOutcome C
   turned_named K cells name turn s None = stayed_put Idle s
-  turned_named K cells name turn s (Some at) = turned_there cells (record { side = name.side; at = at; way = name.way }) K name turn s
+  turned_named K cells name turn s (Some at) = turned_there K cells (record { side = name.side; at = at; way = name.way }) name turn s
 
   abbrev pub module_turned : Behaviour → Cells C → QueueName → Turn → State C → TurnOutcome C
   module_turned K cells name turn s = turned_named K cells name turn s (place_named name.place (stream name.side s).modules)

@@ -8,6 +8,7 @@ ghost use Rattle.strm_types.specs.declared.names.Side.{Side};
 ghost use Rattle.strm_types.specs.Cells.{Cells};
 ghost use Rattle.strm_laws.specs.Earlier.{NoModules};
 ghost use Rattle.strm_types.specs.Emptied.{of_data};
+ghost use Rattle.strm_laws.specs.Behaviours.{Behaviour};
 ghost use Rattle.strm_laws.specs.FlushEffect.{flush_effect};
 ghost use Rattle.strm_laws.specs.Puts.{flushed_on};
 ghost use Rattle.strm_laws.specs.State.{State};
@@ -18,6 +19,6 @@ ghost use Rattle.strm_laws.specs.State.{State};
 /// With both, FLUSHW comes first. What goes is data (flushq(9F): FLUSHDATA), and with FLUSHBAND that of its band alone
 /// (flushband(9F)).
 pub fn flush_takes_from_heads_and_drivers<C>()
-    ensures { (cells : Cells C) (band : Option Band) (side : Side) (what : FlushQueues) (s : State C) → NoModules s →
-        flushed_on cells band side what s ≡ flush_effect (of_data band) side what s }
+    ensures { (K : Behaviour) (cells : Cells C) (band : Option Band) (side : Side) (what : FlushQueues) (s : State C) → NoModules s →
+        flushed_on K cells band side what s ≡ flush_effect (of_data band) side what s }
 {}

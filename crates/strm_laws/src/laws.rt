@@ -28,6 +28,7 @@ ghost use Rattle.strm_types.specs.Shapes.{At, at_of};
 ghost use Rattle.strm_laws.specs.Places.{PutKeeps, KeepsFrom, weight_gone, weight_made};
 ghost use Rattle.strm_types.specs.Origins.{PutsAgree, CarriesAgree};
 ghost use Rattle.strm_types.specs.Journal.{PlainEntry, content_max, event_len, answer_len, request_in, reply_in, entry_in};
+ghost use Rattle.strm_laws.specs.Behaviours.{Behaviour};
 ghost use Rattle.strm_laws.specs.Step.{Step, replay};
 
 /// putq(9F): in an ordered queue the lane of the message's rank has it at its end, no other lane changes, and the queue
@@ -91,15 +92,15 @@ pub fn entries_read_back()
 /// No answer has more bytes than the journal is asked to have room for, nor more than one buffer of answers takes. What a head
 /// keeps for its caller is bounded, which is so in a new pair and behind each step (`heads_keep_little`).
 pub fn answers_fit<C>()
-    ensures content { (cells : Cells C) (caller : Caller) (asked : Request) (s : State C) →
-        AreWithin s → length (content_of (called cells caller asked s).answer) ≤ content_max asked }
+    ensures content { (K : Behaviour) (cells : Cells C) (caller : Caller) (asked : Request) (s : State C) →
+        AreWithin s → length (content_of (called K cells caller asked s).answer) ≤ content_max asked }
     ensures buffer { (asked : Request) → content_max asked ≤ CONTENT_MAX }
 {}
 
 /// A longer journal goes on from where the shorter one leads.
 pub fn replay_goes_on<C>()
-    ensures { (cells : Cells C) (s : State C) (es fs : List PlainEntry) →
-        replay cells s (es ++ fs) ≡ replay cells (replay cells s es) fs }
+    ensures { (K : Behaviour) (cells : Cells C) (s : State C) (es fs : List PlainEntry) →
+        replay K cells s (es ++ fs) ≡ replay K cells (replay K cells s es) fs }
 {}
 
 /// Forgetting the origins of bytes commutes with putq(9F), putbq(9F) and getq(9F).
@@ -116,12 +117,12 @@ pub fn forgetting_commutes<C, D>()
 /// procedure (STREAMS Programming Guide, "Service Procedures") answer and do the same as on plain bytes, and let the same
 /// bytes go by the same rules on the way; and so do all entries of a journal.
 pub fn steps_forget_origins<C>()
-    ensures call { (cells : Cells C) (caller : Caller) (asked : Request) (s : State C) → AreCells cells →
-        called plain caller asked (map_state cells.byte s) ≡ map_outcome cells.byte (called cells caller asked s) }
-    ensures turn { (cells : Cells C) (name : QueueName) (turn : Turn) (s : State C) → AreCells cells →
-        turned plain name turn (map_state cells.byte s) ≡ map_turn_outcome cells.byte (turned cells name turn s) }
-    ensures replay { (cells : Cells C) (s : State C) (es : List PlainEntry) → AreCells cells →
-        replay plain (map_state cells.byte s) es ≡ map_state cells.byte (replay cells s es) }
+    ensures call { (K : Behaviour) (cells : Cells C) (caller : Caller) (asked : Request) (s : State C) → AreCells cells →
+        called K plain caller asked (map_state cells.byte s) ≡ map_outcome cells.byte (called K cells caller asked s) }
+    ensures turn { (K : Behaviour) (cells : Cells C) (name : QueueName) (turn : Turn) (s : State C) → AreCells cells →
+        turned K plain name turn (map_state cells.byte s) ≡ map_turn_outcome cells.byte (turned K cells name turn s) }
+    ensures replay { (K : Behaviour) (cells : Cells C) (s : State C) (es : List PlainEntry) → AreCells cells →
+        replay K plain (map_state cells.byte s) es ≡ map_state cells.byte (replay K cells s es) }
 {}
 
 /// Nothing is lost, and nothing is made but what is told: whatever test on bytes is chosen, as 'is this very byte', what stands
@@ -132,13 +133,13 @@ pub fn steps_forget_origins<C>()
 /// one, as ldterm's does under ICRNL, so there the test says the same of the two. On a queue a put adds what the message has, and a take takes
 /// it away.
 pub fn bytes_are_kept<C>()
-    ensures step { (cells : Cells C) (p : Dir → C → Bool) (old new : State C) (entry : PlainEntry) → MayTest cells p entry →
-        NothingUnread old → AreIdle old → Step cells old entry new →
-        state_weight p new + weight_gone p (gone cells old entry)
-        ≡ state_weight p old + (count_came cells p old entry + weight_made p (gone cells old entry)) }
-    ensures unread { (cells : Cells C) (old new : State C) (entry : PlainEntry) → NothingUnread old →
-        Step cells old entry new → NothingUnread new }
-    ensures idle { (cells : Cells C) (old new : State C) (entry : PlainEntry) → AreIdle old → Step cells old entry new → AreIdle new }
+    ensures step { (K : Behaviour) (cells : Cells C) (p : Dir → C → Bool) (old new : State C) (entry : PlainEntry) → MayTest cells p entry →
+        NothingUnread old → AreIdle old → Step K cells old entry new →
+        state_weight p new + weight_gone p (gone K cells old entry)
+        ≡ state_weight p old + (count_came K cells p old entry + weight_made p (gone K cells old entry)) }
+    ensures unread { (K : Behaviour) (cells : Cells C) (old new : State C) (entry : PlainEntry) → NothingUnread old →
+        Step K cells old entry new → NothingUnread new }
+    ensures idle { (K : Behaviour) (cells : Cells C) (old new : State C) (entry : PlainEntry) → AreIdle old → Step K cells old entry new → AreIdle new }
     ensures opening { (s : State C) → s ≡ opening → NothingUnread s × AreIdle s }
     ensures put { (p : C → Bool) (m : Message C) (q : List (Message C)) →
         weight p (put m q) ≡ weight_of p m + weight p q }
@@ -150,7 +151,7 @@ pub fn bytes_are_kept<C>()
 
 /// No turn opens or closes a side, unlocks the slave, numbers an ioctl or books a byte as written.
 pub fn turns_leave_the_ends<C>()
-    ensures { (cells : Cells C) (name : QueueName) (turn : Turn) (s : State C) → SameButMade s (turned cells name turn s).state }
+    ensures { (K : Behaviour) (cells : Cells C) (name : QueueName) (turn : Turn) (s : State C) → SameButMade s (turned K cells name turn s).state }
 {}
 
 /// Where no put loses a cell, or makes one that it doesn't tell, and puts send on no more than tables say, no delivery does that has a
