@@ -21,6 +21,7 @@ pub mod EnabledCalls
 pub mod RestorableSteps
 pub mod RestCosts
 pub mod RestPuts
+pub mod RestOwns
 pub mod RestLdterms
 pub mod RestServes
 pub mod RestStates

@@ -28,8 +28,9 @@ ghost use Rattle.strm_types.specs.Shapes.{At, at_of};
 ghost use Rattle.strm_laws.specs.Places.{PutKeeps, KeepsFrom, weight_gone, weight_made};
 ghost use Rattle.strm_types.specs.Origins.{PutsAgree, CarriesAgree};
 ghost use Rattle.strm_types.specs.Journal.{PlainEntry, content_max, event_len, answer_len, request_in, reply_in, entry_in};
-ghost use Rattle.strm_laws.specs.Behaviours.{Behaviour};
 ghost use Rattle.strm_laws.specs.Step.{Step, replay};
+
+use crate::behaviours::Behaves;
 
 /// putq(9F): in an ordered queue the lane of the message's rank has it at its end, no other lane changes, and the queue
 /// stays in order.
@@ -91,16 +92,16 @@ pub fn entries_read_back()
 
 /// No answer has more bytes than the journal is asked to have room for, nor more than one buffer of answers takes. What a head
 /// keeps for its caller is bounded, which is so in a new pair and behind each step (`heads_keep_little`).
-pub fn answers_fit<C>()
-    ensures content { (K : Behaviour) (cells : Cells C) (caller : Caller) (asked : Request) (s : State C) →
-        AreWithin s → length (content_of (called K cells caller asked s).answer) ≤ content_max asked }
+pub fn answers_fit<C, K: Behaves>()
+    ensures content { (cells : Cells C) (caller : Caller) (asked : Request) (s : State C) →
+        AreWithin s → length (content_of (called K.does cells caller asked s).answer) ≤ content_max asked }
     ensures buffer { (asked : Request) → content_max asked ≤ CONTENT_MAX }
 {}
 
 /// A longer journal goes on from where the shorter one leads.
-pub fn replay_goes_on<C>()
-    ensures { (K : Behaviour) (cells : Cells C) (s : State C) (es fs : List PlainEntry) →
-        replay K cells s (es ++ fs) ≡ replay K cells (replay K cells s es) fs }
+pub fn replay_goes_on<C, K: Behaves>()
+    ensures { (cells : Cells C) (s : State C) (es fs : List PlainEntry) →
+        replay K.does cells s (es ++ fs) ≡ replay K.does cells (replay K.does cells s es) fs }
 {}
 
 /// Forgetting the origins of bytes commutes with putq(9F), putbq(9F) and getq(9F).
@@ -116,13 +117,13 @@ pub fn forgetting_commutes<C, D>()
 /// Whatever stands for bytes, a call (open(2), unlockpt(3C), write(2), read(2), putmsg(2), getmsg(2)) and a turn of a service
 /// procedure (STREAMS Programming Guide, "Service Procedures") answer and do the same as on plain bytes, and let the same
 /// bytes go by the same rules on the way; and so do all entries of a journal.
-pub fn steps_forget_origins<C>()
-    ensures call { (K : Behaviour) (cells : Cells C) (caller : Caller) (asked : Request) (s : State C) → AreCells cells →
-        called K plain caller asked (map_state cells.byte s) ≡ map_outcome cells.byte (called K cells caller asked s) }
-    ensures turn { (K : Behaviour) (cells : Cells C) (name : QueueName) (turn : Turn) (s : State C) → AreCells cells →
-        turned K plain name turn (map_state cells.byte s) ≡ map_turn_outcome cells.byte (turned K cells name turn s) }
-    ensures replay { (K : Behaviour) (cells : Cells C) (s : State C) (es : List PlainEntry) → AreCells cells →
-        replay K plain (map_state cells.byte s) es ≡ map_state cells.byte (replay K cells s es) }
+pub fn steps_forget_origins<C, K: Behaves>()
+    ensures call { (cells : Cells C) (caller : Caller) (asked : Request) (s : State C) → AreCells cells →
+        called K.does plain caller asked (map_state cells.byte s) ≡ map_outcome cells.byte (called K.does cells caller asked s) }
+    ensures turn { (cells : Cells C) (name : QueueName) (turn : Turn) (s : State C) → AreCells cells →
+        turned K.does plain name turn (map_state cells.byte s) ≡ map_turn_outcome cells.byte (turned K.does cells name turn s) }
+    ensures replay { (cells : Cells C) (s : State C) (es : List PlainEntry) → AreCells cells →
+        replay K.does plain (map_state cells.byte s) es ≡ map_state cells.byte (replay K.does cells s es) }
 {}
 
 /// Nothing is lost, and nothing is made but what is told: whatever test on bytes is chosen, as 'is this very byte', what stands
@@ -132,14 +133,14 @@ pub fn steps_forget_origins<C>()
 /// it has nothing of a turn under way. Both are so in a new pair and behind each step. A turn of a module's queue may map a byte to another
 /// one, as ldterm's does under ICRNL, so there the test says the same of the two. On a queue a put adds what the message has, and a take takes
 /// it away.
-pub fn bytes_are_kept<C>()
-    ensures step { (K : Behaviour) (cells : Cells C) (p : Dir → C → Bool) (old new : State C) (entry : PlainEntry) → MayTest cells p entry →
-        NothingUnread old → AreIdle old → Step K cells old entry new →
-        state_weight p new + weight_gone p (gone K cells old entry)
-        ≡ state_weight p old + (count_came K cells p old entry + weight_made p (gone K cells old entry)) }
-    ensures unread { (K : Behaviour) (cells : Cells C) (old new : State C) (entry : PlainEntry) → NothingUnread old →
-        Step K cells old entry new → NothingUnread new }
-    ensures idle { (K : Behaviour) (cells : Cells C) (old new : State C) (entry : PlainEntry) → AreIdle old → Step K cells old entry new → AreIdle new }
+pub fn bytes_are_kept<C, K: Behaves>()
+    ensures step { (cells : Cells C) (p : Dir → C → Bool) (old new : State C) (entry : PlainEntry) → MayTest cells p entry →
+        NothingUnread old → AreIdle old → Step K.does cells old entry new →
+        state_weight p new + weight_gone p (gone K.does cells old entry)
+        ≡ state_weight p old + (count_came K.does cells p old entry + weight_made p (gone K.does cells old entry)) }
+    ensures unread { (cells : Cells C) (old new : State C) (entry : PlainEntry) → NothingUnread old →
+        Step K.does cells old entry new → NothingUnread new }
+    ensures idle { (cells : Cells C) (old new : State C) (entry : PlainEntry) → AreIdle old → Step K.does cells old entry new → AreIdle new }
     ensures opening { (s : State C) → s ≡ opening → NothingUnread s × AreIdle s }
     ensures put { (p : C → Bool) (m : Message C) (q : List (Message C)) →
         weight p (put m q) ≡ weight_of p m + weight p q }
@@ -150,8 +151,8 @@ pub fn bytes_are_kept<C>()
 {}
 
 /// No turn opens or closes a side, unlocks the slave, numbers an ioctl or books a byte as written.
-pub fn turns_leave_the_ends<C>()
-    ensures { (K : Behaviour) (cells : Cells C) (name : QueueName) (turn : Turn) (s : State C) → SameButMade s (turned K cells name turn s).state }
+pub fn turns_leave_the_ends<C, K: Behaves>()
+    ensures { (cells : Cells C) (name : QueueName) (turn : Turn) (s : State C) → SameButMade s (turned K.does cells name turn s).state }
 {}
 
 /// Where no put loses a cell, or makes one that it doesn't tell, and puts send on no more than tables say, no delivery does that has a

@@ -6,7 +6,6 @@ ghost use Rattle.strm_types.specs.declared.rules.Fates.{Fates};
 ghost use Rattle.strm_types.specs.Cells.{Cells, plain};
 ghost use Rattle.strm_types.specs.Journal.{PlainEntry};
 ghost use Rattle.strm_types.specs.Rules.{no_fates};
-ghost use Rattle.strm_laws.specs.Behaviours.{Behaviour};
 ghost use Rattle.strm_laws.specs.Bases.{IsBase};
 ghost use Rattle.strm_laws.specs.Kept.{told_by};
 ghost use Rattle.strm_laws.specs.Ledgers.{FewBooked};
@@ -14,17 +13,19 @@ ghost use Rattle.strm_laws.specs.Restorable.{AreWithinEntries, IsWithinEntry, Re
 ghost use Rattle.strm_laws.specs.State.{State, opening};
 ghost use Rattle.strm_laws.specs.Step.{IsLegal, Step, replay};
 
+use crate::behaviours::Behaves;
+
 /// A pair as it is made can be restored, and so can each pair behind a step, and behind a legal journal, whose calls name bands that queues have.
-pub fn restorable_stays<C>()
+pub fn restorable_stays<C, K: Behaves>()
     ensures opening { (s : State C) → s ≡ opening → Restorable s }
-    ensures step { (K : Behaviour) (cells : Cells C) (old new : State C) (entry : PlainEntry) → IsWithinEntry entry → Restorable old → Step K cells old entry new → Restorable new }
-    ensures journal { (K : Behaviour) (cells : Cells C) (s : State C) (entries : List PlainEntry) → AreWithinEntries entries → Restorable s → IsLegal K cells s entries → Restorable (replay K cells s entries) }
+    ensures step { (cells : Cells C) (old new : State C) (entry : PlainEntry) → IsWithinEntry entry → Restorable old → Step K.does cells old entry new → Restorable new }
+    ensures journal { (cells : Cells C) (s : State C) (entries : List PlainEntry) → AreWithinEntries entries → Restorable s → IsLegal K.does cells s entries → Restorable (replay K.does cells s entries) }
 {}
 
 /// A pair as it is made is a base, and so is each state of a legal journal that begins at one, whose calls name bands that queues have, as
 /// long as no book is past its end. So a journal can begin anew at any of them.
-pub fn bases_stay()
+pub fn bases_stay<K: Behaves>()
     ensures opening { IsBase opening no_fates }
-    ensures journal { (K : Behaviour) (s : State ℕ) (fates : Fates) (es : List PlainEntry) → IsBase s fates → AreWithinEntries es → IsLegal K plain s es →
-        FewBooked (replay K plain s es) → IsBase (replay K plain s es) (told_by K plain s es fates) }
+    ensures journal { (s : State ℕ) (fates : Fates) (es : List PlainEntry) → IsBase s fates → AreWithinEntries es → IsLegal K.does plain s es →
+        FewBooked (replay K.does plain s es) → IsBase (replay K.does plain s es) (told_by K.does plain s es fates) }
 {}
