@@ -27,6 +27,7 @@ use Rattle.strm_laws.proofs.Stopping.{of-allowed}
 use Rattle.strm_laws.proofs.TurnHolds.{Turns, turns-stay}
 use Rattle.strm_laws.proofs.WithinHeads.{Fits, behind-fits, dropped-fits}
 use Rattle.strm_laws.proofs.WriteSteps.{cells_sent-holds}
+use Rattle.strm_laws.proofs.LawfulKinds.{named-each}
 
 -- the place below a side's head
 abbrev below : Side → Spot
@@ -110,7 +111,8 @@ module _ {C : Type 0} (P : Side → Stream C → Type 0) where
     push-each side None s all = all
     push-each side (Some name) s all =
         let ps = (stream side s).modules in
-        pushed-holds side OfEach Good (survives side) (module_named K name) s (changes.above name ps (changes.good side (stream side s) (all side))) all
+        named-each K name (λ o. OfEach (pushed_named side o s).state) all
+        (λ known. pushed-holds side OfEach Good (survives side) (module_named K name) s (changes.above name ps (changes.good side (stream side s) (all side))) all)
 
     pop-each : (side : Side) (s : State C) → OfEach s → OfEach (popped side s).state
     pop-each side s all = pop-holds side OfEach Good (survives side) s all
@@ -161,7 +163,7 @@ module _ {C : Type 0} (P : Side → Stream C → Type 0) where
     told-each : (side : Side) (s : State C) → OfEach s → OfEach (with_ioctl side (slot_behind (stream side s).head.ioctl) s)
     told-each side s all = slot-each side _ s (λ fits. behind-fits (stream side s).head.ioctl) all
 
-    module _ (K : Behaviour) (cells : Cells C) (given : (to : Spot) (m : Message C) (s : State C) → OfEach s → OfEach (delivered K cells to m s).state) where
+    module _ (cells : Cells C) (given : (to : Spot) (m : Message C) (s : State C) → OfEach s → OfEach (delivered K cells to m s).state) where
       put-each : (side : Side) (prio : Prio) (control body : Option (List ℕ)) (s : State C) → OfEach s → OfEach (put_at K cells side prio control body s).state
       put-each side prio None None s all = all
       put-each side prio None (Some xs) s all = given (below side) (message_put cells side prio None (Some xs) s) s all

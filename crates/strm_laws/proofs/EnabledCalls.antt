@@ -254,7 +254,7 @@ module _ {C : Type 0} where
     call-named K caller (Flush what band) s are = given-named K (below caller.side) (flush_message (flush_bytes (asked_of what band))) s are
     call-named K caller (Write bytes) s are =
         let dir = direction_from caller.side in
-        cells_sent-holds K cells Named given-named K caller.side (cells_written cells dir (book dir s).written bytes) s are
+        cells_sent-holds K cells Named (given-named K) caller.side (cells_written cells dir (book dir s).written bytes) s are
     call-named K caller (Read n) s are =
         let h = (stream caller.side s).head in
         goes-named caller.side (with_head_queue (read_queue h.read_mode h.control_mode (min n READ_MAX) h.queue) (stream caller.side s)) (read_lets_go h.read_mode h.control_mode (min n READ_MAX) h.queue) (before_head caller.side s) s refl

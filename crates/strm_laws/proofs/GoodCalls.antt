@@ -33,7 +33,7 @@ use Rattle.strm_laws.proofs.PutParts.{either-holds}
 use Rattle.strm_laws.proofs.Replay.{fitting-met, or_else-none, unless-none}
 use Rattle.strm_laws.proofs.StackOnce.{none-once, pop-once, push-once}
 use Rattle.strm_laws.proofs.WriteSteps.{went}
-use Rattle.strm_laws.proofs.LawfulKinds.{new}
+use Rattle.strm_laws.proofs.LawfulKinds.{named-each, new}
 
 under : (a b : ℕ) → nat_lt a b ≡ true → suc a ≤ b
 under a b is = grind (arith, nat_tests)
@@ -88,9 +88,10 @@ module _ {C : Type 0} where
   }
 
   -- pushes and pops
-  one-more : (K : Behaviour) (name : ModuleName) (ps : List (Standing C)) → may_stand (Some (module_named K name)) ps ≡ true → GoodModules ps → GoodModules (module_named K name ∷ ps)
-  one-more K name ps may good = record {
-    each = ((new K name).good, good.each);
+  one-more : (K : Behaviour) (name : ModuleName) (ps : List (Standing C)) → is_known K name ≡ true → may_stand (Some (module_named K name)) ps ≡ true → GoodModules ps
+      → GoodModules (module_named K name ∷ ps)
+  one-more K name ps known may good = record {
+    each = ((new K name).good known, good.each);
     few = under (length ps) MODULES (and_parts (nat_lt (length ps) MODULES) (not (stands module_name (module_name (module_named {C = C} K name)) ps)) may).0;
     once = push-once (module_named K name) ps may good.once;
   }
@@ -98,7 +99,9 @@ module _ {C : Type 0} where
   push-streams : (K : Behaviour) (side : Side) (name : Option ModuleName) (s : State C) → may_stand (named_by K name) (stream side s).modules ≡ true → OpenGood side s → OpenGood side (pushed_named side (named_by K name) s).state
   push-streams K side None s may all = all
   push-streams K side (Some name) s may all =
-      pushed-holds side (OpenGood side) GoodModules (survives side) (module_named K name) s (one-more K name (stream side s).modules may (all.0.0 side).modules) all
+      named-each K name (λ o. may_stand o (stream side s).modules ≡ true → OpenGood side (pushed_named side o s).state) (λ may. all)
+      (λ known may. pushed-holds side (OpenGood side) GoodModules (survives side) (module_named K name) s (one-more K name (stream side s).modules known may (all.0.0 side).modules) all)
+      may
 
   -- closes: when all modules are taken, none is left
   pub with-get : (side : Side) (ps : List (Standing C)) (names : List QueueName) (s : State C) → (stream side (record (with_modules side ps s) { enabled = names })).modules ≡ ps

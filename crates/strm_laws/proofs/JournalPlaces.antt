@@ -23,13 +23,13 @@ use Rattle.strm_laws.proofs.Unread.{step-unread}
 use Rattle.strm_laws.proofs.StepsIdle.{step-idle}
 
 module _ {C : Type 0} (cells : Cells C) (p : Dir → C → Bool) (numbered : Numbered cells p) (ignores : IgnoresMapping cells p) where
-  may-test : (entry : PlainEntry) → MayTest cells p entry
-  may-test (Called caller asked answer) = tt
-  may-test (Turned name turn) = at name.place
+  may-test : (K : Behaviour) (entry : PlainEntry) → MayTest K cells p entry
+  may-test K (Called caller asked answer) = λ delivered changes. ignores
+  may-test K (Turned name turn) = at name.place
     where
-      at : (place : Place) → tests_at cells p place
+      at : (place : Place) → tests_at K cells p place
       at Head = tt
-      at Driver = tt
+      at Driver = λ changes. ignores
       at (places.Module owner) = ignores
 
   -- a journal from any state: what it adds to the books is what stands and has gone more
@@ -41,7 +41,7 @@ module _ {C : Type 0} (cells : Cells C) (p : Dir → C → Bool) (numbered : Num
       omega (
         arith,
         follows K next (step-unread K cells s next entry unread legal.0) (step-idle K cells s next entry idle legal.0) entries legal.1,
-        step-keeps p K cells s next entry (may-test entry) unread idle legal.0,
+        step-keeps p K cells s next entry (may-test K entry) unread idle legal.0,
         step-counts cells p numbered K s entry,
         gone-append p (gone K cells s entry) (all_gone K cells next entries),
       )

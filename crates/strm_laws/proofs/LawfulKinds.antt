@@ -1,5 +1,5 @@
 -- Each kind of module is lawful: the one place that names them all.
-use Rattle.strm_laws.proofs.Prelude.{ℕ, ◌≡◌, true, [], ◌∷◌, refl, ap, ◌∙◌, arith, Bool, false, Option, Some, count_by, option_map, false≢true}
+use Rattle.strm_laws.proofs.Prelude.{ℕ, ◌≡◌, true, [], ◌∷◌, refl, ap, ◌∙◌, arith, Bool, false, cond, None, Option, Some, count_by, option_map, false≢true}
 use Rattle.strm_laws.proofs.Prelude.{idle-stays, puts-stay, puts-each, pckt-within, puts-gone, ptem-within}
 use Rattle.strm_laws.specs.Prelude.{Dir, ModuleName, Side, Way, Up, Spot, ldterm_asks, Cells, plain, made_of, kind_number, ldterm_puts, ldterm_serves}
 use Rattle.strm_laws.specs.Prelude.{disciplined, map_message, Message, direction_at, other, Pckt, plain_packed, Ptem, ptem_puts, done_by, served_by}
@@ -9,6 +9,7 @@ use Rattle.strm_types.specs.Owns.{Own}
 use Rattle.strm_laws.specs.Behaviours.{Behaviour}
 use Rattle.strm_laws.specs.LdtermWeights.{weight_begun, weight_in_work}
 use Rattle.strm_laws.specs.Places.{weight_gone, weight_made}
+use Rattle.strm_laws.specs.Pushes.{is_known, module_named, named_by}
 use Rattle.strm_laws.specs.Stacked.{kind_line, kind_weight, KindRests, ldterm_stands, Module, module_puts, OfLdterm, OfOwn, OfPckt, OfPtem, Standing}
 use Rattle.strm_types.proofs.LdtermWithin.{ldterm-within}
 use Rattle.strm_laws.proofs.GoodLdtermTurns.{serves-good}
@@ -215,3 +216,12 @@ new K (names.Own n) = record {
   rests = tt;
   good = λ known. record { kind = K.good n known; queues = tt; has = refl };
 }
+
+-- what is pushed by a name: such a module where there are any, and else none
+pub named-each : {C : Type 0} (K : Behaviour) (name : ModuleName) (P : Option (Standing C) → Type 0) → P None → (is_known K name ≡ true → P (Some (module_named K name)))
+    → P (named_by K (Some name))
+named-each K name P none some = at (is_known K name) refl
+  where
+    at : (known : Bool) → is_known K name ≡ known → P (cond known (Some (module_named K name)) None)
+    at true is = some is
+    at false is = none

@@ -2,12 +2,12 @@
 use Rattle.strm_laws.proofs.Prelude.{ℕ, zero, suc, ◌≡◌, ◌<◌, ◌+◌, Bool, List, [], ◌∷◌, length, map, refl, ap, arith, sum_by-cons}
 use Rattle.strm_laws.specs.Prelude.{Dir, Spot, AreCells, Cells, plain, Acted, map_message, Message, weight_of, act_among, put_among, direction_at}
 use Rattle.strm_laws.specs.Prelude.{map_acted}
-use Rattle.strm_laws.specs.Behaviours.{Behaviour}
+use Rattle.strm_laws.specs.Behaviours.{Behaviour, MayTestOwn}
 use Rattle.strm_laws.specs.Places.{weight_gone, weight_made, weight_sent}
 use Rattle.strm_laws.specs.Stacked.{map_module, module_puts, module_weight, modules_weight, Standing}
 use Rattle.strm_laws.proofs.LawfulKinds.{puts-lawfully}
 
-module _ {C : Type 0} (K : Behaviour) (p : Dir → C → Bool) (cells : Cells C) (made : ℕ) where
+module _ {C : Type 0} (K : Behaviour) (p : Dir → C → Bool) (cells : Cells C) (tests : MayTestOwn K cells p) (made : ℕ) where
   -- a put at one of several modules
   pub among-keeps : (i : ℕ) (here : Spot) (m : Message C) (ps : List (Standing C)) → i < length ps
       → let t = put_among (module_puts K cells made) i here m ps in
@@ -17,7 +17,7 @@ module _ {C : Type 0} (K : Behaviour) (p : Dir → C → Bool) (cells : Cells C)
   among-keeps zero here m (l ∷ ls) within =
       let weigh : Standing C → ℕ = module_weight p here.side in
       let t = module_puts K cells made here m l in
-      omega (arith, (puts-lawfully K l cells made here m).once p, sum_by-cons weigh l ls, sum_by-cons weigh t.state ls)
+      omega (arith, (puts-lawfully K l cells made here m).once p tests, sum_by-cons weigh l ls, sum_by-cons weigh t.state ls)
   among-keeps (suc i) here m (l ∷ ls) within =
       let weigh : Standing C → ℕ = module_weight p here.side in
       let t = put_among (module_puts K cells made) i here m ls in

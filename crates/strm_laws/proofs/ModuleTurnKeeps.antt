@@ -5,7 +5,7 @@ use Rattle.strm_laws.specs.Prelude.{Turn, Moved, Blocked, HOPS, Dir, QueueName, 
 use Rattle.strm_laws.specs.Prelude.{carried, in_turn, Message, at_place, put_among, Queue, turn_ended, set}
 use Rattle.std.specs.List.{AllByRecursion}
 use Rattle.strm_types.specs.declared.spots.Asks.TheVariants as asked
-use Rattle.strm_laws.specs.Behaviours.{Behaviour}
+use Rattle.strm_laws.specs.Behaviours.{Behaviour, MayTestOwn}
 use Rattle.strm_laws.specs.Earlier.{places_of}
 use Rattle.strm_laws.specs.Kept.{AreIdle, state_weight}
 use Rattle.strm_laws.specs.LdtermWeights.{IgnoresMapping}
@@ -218,9 +218,9 @@ module _ {C : Type 0} (p : Dir → C → Bool) where
       omega (arith, with-keeps here.side (queue_ended here took (stream here.side s)).modules s.enabled s, changes-keep (turn_ended took) p here.side (ended-messages took) here.way (here.at - 1) ps)
 
   -- what was sent is delivered
-  carries : (K : Behaviour) (cells : Cells C) (sent : List (Parcel C)) → AllByRecursion (CarryKeeps p (state_weight p) (carried (put_in K cells) HOPS)) sent
-  carries K cells [] = tt
-  carries K cells (q ∷ sent) = (delivered-keeps K cells p q.to q.message, carries K cells sent)
+  carries : (K : Behaviour) (cells : Cells C) → MayTestOwn K cells p → (sent : List (Parcel C)) → AllByRecursion (CarryKeeps p (state_weight p) (carried (put_in K cells) HOPS)) sent
+  carries K cells tests [] = tt
+  carries K cells tests (q ∷ sent) = (delivered-keeps K cells p tests q.to q.message, carries K cells tests sent)
 
   module _ (cells : Cells C) (ignores : IgnoresMapping cells p) (here : Spot) where
     -- a call, with what it sent
@@ -238,7 +238,7 @@ module _ {C : Type 0} (p : Dir → C → Bool) where
           among-keeps cells here made again left p ignores (here.at - 1) ps one,
           booked-keeps p acted.gone (stands_behind here acted s),
           with-keeps here.side acted.state (names_behind here acted s) s,
-          in_turn-keeps p (state_weight p) (carried (put_in K cells) HOPS) t.sent (carries K cells t.sent) t.state,
+          in_turn-keeps p (state_weight p) (carried (put_in K cells) HOPS) t.sent (carries K cells (λ changes. ignores) t.sent) t.state,
           gone-append p t.gone u.gone,
           made-append p t.gone u.gone,
         )

@@ -13,7 +13,7 @@ use Rattle.strm_types.specs.declared.slots.Slot.TheVariants.{Answered}
 use Rattle.strm_types.specs.Dropped.{is_ioctl_of}
 use Rattle.strm_laws.specs.Behaviours.{Behaviour}
 use Rattle.strm_laws.specs.Earlier.{before_at}
-use Rattle.strm_laws.specs.Pushes.{all_taken, below_top, enable_waiting, head_above, ioctl_dropped, let_come, messages_of, messages_on, messages_there, mode_behind, mode_on_push, mode_put, modules_emptied, named_by, popped, pushed, pushed_named, taken_off, top_on, top_taken, with_modules, without_top}
+use Rattle.strm_laws.specs.Pushes.{all_taken, below_top, enable_waiting, head_above, ioctl_dropped, is_known, let_come, messages_of, messages_on, messages_there, mode_behind, mode_on_push, mode_put, module_named, modules_emptied, named_by, popped, pushed, pushed_named, taken_off, top_on, top_taken, with_modules, without_top}
 use Rattle.strm_laws.specs.Puts.{earlier_at, noted, put_at_head}
 use Rattle.strm_laws.specs.Stacked.{Module, Standing, kind_line, map_kind, map_module, module_name, without_kind_line}
 use Rattle.strm_laws.specs.State.{State, Stream, stream, map_state, map_stream, with_ioctl}
@@ -181,7 +181,11 @@ module _ {C D : Type 0} (f : C → D) where
 
   pub named_by-forgets : (K : Behaviour) (name : Option ModuleName) → named_by K name ≡ option_map (map_module f) (named_by K name)
   named_by-forgets K None = refl
-  named_by-forgets K (Some name) = ap (λ p. Some p) ((new K name).forgets f)
+  named_by-forgets K (Some name) = at (is_known K name)
+    where
+      at : (known : Bool) → cond known (Some (module_named {C = D} K name)) None ≡ option_map (map_module f) (cond known (Some (module_named {C = C} K name)) None)
+      at true = ap (λ p. Some p) ((new K name).forgets f)
+      at false = refl
 
   of_named-forgets : (side : Side) (p : Option (Standing C)) (s : State C) → pushed_named side (option_map (map_module f) p) (map_state f s) ≡ image (pushed_named side p s)
   of_named-forgets side None s = refl

@@ -18,7 +18,7 @@ use Rattle.strm_laws.proofs.EmptiedKeeps.{behind-all, behind-keeps}
 use Rattle.strm_laws.proofs.LdtermKeeps.{lost-gone, lost-made}
 use Rattle.strm_laws.proofs.PushForgets.{clears}
 use Rattle.strm_laws.proofs.PutWeights.{weight-mode}
-use Rattle.strm_laws.proofs.LawfulKinds.{lawful, new}
+use Rattle.strm_laws.proofs.LawfulKinds.{lawful, named-each, new}
 
 module _ {C : Type 0} (p : Dir → C → Bool) where
   -- what a pair comes to that had so many cells
@@ -130,7 +130,8 @@ module _ {C : Type 0} (p : Dir → C → Bool) where
 
   pub push-keeps : (K : Behaviour) (side : Side) (name : Option ModuleName) (s : State C) → Keeps (pushed_named side (named_by K name) s) (state_weight p s)
   push-keeps K side None s = refl
-  push-keeps K side (Some name) s = omega (arith, (new K name).weighs p side, pushed-keeps side (module_named K name) s)
+  push-keeps K side (Some name) s = named-each K name (λ o. Keeps (pushed_named side o s) (state_weight p s)) refl
+      (λ known. omega (arith, (new K name).weighs p side, pushed-keeps side (module_named K name) s))
 
   -- a pop
   off-keeps : (side : Side) (s : State C) → AllByRecursion (λ l. IsAtRest l) (stream side s).modules → Keeps (taken_off side s) (state_weight p s)

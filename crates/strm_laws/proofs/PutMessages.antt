@@ -5,7 +5,7 @@ use Rattle.strm_laws.proofs.Prelude.{option_map, count_by, written-plain, writte
 use Rattle.strm_laws.specs.Prelude.{Prio, High, Dir, Side, Down, Spot, with_written, Cells, AreCells, plain, cells_written, Carried, Message, part}
 use Rattle.strm_laws.specs.Prelude.{cells_of, map_message, direction_from, map_carried, no_parts, put_message}
 use Rattle.strm_types.specs.declared.modes.Prio.TheVariants.{Band}
-use Rattle.strm_laws.specs.Behaviours.{Behaviour}
+use Rattle.strm_laws.specs.Behaviours.{Behaviour, MayTestOwn}
 use Rattle.strm_laws.specs.Calls.{message_put, put_at}
 use Rattle.strm_laws.specs.Kept.{state_weight}
 use Rattle.strm_laws.specs.Places.{weight_gone, weight_made}
@@ -29,13 +29,13 @@ module _ {C : Type 0} where
     unfolding cells_of
     nothing-put cells side prio s = refl
 
-    module _ (K : Behaviour) (cells : Cells C) where
+    module _ (K : Behaviour) (cells : Cells C) (tests : MayTestOwn K cells p) where
       sent-keeps : (side : Side) (n : ℕ) (m : Message C) (s : State C) → let t = booked (direction_from side) n (delivered K cells (below side) m s) in
           state_weight p t.state + weight_gone p t.gone ≡ state_weight p s + (count_by (p (direction_from side)) (cells_of m) + weight_made p t.gone)
       sent-keeps side n m s =
           let dir = direction_from side in
           let led = (delivered K cells (below side) m s).state in
-          omega (arith, delivered-keeps K cells p (below side) m s, weight-whole (p dir) m)
+          omega (arith, delivered-keeps K cells p tests (below side) m s, weight-whole (p dir) m)
 
       pub put_at-keeps : (side : Side) (prio : Prio) (control body : Option (List ℕ)) (s : State C) → let t = put_at K cells side prio control body s in
           state_weight p t.state + weight_gone p t.gone ≡ state_weight p s + (count_by (p (direction_from side)) (cells_of (message_put cells side prio control body s)) + weight_made p t.gone)

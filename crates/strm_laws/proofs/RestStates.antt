@@ -178,7 +178,7 @@ module _ {C : Type 0} (all : Stands) where
         pub sent-pays : (K : Behaviour) (ps : List (Parcel C)) (s : State C) → stands_of s ≡ all → moves all (in_turn (carried (put_in K cells) HOPS) ps s).state ≤ moves all s + tolls all posts ps
         sent-pays K ps s is =
             in_turn-pays (Stand all) (moves all) (toll all posts) (carried (put_in K cells) HOPS) (carried-holds (Stand all) (put_in K cells) (puts-stand all K cells) HOPS)
-            (carried-pays (Stand all) (moves all) (toll all posts) (put_in K cells) (puts-stand all K cells) puts-pay K HOPS) ps s is
+            (carried-pays (Stand all) (moves all) (toll all posts) (put_in K cells) (puts-stand all K cells) (puts-pay K) HOPS) ps s is
 
         pub delivered-pays : (K : Behaviour) (to : Spot) (m : Message C) (s : State C) → stands_of s ≡ all → moves all (delivered K cells to m s).state ≤ moves all s + toll all posts to m
-        delivered-pays K to m s is = carried-pays (Stand all) (moves all) (toll all posts) (put_in K cells) (puts-stand all K cells) puts-pay K HOPS (record { to = to; message = m }) s is
+        delivered-pays K to m s is = carried-pays (Stand all) (moves all) (toll all posts) (put_in K cells) (puts-stand all K cells) (puts-pay K) HOPS (record { to = to; message = m }) s is

@@ -75,16 +75,13 @@ stack-has zero test (x ∷ on) all low = absurd (omega (arith, low))
 stack-has (suc k) test [] all low = (and_parts (test []) _ (all (0 ∷ noughts k) (ap suc (many-noughts k)))).0
 stack-has (suc k) test (x ∷ on) all low = at x (λ y fits. stack-has k (above test y) on fits (omega (arith, low)))
   where
-    abbrev fits : ModuleName → List ℕ → Bool
-    fits y ns = all_stacks ns (above test y)
-
     parts : (n : ℕ) (ns : List ℕ) → length ns ≡ k
-        → (fits names.Ldterm ns ≡ true) × (fits names.Ptem ns ≡ true) × (fits names.Pckt ns ≡ true) × (fits (names.Own n) ns ≡ true)
+        → (all_stacks ns (above test names.Ldterm) ≡ true) × (all_stacks ns (above test names.Ptem) ≡ true) × (all_stacks ns (above test names.Pckt) ≡ true) × (all_stacks ns (above test (names.Own n)) ≡ true)
     parts n ns is =
         let each = (and_parts (test []) _ (all (n ∷ ns) (ap suc is))).1 in
-        let later = (and_parts (fits names.Ldterm ns) _ each).1 in
-        let last = (and_parts (fits names.Ptem ns) _ later).1 in
-        ((and_parts (fits names.Ldterm ns) _ each).0, (and_parts (fits names.Ptem ns) _ later).0, (and_parts (fits names.Pckt ns) _ last).0, (and_parts (fits names.Pckt ns) _ last).1)
+        let later = (and_parts (all_stacks ns (above test names.Ldterm)) _ each).1 in
+        let last = (and_parts (all_stacks ns (above test names.Ptem)) _ later).1 in
+        ((and_parts (all_stacks ns (above test names.Ldterm)) _ each).0, (and_parts (all_stacks ns (above test names.Ptem)) _ later).0, (and_parts (all_stacks ns (above test names.Pckt)) _ last).0, (and_parts (all_stacks ns (above test names.Pckt)) _ last).1)
 
     at : (x : ModuleName) → ((y : ModuleName) → AllFit k (above test y) → test (y ∷ on) ≡ true) → test (x ∷ on) ≡ true
     at names.Ldterm has = has names.Ldterm (λ ns is. (parts 0 ns is).0)

@@ -33,10 +33,10 @@ module _ {C : Type 0} where
   }
 
   turns : (K : Behaviour) → Turns {C = C} K AreIdle
-  turns K = record { drivers = driver-each Idle K AllIdle changes K; named = λ names s adds idle. idle; given = delivered-idle K; waits = waits-idle; modules = module_turned-rests K }
+  turns K = record { drivers = driver-each Idle K AllIdle (changes K); named = λ names s adds idle. idle; given = delivered-idle K; waits = waits-idle; modules = module_turned-rests K }
 
   pub step-idle : (K : Behaviour) (cells : Cells C) (old new : State C) (entry : PlainEntry) → AreIdle old → Step K cells old entry new → AreIdle new
-  step-idle K cells old new entry idle step = step-each Idle K AllIdle changes K cells (delivered-idle K cells) (turn-holds K AreIdle turns K cells) old new entry idle step
+  step-idle K cells old new entry idle step = step-each Idle K AllIdle (changes K) cells (delivered-idle K cells) (turn-holds K AreIdle (turns K) cells) old new entry idle step
 
   pub idle-behind : (K : Behaviour) (cells : Cells C) (s : State C) (entries : List PlainEntry) → AreIdle s → IsLegal K cells s entries → AreIdle (replay K cells s entries)
   idle-behind K cells s [] idle legal = idle

@@ -4,7 +4,7 @@ use Rattle.strm_laws.proofs.Prelude.{ℕ, zero, suc, ◌≡◌, ◌+◌, Bool, t
 use Rattle.strm_laws.proofs.Prelude.{◌∙◌, arith, count_by, not, drop-map, length-map, take-map, weight-data}
 use Rattle.strm_laws.specs.Prelude.{Side, Spot, Dir, AreCells, Cells, plain, direction_from, Carried, Message, data_message, map_carried, map_fate}
 use Rattle.strm_laws.specs.Prelude.{chunk_count, chunks_of, Down}
-use Rattle.strm_laws.specs.Behaviours.{Behaviour}
+use Rattle.strm_laws.specs.Behaviours.{Behaviour, MayTestOwn}
 use Rattle.strm_laws.specs.Kept.{state_weight}
 use Rattle.strm_laws.specs.Places.{weight_gone, weight_made}
 use Rattle.strm_laws.specs.Puts.{delivered}
@@ -57,16 +57,16 @@ module _ {C : Type 0} where
     went-keeps true xs s t more one two = omega arith
     went-keeps false xs s t more one two = omega (arith, first-cells down xs more.taken, gone-append p t.gone more.gone, made-append p t.gone more.gone)
 
-    chunks-keep : (K : Behaviour) (count : ℕ) (xs : List C) (s : State C) → WroteKeeps (chunks_sent K cells side (chunks_of count xs) s) xs s
-    chunks-keep K zero xs s = omega arith
-    chunks-keep K (suc count) xs s =
+    chunks-keep : (K : Behaviour) → MayTestOwn K cells p → (count : ℕ) (xs : List C) (s : State C) → WroteKeeps (chunks_sent K cells side (chunks_of count xs) s) xs s
+    chunks-keep K tests zero xs s = omega arith
+    chunks-keep K tests (suc count) xs s =
         let t = chunk_goes K cells side (take 256 xs) s in
         went-keeps (is_full_below 0 side s) xs s t (chunks_sent K cells side (chunks_of count (drop 256 xs)) t.state)
-        (let here = delivered-keeps K cells p (below_head side) (data_message (take 256 xs)) s in omega (arith, weight-data down (take 256 xs)))
-        (chunks-keep K count (drop 256 xs) t.state)
+        (let here = delivered-keeps K cells p tests (below_head side) (data_message (take 256 xs)) s in omega (arith, weight-data down (take 256 xs)))
+        (chunks-keep K tests count (drop 256 xs) t.state)
 
-    pub cells_sent-keeps : (K : Behaviour) (xs : List C) (s : State C) → WroteKeeps (cells_sent K cells side xs s) xs s
-    cells_sent-keeps K xs s = chunks-keep K (chunk_count (length xs)) xs s
+    pub cells_sent-keeps : (K : Behaviour) → MayTestOwn K cells p → (xs : List C) (s : State C) → WroteKeeps (cells_sent K cells side xs s) xs s
+    cells_sent-keeps K tests xs s = chunks-keep K tests (chunk_count (length xs)) xs s
 
 module _ {C D : Type 0} (f : C → D) where
   went-forgets : (full : Bool) (size : ℕ) (s : State C) (t : Carried C (State C)) (more : Wrote C) →

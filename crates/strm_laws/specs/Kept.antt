@@ -1,30 +1,30 @@
 -- That no byte is lost, and none made but what is told: what stands on a pair's queues, what a step brings there and what it
 -- takes away.
-use Rattle.std.specs.Prelude.{◌≡◌, ℕ, ◌+◌, Bool, false, List, [], ◌∷◌, count_by}
+use Rattle.std.specs.Prelude.{◌≡◌, ℕ, ◌+◌, Bool, true, false, List, [], ◌∷◌, count_by}
 use Rattle.std.specs.List.{AllByRecursion}
 use Rattle.strm_laws.specs.Prelude.{Place, Driver, Dir, Side, Master, Slave, Up, Down, Called, Turned, AllSides, Cells, direction_at}
 use Rattle.strm_laws.specs.Prelude.{direction_from, is_open, weight, Fate, tallied, Fates, PlainEntry}
 use Rattle.strm_types.specs.declared.names.Place.TheVariants.{Head}
 use Rattle.strm_types.specs.declared.names.Place.TheVariants as places
-use Rattle.strm_laws.specs.Behaviours.{Behaviour}
+use Rattle.strm_laws.specs.Behaviours.{Behaviour, MayTestOwn}
 use Rattle.strm_laws.specs.LdtermWeights.{IgnoresMapping}
 use Rattle.strm_laws.specs.Stacked.{IsAtRest, modules_weight}
 use Rattle.strm_laws.specs.State.{State, Stream, stream}
 use Rattle.strm_laws.specs.Step.{after}
-use Rattle.strm_laws.specs.Calls.{called}
+use Rattle.strm_laws.specs.Calls.{called, delivers}
 use Rattle.strm_laws.specs.Turns.{turned}
 
 module _ {C : Type 0} where
-  -- A turn of a module's queue may map a byte to another one, as ICRNL does, so a test has to say the same of the two. All else leaves each
-  -- byte as it is.
-  abbrev pub tests_at : Cells C → (Dir → C → Bool) → Place → Type 0
-  tests_at cells p Head = Unit {0}
-  tests_at cells p Driver = Unit {0}
-  tests_at cells p (places.Module name) = IgnoresMapping cells p
+  -- A turn of a module's queue may map a byte to another one, as ICRNL does, so a test has to say the same of the two; and so where messages are delivered past
+  -- modules of a user's own that change bytes. All else leaves each byte as it is.
+  abbrev pub tests_at : Behaviour → Cells C → (Dir → C → Bool) → Place → Type 0
+  tests_at K cells p Head = Unit {0}
+  tests_at K cells p Driver = MayTestOwn K cells p
+  tests_at K cells p (places.Module name) = IgnoresMapping cells p
 
-  abbrev pub MayTest : Cells C → (Dir → C → Bool) → PlainEntry → Type 0
-  MayTest cells p (Called caller asked answer) = Unit {0}
-  MayTest cells p (Turned name turn) = tests_at cells p name.place
+  abbrev pub MayTest : Behaviour → Cells C → (Dir → C → Bool) → PlainEntry → Type 0
+  MayTest K cells p (Called caller asked answer) = delivers asked ≡ true → MayTestOwn K cells p
+  MayTest K cells p (Turned name turn) = tests_at K cells p name.place
 
   -- how many cells of a side's stream pass the test of their direction, on its queues and in what else its modules hold, and how many
   -- of a pair

@@ -131,10 +131,10 @@ pub fn steps_forget_origins<C, K: Behaves>()
 /// there before, what a write(2) took or a putmsg(2) sent, and what was made on the way, as an echo is. A head that is opened is as new, so this wants that a side that isn't open has nothing for its
 /// readers; and a module that is popped goes with what it has on its queues and in its line, so this wants that between two turns
 /// it has nothing of a turn under way. Both are so in a new pair and behind each step. A turn of a module's queue may map a byte to another
-/// one, as ldterm's does under ICRNL, so there the test says the same of the two. On a queue a put adds what the message has, and a take takes
-/// it away.
+/// one, as ldterm's does under ICRNL, and so may modules of a user's own, so there the test says the same of the two. On a queue a put adds what
+/// the message has, and a take takes it away.
 pub fn bytes_are_kept<C, K: Behaves>()
-    ensures step { (cells : Cells C) (p : Dir → C → Bool) (old new : State C) (entry : PlainEntry) → MayTest cells p entry →
+    ensures step { (cells : Cells C) (p : Dir → C → Bool) (old new : State C) (entry : PlainEntry) → MayTest K.does cells p entry →
         NothingUnread old → AreIdle old → Step K.does cells old entry new →
         state_weight p new + weight_gone p (gone K.does cells old entry)
         ≡ state_weight p old + (count_came K.does cells p old entry + weight_made p (gone K.does cells old entry)) }

@@ -12,6 +12,7 @@ ghost use Rattle.strm_types.specs.declared.names.Dir.{Dir};
 ghost use Rattle.strm_types.specs.Cells.{AreCells, Cells, plain};
 ghost use Rattle.strm_types.specs.Budgets.{Costed, beyond, budget, most};
 ghost use Rattle.strm_types.specs.Drivers.{driver_put};
+ghost use Rattle.strm_laws.specs.Behaviours.{MayTestOwn};
 ghost use Rattle.strm_laws.specs.Earlier.{NoModules};
 ghost use Rattle.strm_types.specs.Heads.{head_put, Head};
 ghost use Rattle.strm_laws.specs.Kept.{NothingUnread, state_weight};
@@ -39,9 +40,10 @@ pub fn puts_keep_budgets<C, K: Behaves>()
 {}
 
 /// No put loses a cell, or makes one that it doesn't tell: of any cells, those stand on the queues, are sent on, or have gone by a
-/// rule that stood there before, came with the message, or were made.
+/// rule that stood there before, came with the message, or were made. Where modules of a user's own change bytes, the cells are told apart by what
+/// stays of them.
 pub fn puts_keep_cells<C, K: Behaves>()
-    ensures { (p : Dir → C → Bool) (cells : Cells C) → PutKeeps p (state_weight p) (put_in K.does cells) }
+    ensures { (p : Dir → C → Bool) (cells : Cells C) → MayTestOwn K.does cells p → PutKeeps p (state_weight p) (put_in K.does cells) }
 {}
 
 /// Neither a head nor a driver makes a cell: only modules do.
@@ -72,9 +74,9 @@ pub fn puts_stand_at_the_driver<C, K: Behaves>()
 {}
 
 /// Chunks of a write that are delivered one after the other lose no cell, and make none but what is told: of any cells, those stand
-/// on the queues or have gone by a rule that stood there before, were taken, or were made.
+/// on the queues or have gone by a rule that stood there before, were taken, or were made; told apart as in puts.
 pub fn writes_keep_cells<C, K: Behaves>()
-    ensures { (p : Dir → C → Bool) (cells : Cells C) (side : Side) (xs : List C) (s : State C) → let t = cells_sent K.does cells side xs s in
+    ensures { (p : Dir → C → Bool) (cells : Cells C) (side : Side) (xs : List C) (s : State C) → MayTestOwn K.does cells p → let t = cells_sent K.does cells side xs s in
         state_weight p t.state + weight_gone p t.gone ≡
         state_weight p s + (count_by (p (direction_from side)) (take t.taken xs) + weight_made p t.gone) }
 {}
