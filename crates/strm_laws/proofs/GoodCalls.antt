@@ -15,7 +15,7 @@ use Rattle.strm_types.specs.declared.modes.Prio.TheVariants as prios
 use Rattle.strm_laws.specs.Behaviours.{Behaviour}
 use Rattle.strm_laws.specs.Calls.{group_at, ioctl_at, ioctl_begun, ioctl_called, ioctl_sent, message_put, mode_set, performed, put_at}
 use Rattle.strm_laws.specs.Closes.{closed_at, driver_emptied, ended, head_emptied, hung_up_at, stream_emptied}
-use Rattle.strm_laws.specs.Pushes.{all_taken, head_above, may_stand, module_named, named_by, pushed_named, top_taken, with_modules}
+use Rattle.strm_laws.specs.Pushes.{all_taken, head_above, is_known, may_stand, module_named, named_by, pushed_named, top_taken, with_modules}
 use Rattle.strm_laws.specs.Puts.{delivered, put_at_head}
 use Rattle.strm_laws.specs.Refusals.{goes_down, is_numbered, refused_at_once, unfit}
 use Rattle.strm_laws.specs.GoodMessages.{GoodMessage}

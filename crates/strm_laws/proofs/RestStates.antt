@@ -11,10 +11,11 @@ use Rattle.strm_laws.specs.Earlier.{driver_place, modules_on}
 use Rattle.strm_laws.specs.Puts.{across_of, booked, delivered, made_above, module_acted, passed_up, put_at_driver, put_at_head, put_at_module, put_behind, put_below, put_in}
 use Rattle.strm_laws.specs.Rest.{echoes, module_moves, moves, moves_above, moves_across, stream_moves}
 use Rattle.strm_laws.specs.StackCosts.{Stands, stands_of, stands_on}
-use Rattle.strm_laws.specs.Stacked.{Standing, OfLdterm, OfPtem, OfPckt, module_name, module_puts, kind_name, Module}
+use Rattle.strm_laws.specs.Stacked.{Standing, OfLdterm, OfOwn, OfPtem, OfPckt, module_name, module_puts, kind_name, Module}
 use Rattle.strm_laws.specs.State.{State, Stream, stream, with_stream}
 use Rattle.strm_laws.proofs.RestCosts.{PutPays, above-more, at_or_above, at_or_below, carried-pays, in_turn-pays, sinks_by, toll, toll_at, up-falls}
 use Rattle.strm_laws.proofs.RestLdterms.{ldterm-pays}
+use Rattle.strm_laws.proofs.RestOwns.{own-few}
 use Rattle.strm_laws.proofs.RestPuts.{came-across, came-down, head-few, pckt-few, ptem-few, tolls}
 use Rattle.strm_laws.proofs.StackStays.{Stand, puts-stand}
 
@@ -121,6 +122,7 @@ module _ {C : Type 0} (all : Stands) where
           by (OfLdterm l) fits = ldterm-pays all posts here some fits.0 fits.1 fits.2 m (disciplined l x.queues)
           by (OfPtem q) fits = omega (arith, ptem-few all posts here m q)
           by (OfPckt q) fits = omega (arith, pckt-few all posts cells made here m fits)
+          by (OfOwn o) fits = omega (arith, own-few all posts K cells here m o)
 
       among-pays : (i at : ℕ) (here : Spot) (m : Message C) (ps : List (Standing C)) → 0 < here.at → at + i ≡ here.at → FitNames (echoes all here.side) (echoes all (other here.side)) (posts here.side) at (map module_name ps)
           → let t = put_among (module_puts K cells made) i here m ps in sum_by module_moves t.state + tolls all posts t.sent ≤ sum_by module_moves ps + toll all posts here m
