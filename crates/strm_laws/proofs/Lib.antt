@@ -22,6 +22,7 @@ pub mod RestorableSteps
 pub mod RestCosts
 pub mod RestPuts
 pub mod RestOwns
+pub mod NoOwn
 pub mod RestLdterms
 pub mod RestServes
 pub mod RestStates
