@@ -13,7 +13,7 @@ passes-within here cost Up shape = omega arith
 passes-within here cost Down Asking = omega arith
 passes-within here cost Down shape = omega arith
 
-passes-put : {C : Type 0} (cells : Cells C) (here : Spot) (m : Message C) (x : Own) → OwnPut false cells here m x (passes_all here m x)
+pub passes-put : {C : Type 0} (cells : Cells C) (here : Spot) (m : Message C) (x : Own) → OwnPut false cells here m x (passes_all here m x)
 passes-put cells here m x = record {
   number = refl;
   notes = refl;

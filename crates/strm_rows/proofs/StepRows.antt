@@ -4,6 +4,7 @@ use Rattle.strm_rows.proofs.Prelude.{MasterToSlave, SlaveToMaster, Side, Master,
 use Rattle.strm_rows.proofs.Prelude.{band_of, size_of, cells_of, is_high_priority, driver_of, State, opening, chunk_count, turned, Request, called}
 use Rattle.strm_rows.proofs.Prelude.{PlainEntry, replay, IsLegal}
 use Rattle.std.proofs.Common.{ap}
+use Rattle.std.proofs.lemmas.Bool.{false≢true}
 use Rattle.strm_types.specs.Cells.{Cells}
 use Rattle.strm_types.specs.Events.{Reply}
 use Rattle.strm_laws.specs.Kept.{MayTest}
@@ -50,9 +51,9 @@ turn-of-a-queue-that-rests-is-no-step = λ legal. let second = legal.1.0 in let 
 pub illegal-entry-behind-a-legal-one : IsLegal no_own plain opening (Called (caller Master) OpenMaster Done ∷ Called (caller Master) OpenMaster Done ∷ []) → ⊥
 illegal-entry-behind-a-legal-one = λ legal. let second = legal.1.0 in let allowed = second.allowed in (cc)
 
--- whatever a test says of a byte, it is one of calls, and of a turn of a driver
+-- whatever a test says of a byte, it is one of calls, and of a turn of a driver, where a user has no modules of his own
 pub any-test-of-a-call : {C : Type 0} (cells : Cells C) (p : Dir → C → Bool) (c : Caller) (asked : Request) (answer : Reply) → MayTest no_own cells p (Called c asked answer)
-any-test-of-a-call cells p c asked answer = tt
+any-test-of-a-call cells p c asked answer = λ delivers changes. absurd (false≢true changes)
 
 pub any-test-of-a-driver : {C : Type 0} (cells : Cells C) (p : Dir → C → Bool) (side : Side) (turn : Turn) → MayTest no_own cells p (Turned (driver_of side) turn)
-any-test-of-a-driver cells p side turn = tt
+any-test-of-a-driver cells p side turn = λ changes. absurd (false≢true changes)
