@@ -19,6 +19,7 @@ passes-put cells here m x = record {
   notes = refl;
   once = λ p tests. omega (arith, onward-weighs p here.way here m);
   none_made = λ p. refl;
+  unread = tt;
   within = λ cost. one-few cost (sum_by cost (emits_at here (own_does here.way (shape_of m)))) (toward here.way here) m (passes-within here cost here.way (shape_of m));
   kinds = (λ only. refl, tt);
   fits = omega arith;

@@ -3,9 +3,10 @@
 -- procedure, and makes no cells: it hands on what comes to it, changed or not, drops it by a rule, or answers an M_IOCTL.
 use Rattle.std.specs.Prelude.{ℕ, ◌≡◌, ◌+◌, ◌-◌, ◌/◌, ◌≤◌, ◌<◌, max, Bool, true, false, List, [], ◌∷◌, length, sum_by, Option, None, Some}
 use Rattle.std.specs.List.{AllByRecursion}
-use Rattle.strm_laws.specs.Prelude.{Dir, MsgKind, Data, Ioctl, Spot, Within, emits_at, AreCells, Cells, plain, Acted, Parcel, Message, map_message}
+use Rattle.strm_laws.specs.Prelude.{Dir, MsgKind, Data, Ioctl, Spot, Within, emits_at, AreCells, Cells, plain, Acted, Fate, Goes, Message, map_message}
 use Rattle.strm_laws.specs.Prelude.{weight_of, chunk_count, direction_at, map_acted, shape_of, onward}
 use Rattle.strm_types.specs.declared.limits.TheConstants.{BLOCK_SIZE, SETTINGS_MAX}
+use Rattle.strm_types.specs.declared.rules.Rule.TheVariants.{Read}
 use Rattle.strm_types.specs.Owns.{Own}
 use Rattle.strm_types.specs.Tables.{own_does}
 use Rattle.strm_laws.specs.GoodMessages.{AreGood, GoodMessage}
@@ -25,6 +26,11 @@ is_only_itself Ioctl = true
 is_only_itself _ = false
 
 module _ {C : Type 0} where
+  -- whether cells have gone by the rule of those that a reader has
+  abbrev pub goes_to_readers : Fate C → Bool
+  goes_to_readers (Goes direction Read cells) = true
+  goes_to_readers _ = false
+
   -- how many blocks of each kind a message takes at least (STREAMS Programming Guide, "Message Structure"): those of its parts, or of its other bytes
   abbrev pub part_blocks : Option (List C) → ℕ
   part_blocks None = 0
@@ -43,6 +49,8 @@ pub record OwnPut {C : Type 0} (changes : Bool) (cells : Cells C) (here : Spot) 
   pub once : (p : Dir → C → Bool) → (changes ≡ true → IgnoresMapping cells p)
       → weight_sent p t.sent + weight_gone p t.gone ≡ weight_of (p (direction_at here.way here.side)) m
   pub none_made : (p : Dir → C → Bool) → weight_made p t.gone ≡ 0
+  -- what it drops no reader has
+  pub unread : AllByRecursion (λ f. goes_to_readers f ≡ false) t.gone
   -- It sends no more than its table says, no M_DATA and no M_IOCTL where none came, and takes no block beside those that came.
   pub within : Within t.sent (emits_at here (own_does here.way (shape_of m)))
   pub kinds : AllByRecursion (λ q. is_only_itself q.message.kind ≡ true → q.message.kind ≡ m.kind) t.sent
