@@ -70,7 +70,8 @@ module _ {C : Type 0} where
   group-leaves Master command body s = refl
   group-leaves Slave command body s = refl
 
-  pub told-once : (K : Behaviour) (cells : Cells C) (caller : Caller) (number asked : ℕ) (s : State C) → refused_by_state K s caller (IoctlResult number) ≡ None
+  pub told-once : (K : Behaviour) (cells : Cells C) (caller : Caller) (number asked : ℕ) (s : State C)
+      → refused_by_state K s caller (IoctlResult number) ≡ None
       → refused_by_state K (called K cells caller (IoctlResult number) s).state caller (IoctlResult asked) ≡ Some Einval
   told-once K cells caller number asked s none =
       result-behind asked caller.side s ∙ ap (λ (slot : PlainSlot). result_refusal asked slot) (answered-free number (slot_of caller.side s) none)

@@ -77,7 +77,8 @@ module _ {C : Type 0} (cells : Cells C) where
   Books s told t = BooksMade cells s told t
 
   -- a call that delivers nothing books nothing, and makes nothing
-  performed-same : (K : Behaviour) (caller : Caller) (asked : Request) (s : State C) → delivers asked ≡ false → SameBooks s (performed K cells caller asked s).state
+  performed-same : (K : Behaviour) (caller : Caller) (asked : Request) (s : State C) → delivers asked ≡ false
+      → SameBooks s (performed K cells caller asked s).state
   performed-same K caller Shut s still = close-books caller.side s
   performed-same K caller (Push name) s still = push-holds caller.side (SameBooks s) AnyModules (books-survive s caller.side) (named_by K name) s (λ q. tt) refl
   performed-same K caller Pop s still = pop-holds caller.side (SameBooks s) AnyModules (books-survive s caller.side) s refl
@@ -87,10 +88,12 @@ module _ {C : Type 0} (cells : Cells C) where
   performed-same K caller (Ioctl command body) s still = absurd (cc)
   performed-same K caller _ s still = refl
 
-  pub still-same : (K : Behaviour) (caller : Caller) (asked : Request) (s : State C) → delivers asked ≡ false → SameBooks s (called K cells caller asked s).state
+  pub still-same : (K : Behaviour) (caller : Caller) (asked : Request) (s : State C) → delivers asked ≡ false
+      → SameBooks s (called K cells caller asked s).state
   still-same K caller asked s still = of-called K cells caller asked s (λ outcome. SameBooks s outcome.state) (λ signal. refl) (performed-same K caller asked s still)
 
-  performed-none : (K : Behaviour) (caller : Caller) (asked : Request) (s : State C) → delivers asked ≡ false → all_made (performed K cells caller asked s).gone ≡ 0
+  performed-none : (K : Behaviour) (caller : Caller) (asked : Request) (s : State C) → delivers asked ≡ false
+      → all_made (performed K cells caller asked s).gone ≡ 0
   performed-none K caller Shut s still = close-none (λ d c. true) caller.side s
   performed-none K caller (Push name) s still = push-none (λ d c. true) caller.side (named_by K name) s
   performed-none K caller Pop s still = pop-none (λ d c. true) caller.side s
@@ -119,7 +122,8 @@ module _ {C : Type 0} (cells : Cells C) where
       (booked-behind cells begun t.state (ioctl_told side t.state).state t.gone (delivered-books cells K (record { side = side; at = 1; way = Down }) (ioctl_message (asking command s.next_ioctl) body) begun) refl)
 
   -- the chunks of a write
-  pub chunks-book : (K : Behaviour) (side : Side) (chunks : List (List C)) (s : State C) → let t = chunks_sent K cells side chunks s in Books s t.gone t.state
+  pub chunks-book : (K : Behaviour) (side : Side) (chunks : List (List C)) (s : State C)
+      → let t = chunks_sent K cells side chunks s in Books s t.gone t.state
   chunks-book K side [] s = nothing-booked cells s s refl
   chunks-book K side (chunk ∷ chunks) s =
       let t = delivered K cells (below_head side) (data_message chunk) s in
@@ -394,5 +398,6 @@ module _ {C : Type 0} where
   pub call-few : (K : Behaviour) (cells : Cells C) (caller : Caller) (asked : Request) (s : State C) → or_else (refused_at_once s caller asked) (refused_by_state K s caller asked) ≡ None → WritesFew asked → FewBooked s
       → (in_range s ≡ true → MadeFew (called K cells caller asked s).state) → FewBooked (called K cells caller asked s).state
   call-few K cells caller asked s allowed less few made =
-      of-allowed K cells caller asked s (λ outcome. (in_range s ≡ true → MadeFew outcome.state) → FewBooked outcome.state) (λ signal made. few) allowed
+      of-allowed K cells caller asked s (λ outcome. (in_range s ≡ true → MadeFew outcome.state) → FewBooked outcome.state)
+      (λ signal made. few) allowed
       (λ fits. performed-few K cells caller asked s fits less few) made

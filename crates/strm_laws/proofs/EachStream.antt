@@ -112,7 +112,9 @@ module _ {C : Type 0} (P : Side → Stream C → Type 0) where
     push-each side (Some name) s all =
         let ps = (stream side s).modules in
         named-each K name (λ o. OfEach (pushed_named side o s).state) all
-        (λ known. pushed-holds side OfEach Good (survives side) (module_named K name) s (changes.above name ps (changes.good side (stream side s) (all side))) all)
+        (λ known.
+        let good = changes.above name ps (changes.good side (stream side s) (all side)) in
+        pushed-holds side OfEach Good (survives side) (module_named K name) s good all)
 
     pop-each : (side : Side) (s : State C) → OfEach s → OfEach (popped side s).state
     pop-each side s all = pop-holds side OfEach Good (survives side) s all

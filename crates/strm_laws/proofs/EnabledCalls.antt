@@ -235,7 +235,8 @@ module _ {C : Type 0} where
     told-named : (side : Side) (s : State C) → Named s → Named (with_ioctl side (slot_behind (stream side s).head.ioctl) s)
     told-named side s are = same-named side _ s refl are
 
-    ioctl-named : (K : Behaviour) (side : Side) (command : ℕ) (body : List ℕ) (s : State C) → Named s → Named (ioctl_called K cells side command body s).state
+    ioctl-named : (K : Behaviour) (side : Side) (command : ℕ) (body : List ℕ) (s : State C) → Named s
+        → Named (ioctl_called K cells side command body s).state
     ioctl-named K side command body s are = at (asks_group side command)
       where
         at : (group : Bool) → Named (cond group (group_at side command body s) (ioctl_at K cells side command body s)).state

@@ -57,7 +57,8 @@ module _ {C : Type 0} (cells : Cells C) where
       let u = in_turn (carried (put_in K cells) hops) t.sent t.state in
       record { state = u.state; gone = t.gone ++ u.gone }
 
-  pub carries : (K : Behaviour) (hops : ℕ) (p : Parcel C) (s : State C) → carried (put_in K cells) (suc hops) p s ≡ went_on K hops (put_in K cells p.to p.message s)
+  pub carries : (K : Behaviour) (hops : ℕ) (p : Parcel C) (s : State C) → carried (put_in K cells) (suc hops) p s
+      ≡ went_on K hops (put_in K cells p.to p.message s)
   unfolding carried
   carries K hops p s = refl
 

@@ -179,10 +179,12 @@ module _ {C : Type 0} (cells : Cells C) (are : AreCells cells) where
       at places.Head s = refl
       at (places.Module owner) s = module_turned-forgets cells are K name turn s
 
-  pub after-forgets : (K : Behaviour) (s : State C) (e : PlainEntry) → after K plain (map_state cells.byte s) e ≡ map_state cells.byte (after K cells s e)
+  pub after-forgets : (K : Behaviour) (s : State C) (e : PlainEntry) → after K plain (map_state cells.byte s) e
+      ≡ map_state cells.byte (after K cells s e)
   after-forgets K s (Called caller asked answer) = ap (λ (o : Outcome ℕ). o.state) (call-forgets K caller asked s)
   after-forgets K s (Turned name turn) = ap (λ (o : TurnOutcome ℕ). o.state) (turn-forgets K name turn s)
 
-  pub replay-forgets : (K : Behaviour) (s : State C) (es : List PlainEntry) → replay K plain (map_state cells.byte s) es ≡ map_state cells.byte (replay K cells s es)
+  pub replay-forgets : (K : Behaviour) (s : State C) (es : List PlainEntry) → replay K plain (map_state cells.byte s) es
+      ≡ map_state cells.byte (replay K cells s es)
   replay-forgets K s [] = refl
   replay-forgets K s (e ∷ es) = ap (λ (t : State ℕ). replay K plain t es) (after-forgets K s e) ∙ replay-forgets K (after K cells s e) es

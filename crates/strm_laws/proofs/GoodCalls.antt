@@ -88,7 +88,8 @@ module _ {C : Type 0} where
   }
 
   -- pushes and pops
-  one-more : (K : Behaviour) (name : ModuleName) (ps : List (Standing C)) → is_known K name ≡ true → may_stand (Some (module_named K name)) ps ≡ true → GoodModules ps
+  one-more : (K : Behaviour) (name : ModuleName) (ps : List (Standing C)) → is_known K name ≡ true → may_stand (Some (module_named K name)) ps ≡ true
+      → GoodModules ps
       → GoodModules (module_named K name ∷ ps)
   one-more K name ps known may good = record {
     each = ((new K name).good known, good.each);
@@ -100,7 +101,9 @@ module _ {C : Type 0} where
   push-streams K side None s may all = all
   push-streams K side (Some name) s may all =
       named-each K name (λ o. may_stand o (stream side s).modules ≡ true → OpenGood side (pushed_named side o s).state) (λ may. all)
-      (λ known may. pushed-holds side (OpenGood side) GoodModules (survives side) (module_named K name) s (one-more K name (stream side s).modules known may (all.0.0 side).modules) all)
+      (λ known may.
+      let good = one-more K name (stream side s).modules known may (all.0.0 side).modules in
+      pushed-holds side (OpenGood side) GoodModules (survives side) (module_named K name) s good all)
       may
 
   -- closes: when all modules are taken, none is left
@@ -195,7 +198,8 @@ module _ {C : Type 0} where
     went-streams true size s t more one two = one
     went-streams false size s t more one two = two
 
-    chunks-streams : (K : Behaviour) (side : Side) (chunks : List (List C)) (s : State C) → AreStreams s → AreStreams (chunks_sent K cells side chunks s).state
+    chunks-streams : (K : Behaviour) (side : Side) (chunks : List (List C)) (s : State C) → AreStreams s
+        → AreStreams (chunks_sent K cells side chunks s).state
     chunks-streams K side [] s all = all
     chunks-streams K side (chunk ∷ chunks) s all =
         let t = delivered K cells (below_head side) (data_message chunk) s in

@@ -68,4 +68,5 @@ module _ {C : Type 0} (Good : Message C → Type 0) where
       delivered-good to m s good holds = good-carried Holds (put_in K cells) puts-good HOPS (record { to = to; message = m }) s good holds
 
       pub sent-good : (ps : List (Parcel C)) (s : State C) → AreGood Good ps → Holds s → Holds (in_turn (carried (put_in K cells) HOPS) ps s).state
-      sent-good ps s good holds = good-in_turn Holds (carried (put_in K cells) HOPS) (good-carried Holds (put_in K cells) puts-good HOPS) ps s good holds
+      sent-good ps s good holds =
+          good-in_turn Holds (carried (put_in K cells) HOPS) (good-carried Holds (put_in K cells) puts-good HOPS) ps s good holds

@@ -84,7 +84,8 @@ module _ {C : Type 0} where
   driver-streams side q s fits all = streams-with side (with_driver_queue q (stream side s)) s (driver-queue-good side q (stream side s) fits (all.0 side)) all
 
 module _ {C : Type 0} (cells : Cells C) where
-  pub delivered-streams : (K : Behaviour) (to : Spot) (m : Message C) (s : State C) → GoodMessage m → AreStreams s → AreStreams (delivered K cells to m s).state
+  pub delivered-streams : (K : Behaviour) (to : Spot) (m : Message C) (s : State C) → GoodMessage m → AreStreams s
+      → AreStreams (delivered K cells to m s).state
   delivered-streams K to m s fits all = delivered-good GoodMessage AreStreams K cells (stream-parts cells K) to m s fits all
 
   module _ (K : Behaviour) (here : Spot) where
@@ -131,7 +132,8 @@ module _ {C : Type 0} (cells : Cells C) where
         let ps = (stream here.side s).modules in
         outcome-holds AreStreams (at_place module_rests false here.at ps) _ _ (asked-good (at_place (module_asks here.way) asked.Empty here.at ps) name turn s all) all
 
-  named-good : (K : Behaviour) (name : QueueName) (turn : Turn) (s : State C) (o : Option ℕ) → AreStreams s → AreStreams (turned_named K cells name turn s o).state
+  named-good : (K : Behaviour) (name : QueueName) (turn : Turn) (s : State C) (o : Option ℕ) → AreStreams s
+      → AreStreams (turned_named K cells name turn s o).state
   named-good K name turn s None all = all
   named-good K name turn s (Some at) all = there-good K (record { side = name.side; at = at; way = name.way }) name turn s all
 

@@ -31,7 +31,8 @@ module _ {C : Type 0} where
     pub told-keeps : (side : Side) (s : State C) → state_weight p (ioctl_told side s).state ≡ state_weight p s
     told-keeps side s = ioctl-keeps side (slot_behind (stream side s).head.ioctl) s
 
-    pub sent-keeps : (K : Behaviour) (cells : Cells C) → MayTestOwn K cells p → (side : Side) (command : ℕ) (body : List ℕ) (s : State C) → let t = ioctl_sent K cells side command body s in
+    pub sent-keeps : (K : Behaviour) (cells : Cells C) → MayTestOwn K cells p → (side : Side) (command : ℕ) (body : List ℕ) (s : State C)
+        → let t = ioctl_sent K cells side command body s in
         state_weight p (ioctl_told side t.state).state + weight_gone p t.gone ≡ state_weight p s + weight_made p t.gone
     sent-keeps K cells tests side command body s =
         let ioc = asking command s.next_ioctl in

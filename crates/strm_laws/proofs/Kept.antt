@@ -42,7 +42,8 @@ module _ {C : Type 0} where
       at false = refl
 
   module _ (p : Dir → C → Bool) where
-    write-keeps : (K : Behaviour) (cells : Cells C) → MayTestOwn K cells p → (side : Side) (bytes : List ℕ) (s : State C) → let t = write_sent K cells side bytes s in
+    write-keeps : (K : Behaviour) (cells : Cells C) → MayTestOwn K cells p → (side : Side) (bytes : List ℕ) (s : State C)
+        → let t = write_sent K cells side bytes s in
         state_weight p (wrote K cells side bytes s).state + weight_gone p t.gone ≡ state_weight p s + (count_by (p (direction_from side)) (wrote K cells side bytes s).came + weight_made p t.gone)
     write-keeps K cells tests side bytes s =
         let dir = direction_from side in
@@ -99,7 +100,8 @@ module _ {C : Type 0} where
     performed-keeps K cells caller Shut s tests unread idle allowed = omega (arith, closed_at-keeps p caller.side s (idle caller.side))
     performed-keeps K cells caller (Push name) s tests unread idle allowed = omega (arith, push-keeps p K caller.side name s)
     performed-keeps K cells caller Pop s tests unread idle allowed = omega (arith, pop-keeps p caller.side s (idle caller.side))
-    performed-keeps K cells caller (Flush what band) s tests unread idle allowed = omega (arith, flushed_on-keeps K cells p (tests refl) band caller.side what s)
+    performed-keeps K cells caller (Flush what band) s tests unread idle allowed =
+        omega (arith, flushed_on-keeps K cells p (tests refl) band caller.side what s)
     performed-keeps K cells caller OpenSlave s tests unread idle allowed =
         let by_state = or_else-none _ _ (or_else-none (refused_at_once s caller OpenSlave) _ allowed).1 in
         let closed = closed-of (is_open s.ends.slave.opened) (unless-none (not (is_open s.ends.slave.opened)) Einval by_state.0) in
@@ -107,7 +109,8 @@ module _ {C : Type 0} where
         omega (arith, nothing)
     performed-keeps K cells caller (Write bytes) s tests unread idle allowed = write-keeps K cells (tests refl) caller.side bytes s
     performed-keeps K cells caller (Read n) s tests unread idle allowed = omega (arith, read-keeps cells caller.side n s)
-    performed-keeps K cells caller (Put prio control body) s tests unread idle allowed = put_at-keeps p K cells (tests refl) caller.side prio control body s
+    performed-keeps K cells caller (Put prio control body) s tests unread idle allowed =
+        put_at-keeps p K cells (tests refl) caller.side prio control body s
     performed-keeps K cells caller (Get wanted cmax dmax) s tests unread idle allowed = omega (arith, get-keeps cells caller.side wanted cmax dmax s)
     performed-keeps K cells caller (Mode mode) s tests unread idle allowed = omega (arith, mode-keeps caller.side mode s)
     performed-keeps K cells caller (Ioctl command body) s tests unread idle allowed = at (asks_group caller.side command)

@@ -1,5 +1,5 @@
 -- What a module owes the stream on which it stands, of whatever kind it is: what it does loses no cell, keeps within the table of its name, and is
--- the same where the origins of cells are forgotten. LawfulKinds says that each kind is so; of a put it says so for any behaviour of a user's own modules.
+-- the same where the origins of cells are forgotten. LawfulKinds says that each kind is so, and of a put for any behaviour of a user's own modules.
 use Rattle.strm_laws.proofs.Prelude.{ℕ, ◌≡◌, ◌≤◌, ◌+◌, ◌-◌, ◌*◌, Bool, true, false, length, map, Option, Some, count_by, None}
 use Rattle.strm_laws.specs.Prelude.{Dir, ModuleName, Side, Way, Up, Spot, emits_at, Within, AreCells, Cells, plain, Tagged, Acted, made_of}
 use Rattle.strm_laws.specs.Prelude.{stages_done, Begins, Ends, disciplined, map_message, Message, weight_of, direction_at, other, map_acted, Serving}

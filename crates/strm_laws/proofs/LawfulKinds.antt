@@ -1,6 +1,6 @@
 -- Each kind of module is lawful: the one place that names them all.
-use Rattle.strm_laws.proofs.Prelude.{ℕ, ◌≡◌, true, [], ◌∷◌, refl, ap, ◌∙◌, arith, Bool, false, cond, None, Option, Some, count_by, option_map, false≢true}
-use Rattle.strm_laws.proofs.Prelude.{idle-stays, puts-stay, puts-each, pckt-within, puts-gone, ptem-within}
+use Rattle.strm_laws.proofs.Prelude.{ℕ, ◌≡◌, true, [], ◌∷◌, refl, ap, ◌∙◌, arith, Bool, false, cond, None, Option, Some, count_by, option_map}
+use Rattle.strm_laws.proofs.Prelude.{idle-stays, puts-stay, puts-each, pckt-within, puts-gone, ptem-within, false≢true}
 use Rattle.strm_laws.specs.Prelude.{Dir, ModuleName, Side, Way, Up, Spot, ldterm_asks, Cells, plain, made_of, kind_number, ldterm_puts, ldterm_serves}
 use Rattle.strm_laws.specs.Prelude.{disciplined, map_message, Message, direction_at, other, Pckt, plain_packed, Ptem, ptem_puts, done_by, served_by}
 use Rattle.strm_laws.specs.Prelude.{map_pair, QueuePair, stood}
@@ -52,7 +52,8 @@ module _ {C : Type 0} where
   ready way left part queues rests = tt
 
   module _ (K : Behaviour) (cells : Cells C) where
-    put : (part : Module C) (queues : Option (QueuePair C)) (made : ℕ) (here : Spot) (m : Message C) → LawfulPut (stood part queues) K cells made here m
+    put : (part : Module C) (queues : Option (QueuePair C)) (made : ℕ) (here : Spot) (m : Message C)
+        → LawfulPut (stood part queues) K cells made here m
     put (OfLdterm l) queues made here m =
         let d = disciplined l queues in
         let t = ldterm_puts here m d in
@@ -155,7 +156,8 @@ lawful x = record {
   call = λ cells. call cells x.part x.queues;
 }
 
-pub puts-lawfully : {C : Type 0} (K : Behaviour) (x : Standing C) (cells : Cells C) (made : ℕ) (here : Spot) (m : Message C) → LawfulPut x K cells made here m
+pub puts-lawfully : {C : Type 0} (K : Behaviour) (x : Standing C) (cells : Cells C) (made : ℕ) (here : Spot) (m : Message C)
+    → LawfulPut x K cells made here m
 puts-lawfully K x cells made here m = put K cells x.part x.queues made here m
 
 -- and plain
@@ -208,7 +210,8 @@ new K names.Ldterm = record {
     has = refl;
   };
 }
-new K names.Ptem = record { forgets = λ f. refl; weighs = λ p side. refl; rests = tt; good = λ known. record { kind = refl; queues = tt; has = refl } }
+new K names.Ptem =
+    record { forgets = λ f. refl; weighs = λ p side. refl; rests = tt; good = λ known. record { kind = refl; queues = tt; has = refl } }
 new K names.Pckt = record { forgets = λ f. refl; weighs = λ p side. refl; rests = tt; good = λ known. record { kind = tt; queues = tt; has = refl } }
 new K (names.Own n) = record {
   forgets = λ f. refl;
@@ -218,7 +221,8 @@ new K (names.Own n) = record {
 }
 
 -- what is pushed by a name: such a module where there are any, and else none
-pub named-each : {C : Type 0} (K : Behaviour) (name : ModuleName) (P : Option (Standing C) → Type 0) → P None → (is_known K name ≡ true → P (Some (module_named K name)))
+pub named-each : {C : Type 0} (K : Behaviour) (name : ModuleName) (P : Option (Standing C) → Type 0) → P None
+    → (is_known K name ≡ true → P (Some (module_named K name)))
     → P (named_by K (Some name))
 named-each K name P none some = at (is_known K name) refl
   where

@@ -34,7 +34,8 @@ module _ {C D : Type 0} (f : C → D) (acts : Standing C → Acted C (Standing C
       ap (λ (t : Acted D (List (Standing D))). record { state = map_module f p ∷ t.state; notes = t.notes; sent = t.sent; gone = t.gone })
       (acts-forget same i ps)
 
-pub among-forgets : {C : Type 0} (K : Behaviour) (cells : Cells C) → AreCells cells → (made i : ℕ) (here : Spot) (m : Message C) (ps : List (Standing C))
+pub among-forgets : {C : Type 0} (K : Behaviour) (cells : Cells C) → AreCells cells
+    → (made i : ℕ) (here : Spot) (m : Message C) (ps : List (Standing C))
     → let f = cells.byte in
     put_among (module_puts K plain made) i here (map_message f m) (map (map_module f) ps)
     ≡ map_acted f (map (map_module f)) (put_among (module_puts K cells made) i here m ps)

@@ -243,54 +243,56 @@ module _ (here : Spot) where
             ∙ both-behind gone w.gone u.gone bytes b v
 
     -- the last call
-    module _ (K : Behaviour) (name : QueueName) (again : Bool) (bytes : ℕ) (gone : List (Fate ℕ)) (s : State ℕ) (r : Reached K again bytes gone s) where
-      -- how far the turn goes by it
-      abbrev all : Option ℕ → ℕ
-      all stop = bytes + treated here again stop (stream here.side s).modules
+    module _ (K : Behaviour) (name : QueueName) (again : Bool) (bytes : ℕ) (gone : List (Fate ℕ)) (s : State ℕ)
+        (r : Reached K again bytes gone s)
+      where
+        -- how far the turn goes by it
+        abbrev all : Option ℕ → ℕ
+        all stop = bytes + treated here again stop (stream here.side s).modules
 
-      abbrev ended : Option ℕ → TurnOutcome ℕ
-      ended stop = record { turn = Moved (all stop); state = module_turn_ended name here (not (all stop == 0)) (led K here again stop s).state; gone = gone ++ (led K here again stop s).gone }
+        abbrev ended : Option ℕ → TurnOutcome ℕ
+        ended stop = record { turn = Moved (all stop); state = module_turn_ended name here (not (all stop == 0)) (led K here again stop s).state; gone = gone ++ (led K here again stop s).gone }
 
-      -- it is the same within what it treated
-      abbrev IsLast : Option ℕ → Type 0
-      IsLast stop =
-          let b = treated here again stop (stream here.side s).modules in
-          Ends here.way again (discipline_of (module_at here s)) b × ((made : ℕ) → module_serves plain here made again (Some b) (module_at here s) ≡ module_serves plain here 0 again stop (module_at here s))
+        -- it is the same within what it treated
+        abbrev IsLast : Option ℕ → Type 0
+        IsLast stop =
+            let b = treated here again stop (stream here.side s).modules in
+            Ends here.way again (discipline_of (module_at here s)) b × ((made : ℕ) → module_serves plain here made again (Some b) (module_at here s) ≡ module_serves plain here 0 again stop (module_at here s))
 
-      last-is : (stop : Option ℕ) → asks_on here again stop (stream here.side s).modules ≡ false → Stopped here again s stop → IsLast stop
-      last-is None over _ =
-          let ps = (stream here.side s).modules in
-          let l = module_at here s in
-          let i = here.at - 1 in
-          let over : (module_serves plain here 0 again None l).again ≡ false = sym (index-map none_there (λ p. (module_serves plain here 0 again None p).again) false i ps r.inside) ∙ over in
-          let bytes_is = index-map none_there (λ p. (module_serves plain here 0 again None p).bytes) 0 i ps r.inside in
-          let e = module-ends here again l r.begins over in
-          (record { treat = let a = e.0.treat in omega (arith, bytes_is); done = let a = e.0.done in omega (arith, bytes_is) }, λ made. ap (λ n. module_serves plain here made again (Some n) l) bytes_is ∙ e.1 made)
-      last-is (Some n) over is =
-          let l = module_at here s in (
-            subst (λ b. Ends here.way again (discipline_of l) b) is.0 is.1,
-            λ made. ap (λ b. module_serves plain here made again (Some b) l) (sym is.0) ∙ (plainly l).call_same here again (Some n) made,
-          )
+        last-is : (stop : Option ℕ) → asks_on here again stop (stream here.side s).modules ≡ false → Stopped here again s stop → IsLast stop
+        last-is None over _ =
+            let ps = (stream here.side s).modules in
+            let l = module_at here s in
+            let i = here.at - 1 in
+            let over : (module_serves plain here 0 again None l).again ≡ false = sym (index-map none_there (λ p. (module_serves plain here 0 again None p).again) false i ps r.inside) ∙ over in
+            let bytes_is = index-map none_there (λ p. (module_serves plain here 0 again None p).bytes) 0 i ps r.inside in
+            let e = module-ends here again l r.begins over in
+            (record { treat = let a = e.0.treat in omega (arith, bytes_is); done = let a = e.0.done in omega (arith, bytes_is) }, λ made. ap (λ n. module_serves plain here made again (Some n) l) bytes_is ∙ e.1 made)
+        last-is (Some n) over is =
+            let l = module_at here s in (
+              subst (λ b. Ends here.way again (discipline_of l) b) is.0 is.1,
+              λ made. ap (λ b. module_serves plain here made again (Some b) l) (sym is.0) ∙ (plainly l).call_same here again (Some n) made,
+            )
 
-      last-moves : (stop : Option ℕ) → asks_on here again stop (stream here.side s).modules ≡ false → IsLast stop → moved_on K plain here name (all stop) s0 ≡ ended stop
-      last-moves stop over is =
-          let ps = (stream here.side s).modules in
-          let b = treated here again stop ps in
-          let more = 3 * (bytes + b) - r.made in
-          let w = module_acted here (called here again stop ps) s in
-          let u = in_turn (carried (put_in K plain) HOPS) w.sent w.state in
-          ap (λ (t : Calls ℕ). cond {A = TurnOutcome ℕ} t.ended (record { turn = Moved t.bytes; state = module_turn_ended name here (not (t.bytes == 0)) t.state; gone = t.gone }) (stayed_put Blocked s0))
-          (ap (λ n. calls K plain here n false (bytes + b) s0) (let few = r.few in let done = is.0.done in let e : 3 * (bytes + b) + 1 ≡ r.made + suc more = omega (arith, few, done) in e)
-          ∙ r.goes b (suc more) is.0.done
-          ∙ ap (behind gone bytes) (call-same K more b again stop s r.inside is.1)
-          ∙ ap (λ x. behind gone bytes (next_of K more b (called here again stop ps) b x s)) over)
+        last-moves : (stop : Option ℕ) → asks_on here again stop (stream here.side s).modules ≡ false → IsLast stop → moved_on K plain here name (all stop) s0 ≡ ended stop
+        last-moves stop over is =
+            let ps = (stream here.side s).modules in
+            let b = treated here again stop ps in
+            let more = 3 * (bytes + b) - r.made in
+            let w = module_acted here (called here again stop ps) s in
+            let u = in_turn (carried (put_in K plain) HOPS) w.sent w.state in
+            ap (λ (t : Calls ℕ). cond {A = TurnOutcome ℕ} t.ended (record { turn = Moved t.bytes; state = module_turn_ended name here (not (t.bytes == 0)) t.state; gone = t.gone }) (stayed_put Blocked s0))
+            (ap (λ n. calls K plain here n false (bytes + b) s0) (let few = r.few in let done = is.0.done in let e : 3 * (bytes + b) + 1 ≡ r.made + suc more = omega (arith, few, done) in e)
+            ∙ r.goes b (suc more) is.0.done
+            ∙ ap (behind gone bytes) (call-same K more b again stop s r.inside is.1)
+            ∙ ap (λ x. behind gone bytes (next_of K more b (called here again stop ps) b x s)) over)
 
-      -- The turn went so far, and led to that.
-      pub reached-last : (stop : Option ℕ) → asks_on here again stop (stream here.side s).modules ≡ false → Stopped here again s stop
-          → (all stop ≤ bytes_left here.way false (discipline_of (module_at here s0))) × (moved_on K plain here name (all stop) s0 ≡ ended stop)
-      reached-last stop over stopped =
-          let is = last-is stop over stopped in
-          (let treat = is.0.treat in omega (arith, r.within, treat), last-moves stop over is)
+        -- The turn went so far, and led to that.
+        pub reached-last : (stop : Option ℕ) → asks_on here again stop (stream here.side s).modules ≡ false → Stopped here again s stop
+            → (all stop ≤ bytes_left here.way false (discipline_of (module_at here s0))) × (moved_on K plain here name (all stop) s0 ≡ ended stop)
+        reached-last stop over stopped =
+            let is = last-is stop over stopped in
+            (let treat = is.0.treat in omega (arith, r.within, treat), last-moves stop over is)
 
   pub whole : (way : Way) (p : Standing ℕ) → bytes_left way false (discipline_of p) ≡ first_size (messages_at way p)
   whole Up p = ap (λ ms. first_size ms) (stands-at Up (ldterm_of p.part) p.queues)

@@ -71,10 +71,12 @@ module _ {C : Type 0} (P : State C → Type 0) (stays : Stays P) where
         let ps = (stream here.side s).modules in
         outcome-holds (at_place module_rests false here.at ps) _ _ (asked-holds (at_place (module_asks here.way) asked.Empty here.at ps) name turn s holds) holds
 
-  named-holds : (K : Behaviour) (cells : Cells C) (name : QueueName) (turn : Turn) (s : State C) (o : Option ℕ) → P s → P (turned_named K cells name turn s o).state
+  named-holds : (K : Behaviour) (cells : Cells C) (name : QueueName) (turn : Turn) (s : State C) (o : Option ℕ) → P s
+      → P (turned_named K cells name turn s o).state
   named-holds K cells name turn s None holds = holds
   named-holds K cells name turn s (Some at) holds = there-holds K cells (record { side = name.side; at = at; way = name.way }) name turn s holds
 
   -- whatever stays so, stays behind a turn
-  pub module_turned-holds : (K : Behaviour) (cells : Cells C) (name : QueueName) (turn : Turn) (s : State C) → P s → P (module_turned K cells name turn s).state
+  pub module_turned-holds : (K : Behaviour) (cells : Cells C) (name : QueueName) (turn : Turn) (s : State C) → P s
+      → P (module_turned K cells name turn s).state
   module_turned-holds K cells name turn s holds = named-holds K cells name turn s (place_named name.place (stream name.side s).modules) holds

@@ -194,7 +194,8 @@ module _ {C : Type 0} (cells : Cells C) (are : AreCells cells) where
       (at_place-same f (λ p. (module_serves cells here made again (Some left) p).bytes) (λ p. (module_serves plain here made again (Some left) p).bytes) (bytes-same here made again left) 0 here.at ps)
       ∙ ap (λ x. next goes bytes x) (called-same here again left s)
       ∙ ap (λ (y : Carried ℕ (State ℕ)). went_on goes bytes (map_took f (map_state f) t) y (calls K plain here more true (left - bytes) y.state)) (sent-same K t)
-      ∙ ap (λ v. went_on goes bytes (map_took f (map_state f) t) (map_carried f (map_state f) u) v) (calls-same K here more true (left - bytes) u.state)
+      ∙ ap (λ v. went_on goes bytes (map_took f (map_state f) t) (map_carried f (map_state f) u) v)
+      (calls-same K here more true (left - bytes) u.state)
       ∙ went_on-same goes bytes t u (calls K cells here more true (left - bytes) u.state)
 
   -- a turn that treats bytes

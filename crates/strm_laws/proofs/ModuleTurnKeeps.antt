@@ -132,7 +132,8 @@ module _ {C : Type 0} (cells : Cells C) (here : Spot) where
         turn-sent K cells here.side (HasCall true less) (call-stays K true less) t.sent t.state
         (called-turn (HasCall true less) (among-goes cells here (made_below here.side s) again left (here.at - 1) on_it (turn-on here.side (HasCall again left) s turn) works))
 
-    out-rests : (K : Behaviour) → again_at cells here (made_below here.side s) again left on_it ≡ false → InTurn here.side AllIdle (called_out K again left s).state
+    out-rests : (K : Behaviour) → again_at cells here (made_below here.side s) again left on_it ≡ false
+        → InTurn here.side AllIdle (called_out K again left s).state
     out-rests K over =
         let t = module_called cells here again left s in
         turn-sent K cells here.side AllIdle (among-idle K cells) t.sent t.state
@@ -182,7 +183,8 @@ module _ {C : Type 0} (cells : Cells C) (here : Spot) where
       at true behind = ended-idle here (not (t.bytes == 0)) t.state (behind refl)
       at false behind = idle
 
-  asked-rests : (K : Behaviour) (asks : Asks) (name : QueueName) (turn : Turn) (s : State C) → AreIdle s → Rests (asked_turn K cells here asks name turn s)
+  asked-rests : (K : Behaviour) (asks : Asks) (name : QueueName) (turn : Turn) (s : State C) → AreIdle s
+      → Rests (asked_turn K cells here asks name turn s)
   asked-rests K asked.Empty name turn s idle = ended-idle here false s idle
   asked-rests K asked.Held name turn s idle = ended-idle here false s idle
   asked-rests K asked.Free name turn s idle = moved-rests K name _ s idle
@@ -218,7 +220,8 @@ module _ {C : Type 0} (p : Dir → C → Bool) where
       omega (arith, with-keeps here.side (queue_ended here took (stream here.side s)).modules s.enabled s, changes-keep (turn_ended took) p here.side (ended-messages took) here.way (here.at - 1) ps)
 
   -- what was sent is delivered
-  carries : (K : Behaviour) (cells : Cells C) → MayTestOwn K cells p → (sent : List (Parcel C)) → AllByRecursion (CarryKeeps p (state_weight p) (carried (put_in K cells) HOPS)) sent
+  carries : (K : Behaviour) (cells : Cells C) → MayTestOwn K cells p → (sent : List (Parcel C))
+      → AllByRecursion (CarryKeeps p (state_weight p) (carried (put_in K cells) HOPS)) sent
   carries K cells tests [] = tt
   carries K cells tests (q ∷ sent) = (delivered-keeps K cells p tests q.to q.message, carries K cells tests sent)
 
@@ -277,7 +280,8 @@ module _ {C : Type 0} (p : Dir → C → Bool) where
     abbrev Keeps : ℕ → TurnOutcome C → Type 0
     Keeps n t = state_weight p t.state + weight_gone p t.gone ≡ n + weight_made p t.gone
 
-    moved-keeps : (K : Behaviour) (name : QueueName) (bytes : ℕ) (s : State C) → AreIdle s → Keeps (state_weight p s) (moved_on K cells here name bytes s)
+    moved-keeps : (K : Behaviour) (name : QueueName) (bytes : ℕ) (s : State C) → AreIdle s
+        → Keeps (state_weight p s) (moved_on K cells here name bytes s)
     moved-keeps K name bytes s idle =
         let t = calls K cells here (3 * bytes + 1) false bytes s in
         let kept = calls-keep K (3 * bytes + 1) false bytes s (begun cells here bytes s idle) in
@@ -292,7 +296,8 @@ module _ {C : Type 0} (p : Dir → C → Bool) where
         either (Keeps (state_weight p s)) (has_room_past here.side here.way here.at band.0 s) (moved_within K cells here name turn s) (waits_there band.0 here s) (moved-keeps K name _ s idle)
         (omega (arith, ended-keeps here false waiting, waits-keeps p here.side here.way here.at band.0 s))
 
-    there-keeps : (K : Behaviour) (name : QueueName) (turn : Turn) (s : State C) → AreIdle s → Keeps (state_weight p s) (turned_there K cells here name turn s)
+    there-keeps : (K : Behaviour) (name : QueueName) (turn : Turn) (s : State C) → AreIdle s
+        → Keeps (state_weight p s) (turned_there K cells here name turn s)
     there-keeps K name turn s idle =
         let ps = (stream here.side s).modules in
         let asks = at_place (module_asks here.way) asked.Empty here.at ps in

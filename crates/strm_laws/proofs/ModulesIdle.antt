@@ -25,5 +25,6 @@ module _ {C : Type 0} where
   pub puts-rest : (K : Behaviour) (cells : Cells C) → PutHolds {C = C} AreIdle (put_in K cells)
   puts-rest K cells = puts-good AllOn K cells (λ side. among-idle K cells)
 
-  pub delivered-idle : (K : Behaviour) (cells : Cells C) (to : Spot) (m : Message C) (s : State C) → AreIdle s → AreIdle (delivered K cells to m s).state
+  pub delivered-idle : (K : Behaviour) (cells : Cells C) (to : Spot) (m : Message C) (s : State C) → AreIdle s
+      → AreIdle (delivered K cells to m s).state
   delivered-idle K cells to m s idle = carried-holds AreIdle (put_in K cells) (puts-rest K cells) HOPS (record { to = to; message = m }) s idle

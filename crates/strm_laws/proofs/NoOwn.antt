@@ -8,7 +8,8 @@ use Rattle.strm_laws.specs.Behaviours.{Behaviour, OwnPut, passes_all}
 use Rattle.strm_laws.proofs.LdtermKeeps.{onward-weighs}
 
 -- what passes is within the table
-pub passes-within : (here : Spot) (cost : At → ℕ) (way : Way) (shape : Shape) → cost (record { to = toward way here; shape = shape }) ≤ sum_by cost (emits_at here (own_does way shape))
+pub passes-within : (here : Spot) (cost : At → ℕ) (way : Way) (shape : Shape) → cost (record { to = toward way here; shape = shape })
+    ≤ sum_by cost (emits_at here (own_does way shape))
 passes-within here cost Up shape = omega arith
 passes-within here cost Down Asking = omega arith
 passes-within here cost Down shape = omega arith
@@ -20,7 +21,10 @@ passes-put cells here m x = record {
   once = λ p tests. omega (arith, onward-weighs p here.way here m);
   none_made = λ p. refl;
   unread = tt;
-  within = λ cost. one-few cost (sum_by cost (emits_at here (own_does here.way (shape_of m)))) (toward here.way here) m (passes-within here cost here.way (shape_of m));
+  within = λ cost. (
+      let most = sum_by cost (emits_at here (own_does here.way (shape_of m))) in
+      one-few cost most (toward here.way here) m (passes-within here cost here.way (shape_of m))
+      );
   kinds = (λ only. refl, tt);
   fits = omega arith;
   sends = λ good. (good, tt);

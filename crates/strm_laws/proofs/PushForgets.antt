@@ -183,7 +183,8 @@ module _ {C D : Type 0} (f : C → D) where
   named_by-forgets K None = refl
   named_by-forgets K (Some name) = at (is_known K name)
     where
-      at : (known : Bool) → cond known (Some (module_named {C = D} K name)) None ≡ option_map (map_module f) (cond known (Some (module_named {C = C} K name)) None)
+      at : (known : Bool) → cond known (Some (module_named {C = D} K name)) None
+          ≡ option_map (map_module f) (cond known (Some (module_named {C = C} K name)) None)
       at true = ap (λ p. Some p) ((new K name).forgets f)
       at false = refl
 

@@ -128,7 +128,8 @@ module _ {C : Type 0} (p : Dir → C → Bool) where
       let apart = modules-weigh side (l ∷ (stream side s).modules) s in
       omega arith
 
-  pub push-keeps : (K : Behaviour) (side : Side) (name : Option ModuleName) (s : State C) → Keeps (pushed_named side (named_by K name) s) (state_weight p s)
+  pub push-keeps : (K : Behaviour) (side : Side) (name : Option ModuleName) (s : State C)
+      → Keeps (pushed_named side (named_by K name) s) (state_weight p s)
   push-keeps K side None s = refl
   push-keeps K side (Some name) s = named-each K name (λ o. Keeps (pushed_named side o s) (state_weight p s)) refl
       (λ known. omega (arith, (new K name).weighs p side, pushed-keeps side (module_named K name) s))

@@ -30,14 +30,16 @@ module _ {C : Type 0} where
     nothing-put cells side prio s = refl
 
     module _ (K : Behaviour) (cells : Cells C) (tests : MayTestOwn K cells p) where
-      sent-keeps : (side : Side) (n : ℕ) (m : Message C) (s : State C) → let t = booked (direction_from side) n (delivered K cells (below side) m s) in
+      sent-keeps : (side : Side) (n : ℕ) (m : Message C) (s : State C)
+          → let t = booked (direction_from side) n (delivered K cells (below side) m s) in
           state_weight p t.state + weight_gone p t.gone ≡ state_weight p s + (count_by (p (direction_from side)) (cells_of m) + weight_made p t.gone)
       sent-keeps side n m s =
           let dir = direction_from side in
           let led = (delivered K cells (below side) m s).state in
           omega (arith, delivered-keeps K cells p tests (below side) m s, weight-whole (p dir) m)
 
-      pub put_at-keeps : (side : Side) (prio : Prio) (control body : Option (List ℕ)) (s : State C) → let t = put_at K cells side prio control body s in
+      pub put_at-keeps : (side : Side) (prio : Prio) (control body : Option (List ℕ)) (s : State C)
+          → let t = put_at K cells side prio control body s in
           state_weight p t.state + weight_gone p t.gone ≡ state_weight p s + (count_by (p (direction_from side)) (cells_of (message_put cells side prio control body s)) + weight_made p t.gone)
       put_at-keeps side prio None None s = omega (arith, nothing-put cells side prio s)
       put_at-keeps side prio None (Some xs) s = sent-keeps side (0 + length xs) (message_put cells side prio None (Some xs) s) s

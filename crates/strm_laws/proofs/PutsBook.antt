@@ -145,5 +145,6 @@ module _ {C : Type 0} (cells : Cells C) where
   pub delivered-books : (K : Behaviour) (to : Spot) (m : Message C) (s : State C) → let t = delivered K cells to m s in Books s t.gone t.state
   delivered-books K to m s = carried-books cells (put_in K cells) (puts-book K) HOPS (record { to = to; message = m }) s
 
-  pub sent-books : (K : Behaviour) (ps : List (Parcel C)) (s : State C) → let t = in_turn (carried (put_in K cells) HOPS) ps s in Books s t.gone t.state
+  pub sent-books : (K : Behaviour) (ps : List (Parcel C)) (s : State C)
+      → let t = in_turn (carried (put_in K cells) HOPS) ps s in Books s t.gone t.state
   sent-books K ps s = in_turn-books cells (put_in K cells) (puts-book K) (carried (put_in K cells) HOPS) (carried-books cells (put_in K cells) (puts-book K) HOPS) ps s

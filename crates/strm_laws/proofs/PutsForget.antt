@@ -124,7 +124,8 @@ module _ {C : Type 0} (cells : Cells C) (are : AreCells cells) where
       (put_at_head to.side to (map_message f m) (map_state f s)) (put_below K plain to.way to (map_message f m) (map_state f s)) (head-forgets f to.side to m s) (below-forgets K to.way to m s)
 
   pub delivered-forgets : (K : Behaviour) (to : Spot) (m : Message C) (s : State C) → delivered K plain to (map_message f m) (map_state f s) ≡ map_carried f (map_state f) (delivered K cells to m s)
-  delivered-forgets K to m s = carried-agrees f (map_state f) (put_in K cells) (put_in K plain) (puts-forget K) HOPS (record { to = to; message = m }) s
+  delivered-forgets K to m s =
+      carried-agrees f (map_state f) (put_in K cells) (put_in K plain) (puts-forget K) HOPS (record { to = to; message = m }) s
 
   pub flushed_on-forgets : (K : Behaviour) (band : Option Band) (side : Side) (what : FlushQueues) (s : State C) → flushed_on K plain band side what (map_state f s) ≡ map_carried f (map_state f) (flushed_on K cells band side what s)
   flushed_on-forgets K band side what s =

@@ -268,11 +268,13 @@ module _ {C : Type 0} (cells : Cells C) (cost : At → ℕ) where
         at true is = reached-fits (let top : to.at ≡ 0 = grind (arith, nat_tests) in top)
         at false is = below is (nat_le to.at count) refl
 
-    pub put-within : (K : Behaviour) → cost_of cost (put_in K cells to m s).sent ≤ sum_by cost (costs (stands_of s) (record { to = to; shape = shape_of m })).emits
+    pub put-within : (K : Behaviour) → cost_of cost (put_in K cells to m s).sent
+        ≤ sum_by cost (costs (stands_of s) (record { to = to; shape = shape_of m })).emits
     put-within K =
         subst (λ n. Fits s to m (front_on to.side (stands_of s)) (length (front_on to.side (stands_of s))) n (put_in K cells to m s).sent) (sym (count-on (other to.side) s))
         (subst (λ n. Fits s to m (front_on to.side (stands_of s)) n bottom (put_in K cells to m s).sent) (sym (count-on to.side s))
-        (subst (λ names. Fits s to m (fronts names) (modules_on to.side s) bottom (put_in K cells to m s).sent) (sym (names-on to.side s)) (put-fits K)))
+        (subst (λ names. Fits s to m (fronts names) (modules_on to.side s) bottom (put_in K cells to m s).sent) (sym (names-on to.side s))
+        (put-fits K)))
 
 pub puts-costed : {C : Type 0} (K : Behaviour) (cells : Cells C) → Costed (λ (s : State C). costs (stands_of s)) (put_in K cells)
 puts-costed K cells = record {

@@ -133,7 +133,8 @@ module _ {C D : Type 0} (f : C → D) where
   fits-same K s caller Look = ap (λ name. unless (is_some name) Einval) (top-forgets f caller.side s)
   fits-same K s caller _ = refl
 
-  by-state : (K : Behaviour) (s : State C) (caller : Caller) (asked : Request) → refused_by_state K (map_state f s) caller asked ≡ refused_by_state K s caller asked
+  by-state : (K : Behaviour) (s : State C) (caller : Caller) (asked : Request) → refused_by_state K (map_state f s) caller asked
+      ≡ refused_by_state K s caller asked
   by-state K s caller asked = ap (λ v. refusal_behind v (unfit K (map_state f s) caller asked)) (hold-same f s caller asked) ∙ ap (λ r. refusal_behind (hold s caller asked) r) (fits-same K s caller asked)
 
   pub refusals-forget : (K : Behaviour) (s : State C) (caller : Caller) (asked : Request) → or_else (refused_at_once (map_state f s) caller asked) (refused_by_state K (map_state f s) caller asked) ≡ or_else (refused_at_once s caller asked) (refused_by_state K s caller asked)
@@ -170,7 +171,8 @@ module _ {C : Type 0} (cells : Cells C) (are : AreCells cells) where
     leads = refl;
   }
 
-  pub legal-with-origins : (K : Behaviour) (s : State C) (entries : List PlainEntry) → IsLegal K plain (forgotten s) entries → IsLegal K cells s entries
+  pub legal-with-origins : (K : Behaviour) (s : State C) (entries : List PlainEntry) → IsLegal K plain (forgotten s) entries
+      → IsLegal K cells s entries
   legal-with-origins K s [] legal = tt
   legal-with-origins K s (entry ∷ entries) legal =
       (step-same K s entry legal.0, legal-with-origins K (after K cells s entry) entries (subst (λ t. IsLegal K plain t entries) (after-forgets cells are K s entry) legal.1))
@@ -181,5 +183,6 @@ module _ {C : Type 0} (cells : Cells C) (are : AreCells cells) where
       (step-back K s entry legal.0, subst (λ t. IsLegal K plain t entries) (sym (after-forgets cells are K s entry)) (legal-without K (after K cells s entry) entries legal.1))
 
 -- so a journal that is legal from a base is so with the origins of the base
-pub legal-from : (K : Behaviour) (base : State ℕ) (entries : List PlainEntry) → AreIdle base → IsLegal K plain base entries → IsLegal K tagged (based base) entries
+pub legal-from : (K : Behaviour) (base : State ℕ) (entries : List PlainEntry) → AreIdle base → IsLegal K plain base entries
+    → IsLegal K tagged (based base) entries
 legal-from K base entries idle legal = legal-with-origins tagged tagged-cells K (based base) entries (subst (λ s. IsLegal K plain s entries) (sym (based-forgets base idle)) legal)

@@ -31,7 +31,8 @@ module _ {C : Type 0} (K : Behaviour) (cells : Cells C) where
 
   pub kept-legal : (base s t : State C) (es : List PlainEntry) (e : PlainEntry) → s ≡ replay K cells base es → Step K cells s e t → IsLegal K cells base es → IsLegal K cells base (es ++ e ∷ [])
   kept-legal base s t es e is step legal =
-      legal-push base es e legal (subst (λ q. Step K cells q e (after K cells q e)) is (subst (λ u. Step K cells s e u) (sym (after-step s t e step)) step))
+      legal-push base es e legal
+      (subst (λ q. Step K cells q e (after K cells q e)) is (subst (λ u. Step K cells s e u) (sym (after-step s t e step)) step))
 
 -- where a call was refused it was for the reason that there is, and all is as it was
 pub refused-by : {A K : Type 0} (o : Option Refusal) (x : Result A Refusal) → MatchOption o (IsOk x) (λ r. (x ≡ Err r) × K) → (r : Refusal) → x ≡ Err r → (o ≡ Some r) × K

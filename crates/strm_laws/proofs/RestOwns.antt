@@ -1,9 +1,11 @@
--- A put at a module of a user's own adds no more moves than its message costs: it makes no M_DATA and no M_IOCTL of another kind, and loses and doubles no cell.
-use Rattle.strm_laws.proofs.Prelude.{ℕ, zero, suc, ◌≡◌, ◌≤◌, ◌+◌, ◌-◌, Bool, true, false, cond, List, [], ◌∷◌, length, refl, sym, ap, subst, arith, ◌&&◌, not, sum_by}
+-- A put at a module of a user's own adds no more moves than its message costs: it makes no M_DATA and no M_IOCTL of another kind, and loses and doubles
+-- no cell.
+use Rattle.strm_laws.proofs.Prelude.{ℕ, zero, suc, ◌≡◌, ◌≤◌, ◌+◌, ◌-◌, Bool, true, false, cond, List, [], ◌∷◌, length, refl, sym, ap, subst, arith}
+use Rattle.strm_laws.proofs.Prelude.{◌&&◌, not, sum_by}
 use Rattle.std.specs.List.{AllByRecursion}
-use Rattle.strm_laws.specs.Prelude.{FlushAsked, MsgKind, Data, Proto, Ioctl, Iocack, Flush, Sig, Side, Way, Up, Down, Spot, Cells, Dir, Parcel, toward}
+use Rattle.strm_laws.specs.Prelude.{FlushAsked, MsgKind, Data, Proto, Ioctl, Iocack, Flush, Sig, Side, Way, Up, Down, Spot, Cells, Dir, Parcel}
 use Rattle.strm_laws.specs.Prelude.{asked_by, is_bare_flush, is_flush, is_packed, Message, cells_of, has_parts, weight_of, other, cost_of, emits_at}
-use Rattle.strm_laws.specs.Prelude.{At, Shape, Held, Asking, Acking, FlushR, FlushW, FlushRW, FlushMixed, Packed, Passing, shape_by, shape_of}
+use Rattle.strm_laws.specs.Prelude.{At, Shape, Held, Asking, Acking, FlushR, FlushW, FlushRW, FlushMixed, Packed, Passing, shape_by, shape_of, toward}
 use Rattle.strm_types.specs.Owns.{Own}
 use Rattle.strm_types.specs.Tables.{own_does}
 use Rattle.strm_laws.specs.Behaviours.{Behaviour, OwnPut, is_only_itself}
@@ -64,7 +66,8 @@ module _ (all : Stands) (posts : Side → ℕ) where
   sinks-fewer Ioctl false n k few = omega arith
   sinks-fewer kind ahead n k few = omega arith
 
-  fewer : (way : Way) (side : Side) (at : ℕ) (kind : MsgKind) (bare : Bool) (n k : ℕ) → n ≤ k → toll_by way side at kind bare n ≤ toll_by way side at kind bare k
+  fewer : (way : Way) (side : Side) (at : ℕ) (kind : MsgKind) (bare : Bool) (n k : ℕ) → n ≤ k → toll_by way side at kind bare n
+      ≤ toll_by way side at kind bare k
   fewer Up side at kind bare n k few = above-fewer kind (at_or_above (echoes all side) (posts side) at) n k few
   fewer Down side at kind true n k few = omega arith
   fewer Down side at kind false n k few =
@@ -84,7 +87,8 @@ module _ (all : Stands) (posts : Side → ℕ) where
   least Up side at kind n k = omega arith
   least Down side at kind n k = omega arith
 
-  proto-less : (way : Way) (side : Side) (at n : ℕ) (kind : MsgKind) → toll_by way side at Proto false n ≤ toll_by way side at (held_kind kind) false n
+  proto-less : (way : Way) (side : Side) (at n : ℕ) (kind : MsgKind) → toll_by way side at Proto false n
+      ≤ toll_by way side at (held_kind kind) false n
   unfolding held_kind
   proto-less way side at n Data = by way
     where
@@ -109,10 +113,12 @@ module _ (all : Stands) (posts : Side → ℕ) where
     abbrev cost : At → ℕ
     cost a = most_by a.to.way a.to.side a.to.at a.shape
 
-    flush-less : (side : Side) (at n : ℕ) (asked : FlushAsked) → toll_by Down side at Flush true n ≤ most_by Down side at (cond asked.for_write (cond asked.for_read FlushRW FlushW) FlushR)
+    flush-less : (side : Side) (at n : ℕ) (asked : FlushAsked) → toll_by Down side at Flush true n
+        ≤ most_by Down side at (cond asked.for_write (cond asked.for_read FlushRW FlushW) FlushR)
     flush-less side at n asked = omega arith
 
-    mixed-less : (side : Side) (at n : ℕ) (asked : FlushAsked) → toll_by Down side at Flush false n ≤ most_by Down side at (cond asked.for_write FlushMixed Packed)
+    mixed-less : (side : Side) (at n : ℕ) (asked : FlushAsked) → toll_by Down side at Flush false n
+        ≤ most_by Down side at (cond asked.for_write FlushMixed Packed)
     unfolding kind_most flushes
     mixed-less side at n asked = by asked.for_write
       where
@@ -121,15 +127,20 @@ module _ (all : Stands) (posts : Side → ℕ) where
         by false = omega arith
 
     -- a message of so many bytes at most, that is an M_DATA or an M_IOCTL only where one has come, costs no more
-    held-less : (way : Way) (side : Side) (at n : ℕ) → n ≤ most → Data ≡ came → toll_by way side at Data false n ≤ toll_by way side at (held_kind came) false most
+    held-less : (way : Way) (side : Side) (at n : ℕ) → n ≤ most → Data ≡ came → toll_by way side at Data false n
+        ≤ toll_by way side at (held_kind came) false most
     unfolding held_kind
-    held-less way side at n few is = subst (λ k. toll_by way side at Data false n ≤ toll_by way side at (held_kind k) false most) is (fewer way side at Data false n most few)
+    held-less way side at n few is =
+        subst (λ k. toll_by way side at Data false n ≤ toll_by way side at (held_kind k) false most) is (fewer way side at Data false n most few)
 
-    ioctl-less : (way : Way) (side : Side) (at n : ℕ) → n ≤ most → Ioctl ≡ came → toll_by way side at Ioctl false n ≤ toll_by way side at (packed_kind came) false most
+    ioctl-less : (way : Way) (side : Side) (at n : ℕ) → n ≤ most → Ioctl ≡ came → toll_by way side at Ioctl false n
+        ≤ toll_by way side at (packed_kind came) false most
     unfolding packed_kind
-    ioctl-less way side at n few is = subst (λ k. toll_by way side at Ioctl false n ≤ toll_by way side at (packed_kind k) false most) is (fewer way side at Ioctl false n most few)
+    ioctl-less way side at n few is =
+        subst (λ k. toll_by way side at Ioctl false n ≤ toll_by way side at (packed_kind k) false most) is (fewer way side at Ioctl false n most few)
 
-    sent-less : (way : Way) (side : Side) (at n : ℕ) → n ≤ most → (parts : Bool) (kind : MsgKind) (bytes : List ℕ) → (is_only_itself kind ≡ true → kind ≡ came)
+    sent-less : (way : Way) (side : Side) (at n : ℕ) → n ≤ most → (parts : Bool) (kind : MsgKind) (bytes : List ℕ)
+        → (is_only_itself kind ≡ true → kind ≡ came)
         → toll_by way side at kind (is_flush kind && not parts) n ≤ most_by way side at (shape_by parts kind bytes)
     unfolding kind_most flushes
     sent-less way side at n few true Data bytes only = held-less way side at n few (only refl)
@@ -145,7 +156,8 @@ module _ (all : Stands) (posts : Side → ℕ) where
     sent-less Down side at n few false kind bytes only = omega arith
 
     -- what the table says costs no more than one message of the shape that came, a place further
-    table-less : (way : Way) (here : Spot) (shape : Shape) → sum_by cost (emits_at here (own_does way shape)) ≤ cost (record { to = toward way here; shape = shape })
+    table-less : (way : Way) (here : Spot) (shape : Shape) → sum_by cost (emits_at here (own_does way shape))
+        ≤ cost (record { to = toward way here; shape = shape })
     unfolding kind_most flushes
     table-less Up here shape = omega arith
     table-less Down here Asking = omega arith
@@ -157,7 +169,8 @@ module _ (all : Stands) (posts : Side → ℕ) where
     all-less [] only few = omega arith
     all-less (q ∷ qs) only few =
         let count = all-counted (cells_of q.message) in
-        let one = sent-less q.to.way q.to.side q.to.at (length (cells_of q.message)) (omega (arith, few, count)) (has_parts q.message) q.message.kind q.message.plain only.0 in
+        let n = length (cells_of q.message) in
+        let one = sent-less q.to.way q.to.side q.to.at n (omega (arith, few, count)) (has_parts q.message) q.message.kind q.message.plain only.0 in
         omega (arith, one, same-toll q.to.way q.to.side q.to.at q.message, all-less qs only.1 (omega (arith, few)))
 
   -- and that is what it cost itself
@@ -191,7 +204,8 @@ module _ (all : Stands) (posts : Side → ℕ) where
   self-less Down side at n true kind bytes = omega arith
   self-less Down side at n false kind bytes = omega arith
 
-  pub own-few : {C : Type 0} (K : Behaviour) (cells : Cells C) (here : Spot) (m : Message C) (o : Own) → tolls all posts (K.puts cells here m o).sent ≤ toll all posts here m
+  pub own-few : {C : Type 0} (K : Behaviour) (cells : Cells C) (here : Spot) (m : Message C) (o : Own) → tolls all posts (K.puts cells here m o).sent
+      ≤ toll all posts here m
   unfolding weight_of
   own-few K cells here m o =
       let t = K.puts cells here m o in

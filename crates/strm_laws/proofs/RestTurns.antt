@@ -265,7 +265,8 @@ module _ {C : Type 0} (all : Stands) where
             sent-pays all posts fit cells K t.sent t.state (called-stands false left s is),
           )
 
-      on-later : (K : Behaviour) (left : ℕ) (s : State C) → stands_of s ≡ all → AreStreams s → here.way ≡ Up → moves all (sent_on K true left s) ≤ moves all s
+      on-later : (K : Behaviour) (left : ℕ) (s : State C) → stands_of s ≡ all → AreStreams s → here.way ≡ Up → moves all (sent_on K true left s)
+          ≤ moves all s
       on-later K left s is good up =
           let ps = (stream here.side s).modules in
           let made = made_below here.side s in
@@ -306,7 +307,8 @@ module _ {C : Type 0} (all : Stands) where
           either (λ (v : Calls C). (stands_of v.state ≡ all) × (moves all v.state ≤ moves all s)) (again_at cells here (made_below here.side s) true left ps) _ _
           (behind.0, omega (arith, behind.1, this)) (on-stands K true left s is, this)
 
-      calls-fewer : (K : Behaviour) (n left : ℕ) (s : State C) → 0 < n → stands_of s ≡ all → AreStreams s → At (Ready left) (here.at - 1) (stream here.side s).modules
+      calls-fewer : (K : Behaviour) (n left : ℕ) (s : State C) → 0 < n → stands_of s ≡ all → AreStreams s
+          → At (Ready left) (here.at - 1) (stream here.side s).modules
           → let v = calls K cells here n false left s in (stands_of v.state ≡ all) × (suc (moves all v.state) ≤ moves all s)
       calls-fewer K zero left s goes is good ready = absurd (omega (arith, goes))
       calls-fewer K (suc more) left s goes is good ready = at (again_at cells here (made_below here.side s) false left ps) refl here.way refl (on-first K left s is good ready)

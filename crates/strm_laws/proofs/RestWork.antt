@@ -154,7 +154,8 @@ fits-one (names.Ldterm ∷ ns) echoed across at some here there stands one free 
 fits-one (names.Ptem ∷ ns) echoed across at some here there stands one free =
     (tt, fits-one ns echoed across (suc at) (omega arith) here there stands (omega (arith, one, sum_by-cons (λ n. cond (is_ldterm n) 1 0) names.Ptem ns)) free)
 fits-one (names.Own n ∷ ns) echoed across at some here there stands one free =
-    (tt, fits-one ns echoed across (suc at) (omega arith) here there stands (omega (arith, one, sum_by-cons (λ n. cond (is_ldterm n) 1 0) (names.Own n) ns)) free)
+    let less = sum_by-cons (λ n. cond (is_ldterm n) 1 0) (names.Own n) ns in
+    (tt, fits-one ns echoed across (suc at) (omega arith) here there stands (omega (arith, one, less)) free)
 fits-one (names.Pckt ∷ ns) echoed across at some here there stands one free = (
   not-above echoed (ldterm_from (suc at) ns) at some (let behind = ldterm-from ns (suc at) stands in omega (arith, behind)),
   fits-one ns echoed across (suc at) (omega arith) here there stands (omega (arith, one, sum_by-cons (λ n. cond (is_ldterm n) 1 0) names.Pckt ns)) free,
@@ -291,7 +292,8 @@ module _ {C : Type 0} where
   plain-behind : (K : Behaviour) (cells : Cells C) (name : QueueName) (turn : Turn) (s : State C) → NoLdterm (stands_of s) → Leaves (stands_of s) (moves (stands_of s) s) (without name s.enabled) (turned K cells name turn s).state
   plain-behind K cells name turn s none = plain-leaves K cells name turn (stands_of s) name.place (record s { enabled = without name s.enabled }) (plain-once (stands_of s) none) none refl
 
-  pub plain-turn : (K : Behaviour) (cells : Cells C) (name : QueueName) (turn : Turn) (s : State C) → NoLdterm (stands_of s) → is_enabled name s.enabled ≡ true
+  pub plain-turn : (K : Behaviour) (cells : Cells C) (name : QueueName) (turn : Turn) (s : State C) → NoLdterm (stands_of s)
+      → is_enabled name s.enabled ≡ true
       → (stands_of (turned K cells name turn s).state ≡ stands_of s) × (work (turned K cells name turn s).state < work s)
   plain-turn K cells name turn s none enabled =
       let behind = plain-behind K cells name turn s none in

@@ -32,7 +32,8 @@ module _ {C : Type 0} where
     step-named old new (Turned name turn) are step =
         subst (λ s. Named s) step.leads (named-of (stands_of old) (turned K cells name turn old).state (turn-enabled (stands_of old) K cells name turn old step.enabled (refl, are)))
 
-    pub step-restorable : (old new : State C) (entry : PlainEntry) → IsWithinEntry entry → Restorable old → Step K cells old entry new → Restorable new
+    pub step-restorable : (old new : State C) (entry : PlainEntry) → IsWithinEntry entry → Restorable old → Step K cells old entry new
+        → Restorable new
     step-restorable old new entry low was step =
         let all = step-streams old new entry low (was.streams, was.numbered, was.last) step in
         record { streams = all.0; heads = step-within K cells old new entry was.heads step; idle = step-idle K cells old new entry was.idle step; enabled = step-named old new entry was.enabled step; numbered = all.1; last = all.2 }

@@ -68,7 +68,8 @@ module _ {C : Type 0} where
     driver-stands : (side : Side) (here : Spot) (m : Message C) (s : State C) → Stand s → Stand (put_at_driver side here m s).state
     driver-stands side here m s is = same-names side (with_driver_queue _ (stream side s)) s refl ∙ is
 
-    stack-stands : (K : Behaviour) (cells : Cells C) (here : Spot) (m : Message C) (s : State C) → Stand s → Stand (put_at_module K cells here m s).state
+    stack-stands : (K : Behaviour) (cells : Cells C) (here : Spot) (m : Message C) (s : State C) → Stand s
+        → Stand (put_at_module K cells here m s).state
     stack-stands K cells here m s is =
         let t = put_among (module_puts K cells (made_above here.side s)) (here.at - 1) here m (stream here.side s).modules in
         let same = keep-names K cells (made_above here.side s) (here.at - 1) here m (stream here.side s).modules in

@@ -69,19 +69,26 @@ AllFit k test = (ns : List ℕ) → length ns ≡ k → all_stacks ns test ≡ t
 abbrev above : (List ModuleName → Bool) → ModuleName → List ModuleName → Bool
 above test x on = test (x ∷ on)
 
+-- those with this module on top
+abbrev fits : (List ModuleName → Bool) → List ℕ → ModuleName → Bool
+fits test ns x = all_stacks ns (above test x)
+
+abbrev Fits : (List ModuleName → Bool) → List ℕ → ModuleName → Type 0
+Fits test ns x = fits test ns x ≡ true
+
 stack-has : (k : ℕ) (test : List ModuleName → Bool) (on : List ModuleName) → AllFit k test → length on ≤ k → test on ≡ true
 stack-has zero test [] all low = all [] refl
 stack-has zero test (x ∷ on) all low = absurd (omega (arith, low))
 stack-has (suc k) test [] all low = (and_parts (test []) _ (all (0 ∷ noughts k) (ap suc (many-noughts k)))).0
-stack-has (suc k) test (x ∷ on) all low = at x (λ y fits. stack-has k (above test y) on fits (omega (arith, low)))
+stack-has (suc k) test (x ∷ on) all low = at x (λ y each. stack-has k (above test y) on each (omega (arith, low)))
   where
     parts : (n : ℕ) (ns : List ℕ) → length ns ≡ k
-        → (all_stacks ns (above test names.Ldterm) ≡ true) × (all_stacks ns (above test names.Ptem) ≡ true) × (all_stacks ns (above test names.Pckt) ≡ true) × (all_stacks ns (above test (names.Own n)) ≡ true)
+        → Fits test ns names.Ldterm × Fits test ns names.Ptem × Fits test ns names.Pckt × Fits test ns (names.Own n)
     parts n ns is =
-        let each = (and_parts (test []) _ (all (n ∷ ns) (ap suc is))).1 in
-        let later = (and_parts (all_stacks ns (above test names.Ldterm)) _ each).1 in
-        let last = (and_parts (all_stacks ns (above test names.Ptem)) _ later).1 in
-        ((and_parts (all_stacks ns (above test names.Ldterm)) _ each).0, (and_parts (all_stacks ns (above test names.Ptem)) _ later).0, (and_parts (all_stacks ns (above test names.Pckt)) _ last).0, (and_parts (all_stacks ns (above test names.Pckt)) _ last).1)
+        let ldterm = and_parts (fits test ns names.Ldterm) _ (and_parts (test []) _ (all (n ∷ ns) (ap suc is))).1 in
+        let ptem = and_parts (fits test ns names.Ptem) _ ldterm.1 in
+        let last = and_parts (fits test ns names.Pckt) _ ptem.1 in
+        (ldterm.0, ptem.0, last.0, last.1)
 
     at : (x : ModuleName) → ((y : ModuleName) → AllFit k (above test y) → test (y ∷ on) ≡ true) → test (x ∷ on) ≡ true
     at names.Ldterm has = has names.Ldterm (λ ns is. (parts 0 ns is).0)

@@ -27,7 +27,8 @@ pub kept-ahead : (way : Way) (side : Side) (s t : State ℕ) → ((sd : Side) �
 kept-ahead Up side s t same kept = ap is_open (same side) ∙ kept
 kept-ahead Down side s t same kept = ap is_closed (same Master) ∙ kept
 
-pub puts-same : (K : Behaviour) (to : Spot) (m : Message ℕ) (s : State ℕ) (side : Side) → (stream side (put_in K plain to m s).state).opened ≡ (stream side s).opened
+pub puts-same : (K : Behaviour) (to : Spot) (m : Message ℕ) (s : State ℕ) (side : Side) → (stream side (put_in K plain to m s).state).opened
+    ≡ (stream side s).opened
 puts-same K to m s side = (puts-hold (SameButMade s) K (same-stays s) plain to m s (same-itself s)).opened side
 
 -- what the kind of such a message says

@@ -39,7 +39,8 @@ module _ {C : Type 0} (cells : Cells C) where
         let made = made_below here.side s in
         acted-books cells here.side here (call_at cells here made again left ps) s (acts-order made again left (here.at - 1) ps)
 
-    calls-books : (K : Behaviour) (n : ℕ) (again : Bool) (left : ℕ) (s : State C) → let v = calls K cells here n again left s in Books s v.gone v.state
+    calls-books : (K : Behaviour) (n : ℕ) (again : Bool) (left : ℕ) (s : State C)
+        → let v = calls K cells here n again left s in Books s v.gone v.state
     calls-books K zero again left s = nothing-booked cells s s refl
     calls-books K (suc more) again left s =
         let ps = (stream here.side s).modules in
@@ -79,7 +80,8 @@ module _ {C : Type 0} (cells : Cells C) where
         (booked-behind cells s t.state (module_turn_ended name here (not (t.bytes == 0)) t.state) t.gone (calls-books K (3 * bytes + 1) false bytes s) (ended-books name (not (t.bytes == 0)) t.state))
         (stays-books Blocked s)
 
-    asked-books : (K : Behaviour) (asks : Asks) (name : QueueName) (turn : Turn) (s : State C) → TurnBooks s (asked_turn K cells here asks name turn s)
+    asked-books : (K : Behaviour) (asks : Asks) (name : QueueName) (turn : Turn) (s : State C)
+        → TurnBooks s (asked_turn K cells here asks name turn s)
     asked-books K asked.Empty name turn s = stayed-books Idle s
     asked-books K asked.Held name turn s = stayed-books Blocked s
     asked-books K asked.Free name turn s = moved-books K name _ s
@@ -94,7 +96,8 @@ module _ {C : Type 0} (cells : Cells C) where
         let asks = at_place (module_asks here.way) asked.Empty here.at ps in
         either-turns s (at_place module_rests false here.at ps) (asked_turn K cells here asks name turn s) (stayed_put Blocked s) (asked-books K asks name turn s) (stays-books Blocked s)
 
-  pub module-books : (K : Behaviour) (name : QueueName) (turn : Turn) (s : State C) → let t = module_turned K cells name turn s in Books s t.gone t.state
+  pub module-books : (K : Behaviour) (name : QueueName) (turn : Turn) (s : State C)
+      → let t = module_turned K cells name turn s in Books s t.gone t.state
   module-books K name turn s = named (place_named name.place (stream name.side s).modules)
     where
       named : (o : Option ℕ) → let t = turned_named K cells name turn s o in Books s t.gone t.state
@@ -115,7 +118,8 @@ module _ {C : Type 0} (cells : Cells C) where
       booked-before cells s from _ t.gone (driver-books side (left_with rest (stream side s).driver.queue) s)
       (booked-behind cells from t.state (turn_ended side (size_of m) t.state) t.gone (delivered-books cells K (up_across side from) m from) (end-books side (size_of m) t.state))
 
-  pub serves-books : (K : Behaviour) (side : Side) (ms : List (Message C)) (s : State C) → let t = driver_serves K cells side ms s in Books s t.gone t.state
+  pub serves-books : (K : Behaviour) (side : Side) (ms : List (Message C)) (s : State C)
+      → let t = driver_serves K cells side ms s in Books s t.gone t.state
   serves-books K side [] s = nothing-booked cells s _ (driver-books side (record (stream side s).driver.queue { want_read = true }) s)
   serves-books K side (m ∷ rest) s =
       let kept = with_driver side (held_back (stream side s).driver.queue) s in

@@ -132,7 +132,8 @@ module _ {C : Type 0} (cells : Cells C) (are : AreCells cells) where
       (ap (λ (x : State ℕ). stayed_put Blocked (blocked_across side (map_message f m) x)) (held-forgets f side s) ∙ ap (λ (x : State ℕ). stayed_put Blocked x) (blocked-forgets f side m kept))
       (moved-forgets K side m rest s)
 
-  pub driver_turned-forgets : (K : Behaviour) (side : Side) (s : State C) → driver_turned K plain side (map_state f s) ≡ map_turn_outcome f (driver_turned K cells side s)
+  pub driver_turned-forgets : (K : Behaviour) (side : Side) (s : State C) → driver_turned K plain side (map_state f s)
+      ≡ map_turn_outcome f (driver_turned K cells side s)
   driver_turned-forgets K side s = over side
     where
       from : (side : Side) (ms : List (Message C)) → driver_serves K plain side (map_messages f ms) (map_state f s) ≡ map_turn_outcome f (driver_serves K cells side ms s)

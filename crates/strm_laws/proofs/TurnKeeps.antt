@@ -59,7 +59,8 @@ module _ {C : Type 0} (p : Dir → C → Bool) where
   across-weighs Master m at = ap (λ way. weight_of (p (direction_at way Slave)) m) (way-up at)
   across-weighs Slave m at = ap (λ way. weight_of (p (direction_at way Master)) m) (way-up at)
 
-  moved-keeps : (K : Behaviour) (cells : Cells C) → MayTestOwn K cells p → (side : Side) (m : Message C) (rest : List (Message C)) (s : State C) → (stream side s).driver.queue.messages ≡ m ∷ rest → Keeps (moved_across K cells side m rest s) (state_weight p s)
+  moved-keeps : (K : Behaviour) (cells : Cells C) → MayTestOwn K cells p → (side : Side) (m : Message C) (rest : List (Message C)) (s : State C)
+      → (stream side s).driver.queue.messages ≡ m ∷ rest → Keeps (moved_across K cells side m rest s) (state_weight p s)
   moved-keeps K cells tests side m rest s is =
       let from = with_driver side (left_with rest (stream side s).driver.queue) s in
       omega (arith, ended-keeps side (size_of m) (delivered K cells (up_across side from) m from).state, delivered-keeps K cells p tests (up_across side from) m from, taken-keeps side m rest s is, across-weighs side m (modules_on (other side) from))
@@ -70,7 +71,8 @@ module _ {C : Type 0} (p : Dir → C → Bool) where
   held-keeps : (side : Side) (s : State C) (want : Bool) → state_weight p (with_driver side (record (stream side s).driver.queue { want_read = want }) s) ≡ state_weight p s
   held-keeps side s want = same-weighs p side (with_driver_queue (record (stream side s).driver.queue { want_read = want }) (stream side s)) s refl
 
-  serves-keeps : (K : Behaviour) (cells : Cells C) → MayTestOwn K cells p → (side : Side) (ms : List (Message C)) (s : State C) → (stream side s).driver.queue.messages ≡ ms → Keeps (driver_serves K cells side ms s) (state_weight p s)
+  serves-keeps : (K : Behaviour) (cells : Cells C) → MayTestOwn K cells p → (side : Side) (ms : List (Message C)) (s : State C)
+      → (stream side s).driver.queue.messages ≡ ms → Keeps (driver_serves K cells side ms s) (state_weight p s)
   serves-keeps K cells tests side [] s is = omega (arith, held-keeps side s true)
   serves-keeps K cells tests side (m ∷ rest) s is =
       any-holds (λ t. Keeps t (state_weight p s)) (is_open (stream (other side) s).opened) (is_stopped_across side m s) _ _ _

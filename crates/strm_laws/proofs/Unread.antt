@@ -38,13 +38,15 @@ module _ {C : Type 0} where
   pub opening-unread : NothingUnread {C = C} opening
   opening-unread = each-side Unread opening.ends (λ closed. refl) (λ closed. refl)
 
-  pub delivered-unread : (K : Behaviour) (cells : Cells C) (to : Spot) (m : Message C) (s : State C) → NothingUnread s → NothingUnread (delivered K cells to m s).state
+  pub delivered-unread : (K : Behaviour) (cells : Cells C) (to : Spot) (m : Message C) (s : State C) → NothingUnread s
+      → NothingUnread (delivered K cells to m s).state
   delivered-unread K cells to m s unread = delivered-holds NothingUnread K (each-stays Unread K Any (changes K) (λ ps. tt)) cells to m s unread
 
   pub turn-unread : (K : Behaviour) (cells : Cells C) (name : QueueName) (turn : Turn) (s : State C) → NothingUnread s → NothingUnread (turned K cells name turn s).state
   turn-unread K cells name turn s unread = turn-holds K NothingUnread (each-turns Unread K Any (changes K) (λ ps. tt)) cells name turn s unread
 
-  pub step-unread : (K : Behaviour) (cells : Cells C) (old new : State C) (entry : PlainEntry) → NothingUnread old → Step K cells old entry new → NothingUnread new
+  pub step-unread : (K : Behaviour) (cells : Cells C) (old new : State C) (entry : PlainEntry) → NothingUnread old → Step K cells old entry new
+      → NothingUnread new
   step-unread K cells old new entry unread step = step-each Unread K Any (changes K) cells (delivered-unread K cells) (turn-unread K cells) old new entry unread step
 
   pub unread-behind : (K : Behaviour) (cells : Cells C) (s : State C) (entries : List PlainEntry) → NothingUnread s → IsLegal K cells s entries → NothingUnread (replay K cells s entries)

@@ -43,12 +43,14 @@ module _ {C : Type 0} where
   pub opening-within : AreWithin {C = C} opening
   opening-within = each-side Within opening.ends new-within new-within
 
-  pub delivered-within : (K : Behaviour) (cells : Cells C) (to : Spot) (m : Message C) (s : State C) → AreWithin s → AreWithin (delivered K cells to m s).state
+  pub delivered-within : (K : Behaviour) (cells : Cells C) (to : Spot) (m : Message C) (s : State C) → AreWithin s
+      → AreWithin (delivered K cells to m s).state
   delivered-within K cells to m s within = delivered-holds AreWithin K (each-stays Within K Any (changes K) (λ ps. tt)) cells to m s within
 
   pub begun-within : (K : Behaviour) (side : Side) (command : ℕ) (s : State C) → AreWithin s → AreWithin (ioctl_begun side command s)
   begun-within K side command s within = begun-each Within K Any (changes K) side command s within
 
-  pub step-within : (K : Behaviour) (cells : Cells C) (old new : State C) (entry : PlainEntry) → AreWithin old → Step K cells old entry new → AreWithin new
+  pub step-within : (K : Behaviour) (cells : Cells C) (old new : State C) (entry : PlainEntry) → AreWithin old → Step K cells old entry new
+      → AreWithin new
   step-within K cells old new entry within step =
       step-each Within K Any (changes K) cells (delivered-within K cells) (turn-holds K AreWithin (each-turns Within K Any (changes K) (λ ps. tt)) cells) old new entry within step

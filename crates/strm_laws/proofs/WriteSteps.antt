@@ -57,7 +57,8 @@ module _ {C : Type 0} where
     went-keeps true xs s t more one two = omega arith
     went-keeps false xs s t more one two = omega (arith, first-cells down xs more.taken, gone-append p t.gone more.gone, made-append p t.gone more.gone)
 
-    chunks-keep : (K : Behaviour) → MayTestOwn K cells p → (count : ℕ) (xs : List C) (s : State C) → WroteKeeps (chunks_sent K cells side (chunks_of count xs) s) xs s
+    chunks-keep : (K : Behaviour) → MayTestOwn K cells p → (count : ℕ) (xs : List C) (s : State C)
+        → WroteKeeps (chunks_sent K cells side (chunks_of count xs) s) xs s
     chunks-keep K tests zero xs s = omega arith
     chunks-keep K tests (suc count) xs s =
         let t = chunk_goes K cells side (take 256 xs) s in

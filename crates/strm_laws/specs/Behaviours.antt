@@ -1,10 +1,10 @@
--- What modules of a user's own do, over any cells: which numbers they have, what one is set to as it is pushed, what it does with a message that is put at
--- it, and what it owes the stream on which it stands (STREAMS Programming Guide, "Modules", "Put Procedures"). Such a module has no queues and no service
--- procedure, and makes no cells: it hands on what comes to it, changed or not, drops it by a rule, or answers an M_IOCTL.
+-- What modules of a user's own do, over any cells: which numbers they have, what one is set to as it is pushed, what it does with a message that is
+-- put at it, and what it owes the stream on which it stands (STREAMS Programming Guide, "Modules", "Put Procedures"). Such a module has no queues and
+-- no service procedure, and makes no cells: it hands on what comes to it, changed or not, drops it by a rule, or answers an M_IOCTL.
 use Rattle.std.specs.Prelude.{ℕ, ◌≡◌, ◌+◌, ◌-◌, ◌/◌, ◌≤◌, ◌<◌, max, Bool, true, false, List, [], ◌∷◌, length, sum_by, Option, None, Some}
 use Rattle.std.specs.List.{AllByRecursion}
-use Rattle.strm_laws.specs.Prelude.{Dir, MsgKind, Data, Ioctl, Spot, Within, emits_at, AreCells, Cells, plain, Acted, Fate, Goes, Message, map_message}
-use Rattle.strm_laws.specs.Prelude.{weight_of, chunk_count, direction_at, map_acted, shape_of, onward}
+use Rattle.strm_laws.specs.Prelude.{Dir, MsgKind, Data, Ioctl, Spot, Within, emits_at, AreCells, Cells, plain, Acted, Fate, Goes, Message}
+use Rattle.strm_laws.specs.Prelude.{weight_of, chunk_count, direction_at, map_acted, shape_of, onward, map_message}
 use Rattle.strm_types.specs.declared.limits.TheConstants.{BLOCK_SIZE, SETTINGS_MAX}
 use Rattle.strm_types.specs.declared.rules.Rule.TheVariants.{Read}
 use Rattle.strm_types.specs.Owns.{Own}
@@ -19,7 +19,7 @@ pub record GoodOwn (x : Own) : Type 0 where
   pub few : length x.settings ≤ SETTINGS_MAX
   pub bytes : AllByRecursion (λ b. b < 256) x.settings
 
--- the kinds that a module of a user's own makes of no other kind: M_DATA, whose bytes may be typed at a line discipline, and M_IOCTL, which is answered
+-- the kinds that such a module makes of no other kind: M_DATA, whose bytes may be typed at a line discipline, and M_IOCTL, which is answered
 abbrev pub is_only_itself : MsgKind → Bool
 is_only_itself Data = true
 is_only_itself Ioctl = true
@@ -44,8 +44,8 @@ pub record OwnPut {C : Type 0} (changes : Bool) (cells : Cells C) (here : Spot) 
   -- it stays a module of its number, and has no queues of which there is something to note
   pub number : t.state.number ≡ x.number
   pub notes : t.notes ≡ []
-  -- It loses no cell and doubles none, whatever test on cells is chosen, and makes none. Where such modules change bytes, the test says the same of a cell
-  -- with another byte.
+  -- It loses no cell and doubles none, whatever test on cells is chosen, and makes none. Where such modules change bytes, the test says the same of a
+  -- cell with another byte.
   pub once : (p : Dir → C → Bool) → (changes ≡ true → IgnoresMapping cells p)
       → weight_sent p t.sent + weight_gone p t.gone ≡ weight_of (p (direction_at here.way here.side)) m
   pub none_made : (p : Dir → C → Bool) → weight_made p t.gone ≡ 0

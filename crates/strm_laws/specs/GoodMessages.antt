@@ -1,8 +1,8 @@
 -- Messages as an image of a pair may hold them, and as modules may send them.
 use Rattle.std.specs.Prelude.{◌≡◌, ◌≤◌, ◌<◌, ◌+◌, ◌||◌, Bool, true, false, List, [], length, None}
 use Rattle.std.specs.List.{AllByRecursion}
-use Rattle.strm_laws.specs.Prelude.{MsgKind, Ioctl, Iocack, Iocnak, Setopts, BANDS, IOCTL_MAX, is_control_kind, is_body_kind, Message, Parcel, is_part}
-use Rattle.strm_laws.specs.Prelude.{is_high_priority, options_in}
+use Rattle.strm_laws.specs.Prelude.{MsgKind, Ioctl, Iocack, Iocnak, Setopts, BANDS, IOCTL_MAX, is_control_kind, is_body_kind, Message, Parcel}
+use Rattle.strm_laws.specs.Prelude.{is_high_priority, options_in, is_part}
 
 -- the kinds that have parts: M_DATA, M_PROTO and M_PCPROTO (STREAMS Programming Guide, "Message Types")
 abbrev pub is_part_kind : MsgKind → Bool

@@ -15,8 +15,8 @@ use Rattle.strm_laws.specs.Calls.{called, delivers}
 use Rattle.strm_laws.specs.Turns.{turned}
 
 module _ {C : Type 0} where
-  -- A turn of a module's queue may map a byte to another one, as ICRNL does, so a test has to say the same of the two; and so where messages are delivered past
-  -- modules of a user's own that change bytes. All else leaves each byte as it is.
+  -- A turn of a module's queue may map a byte to another one, as ICRNL does, so a test has to say the same of the two; and so where messages are
+  -- delivered past modules of a user's own that change bytes. All else leaves each byte as it is.
   abbrev pub tests_at : Behaviour → Cells C → (Dir → C → Bool) → Place → Type 0
   tests_at K cells p Head = Unit {0}
   tests_at K cells p Driver = MayTestOwn K cells p

@@ -154,8 +154,8 @@ are_once on = is_once names.Ldterm on && (is_once names.Ptem on && is_once names
 abbrev pub stack_fits : Bool → List ModuleName → Bool
 stack_fits once on = (once && not (are_once on)) || (crossings_fit once on && places_fit once on)
 
--- A test of all stacks of at most as many modules as these numbers, one for each place from the top, which is that of a user's own module that stands there.
--- What a module costs doesn't depend on its number.
+-- A test of all stacks of at most as many modules as these numbers, one for each place from the top, which is that of a user's own module that stands
+-- there. What a module costs doesn't depend on its number.
 abbrev pub all_stacks : List ℕ → (List ModuleName → Bool) → Bool
 all_stacks [] test = test []
 all_stacks (n ∷ ns) test =

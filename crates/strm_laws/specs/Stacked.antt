@@ -1,6 +1,6 @@
 -- What a module is to the stream on which it stands: its name, its queues, its unfinished line, and what it does (streamio(7I): I_PUSH;
--- STREAMS Programming Guide, "Modules"). There are three kinds of modules, and those of a user's own, which do what a behaviour says. Of what is said here
--- only what a module does differs by its kind; its queues are the stream's, and what is said of them is said once for all kinds.
+-- STREAMS Programming Guide, "Modules"). There are three kinds of modules, and those of a user's own, which do what a behaviour says. Of what is said
+-- here only what a module does differs by its kind; its queues are the stream's, and what is said of them is said once for all kinds.
 use Rattle.std.specs.Prelude.{ℕ, ◌+◌, Bool, true, List, [], ◌∷◌, sum_by, flat_map, Option, None, Some}
 use Rattle.strm_laws.specs.Prelude.{ModuleName, Dir, Side, Way, Up, Down, Asks, Spot, Cells, Acted, Discipline, Rests, Message, direction_at, Pckt}
 use Rattle.strm_laws.specs.Prelude.{pckt_puts, Ptem, ptem_puts, Queue, weight, Serving, done_by, served_by, QueuePair}
@@ -95,8 +95,8 @@ module _ {C : Type 0} where
   abbrev pub module_weight : (Dir → C → Bool) → Side → Standing C → ℕ
   module_weight p side x = kind_weight p side x.part + queues_weight p side x.queues
 
-  -- A message that is put at it, where so many cells were made before in the direction of what goes up; only pckt makes more. What one of a user's own does
-  -- the behaviour says.
+  -- A message that is put at it, where so many cells were made before in the direction of what goes up; only pckt makes more. What one of a user's own
+  -- does the behaviour says.
   abbrev pub module_puts : Behaviour → Cells C → ℕ → Spot → Message C → Standing C → Acted C (Standing C)
   module_puts K cells made here m x = by x.part
     where

@@ -62,7 +62,8 @@ pub fn puts_forget_origins<C, K: Behaves>()
 /// nothing for its readers behind one, where it had nothing before.
 pub fn deliveries_leave_the_ends<C, K: Behaves>()
     ensures same { (cells : Cells C) (to : Spot) (m : Message C) (s : State C) → SameButMade s (delivered K.does cells to m s).state }
-    ensures unread { (cells : Cells C) (to : Spot) (m : Message C) (s : State C) → NothingUnread s → NothingUnread (delivered K.does cells to m s).state }
+    ensures unread { (cells : Cells C) (to : Spot) (m : Message C) (s : State C) → NothingUnread s →
+        NothingUnread (delivered K.does cells to m s).state }
 {}
 
 /// Where no module stands on a pair's streams, a message with parts that goes down from a head, as that of a putmsg(2), is put on the
@@ -76,7 +77,8 @@ pub fn puts_stand_at_the_driver<C, K: Behaves>()
 /// Chunks of a write that are delivered one after the other lose no cell, and make none but what is told: of any cells, those stand
 /// on the queues or have gone by a rule that stood there before, were taken, or were made; told apart as in puts.
 pub fn writes_keep_cells<C, K: Behaves>()
-    ensures { (p : Dir → C → Bool) (cells : Cells C) (side : Side) (xs : List C) (s : State C) → MayTestOwn K.does cells p → let t = cells_sent K.does cells side xs s in
+    ensures { (p : Dir → C → Bool) (cells : Cells C) (side : Side) (xs : List C) (s : State C) → MayTestOwn K.does cells p →
+        let t = cells_sent K.does cells side xs s in
         state_weight p t.state + weight_gone p t.gone ≡
         state_weight p s + (count_by (p (direction_from side)) (take t.taken xs) + weight_made p t.gone) }
 {}

@@ -1,12 +1,12 @@
 -- What refuses flushes, closes and turns, and where input ends, case by case.
-use Rattle.strm_rows.proofs.Prelude.{ℕ, ◌≡◌, ◌-◌, Bool, true, false, List, [], ◌∷◌, map, refl, replicate, Option, None, Some, Config, Answer, Done, no_own}
+use Rattle.strm_rows.proofs.Prelude.{ℕ, ◌≡◌, ◌-◌, Bool, true, false, List, [], ◌∷◌, map, refl, replicate, Option, None, Some, Config, Answer, Done}
 use Rattle.strm_rows.proofs.Prelude.{Name, Bytes, Book, Called, Turned, Idle, Caller, OpenMaster, Unlock, OpenSlave, Shut, Pop, Look, Write, Band}
 use Rattle.strm_rows.proofs.Prelude.{Dir, MasterToSlave, SlaveToMaster, Ptem, Pckt, Openness, Never, Open, Closed, Side, Master, Slave, Refusal}
 use Rattle.strm_rows.proofs.Prelude.{Einval, Eagain, Ebadmsg, Enxio, Enosr, Erange, JournalFull, Request, map_event, map_answer, plain, is_data_kind}
 use Rattle.strm_rows.proofs.Prelude.{caller_of, content_max, entries_in, came, gone, Fate, Goes, carried, Discard, MessageDiscard, chunk_count}
 use Rattle.strm_rows.proofs.Prelude.{Message, cells_of, size_of, is_held, is_high_priority, rank_of, band_of, data_message, driver_of, blocks_asked}
 use Rattle.strm_rows.proofs.Prelude.{blocks_taken, at_end, refused, turn_refused, State, Stream, with_stream, module_named, head_with, flow, queue}
-use Rattle.strm_rows.proofs.Prelude.{ordinary, proto, urgent, options}
+use Rattle.strm_rows.proofs.Prelude.{ordinary, proto, urgent, options, no_own}
 use Rattle.strm_types.specs.declared.events.Event.TheVariants.{Push, Flush, Read}
 use Rattle.strm_types.specs.declared.events.FlushQueues.TheVariants as flushes
 use Rattle.strm_types.specs.declared.names.ModuleName.TheVariants.{Ldterm}

@@ -1,7 +1,7 @@
 -- Which numbers the bytes of a base have, counted by hand in the order of an image.
-use Rattle.strm_rows.proofs.Prelude.{ℕ, ◌≡◌, true, false, List, [], ◌∷◌, map, refl, Dir, MasterToSlave, SlaveToMaster, Open, new_book, Base, Made, no_own}
+use Rattle.strm_rows.proofs.Prelude.{ℕ, ◌≡◌, true, false, List, [], ◌∷◌, map, refl, Dir, MasterToSlave, SlaveToMaster, Open, new_book, Base, Made}
 use Rattle.strm_rows.proofs.Prelude.{Tagged, Written, Message, cells_of, weight_of, no_fates, Up, Down, Standing, module_line, ldterm_stands, State}
-use Rattle.strm_rows.proofs.Prelude.{Stream, opening, module_named, head_with, options, ordinary, proto, queue, urgent, fresh}
+use Rattle.strm_rows.proofs.Prelude.{Stream, opening, module_named, head_with, options, ordinary, proto, queue, urgent, fresh, no_own}
 use Rattle.strm_types.specs.declared.names.ModuleName.TheVariants as names
 use Rattle.strm_types.specs.Standings.{messages_at}
 use Rattle.strm_laws.specs.Based.{based}

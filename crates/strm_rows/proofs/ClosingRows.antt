@@ -1,7 +1,7 @@
 -- What the definitions of flushes and closes compute, case by case, as worked out by hand from the manual pages.
-use Rattle.strm_rows.proofs.Prelude.{ℕ, ◌≡◌, Bool, true, false, List, [], ◌∷◌, map, refl, replicate, Option, None, Some, Done, Bytes, Caller, Both, no_own}
+use Rattle.strm_rows.proofs.Prelude.{ℕ, ◌≡◌, Bool, true, false, List, [], ◌∷◌, map, refl, replicate, Option, None, Some, Done, Bytes, Caller, Both}
 use Rattle.strm_rows.proofs.Prelude.{Band, Dir, MasterToSlave, SlaveToMaster, Openness, Never, Open, Closed, QueueName, Side, Master, Slave, Rule}
-use Rattle.strm_rows.proofs.Prelude.{new_book, called, plain, Fate, Goes, Carried, carried, closed_at, is_data_kind, caller_of, Message}
+use Rattle.strm_rows.proofs.Prelude.{new_book, called, plain, Fate, Goes, Carried, carried, closed_at, is_data_kind, caller_of, Message, no_own}
 use Rattle.strm_rows.proofs.Prelude.{is_high_priority, band_of, size_of, cells_of, driver_of, Queue, Flow, new_queue, State, Stream, head_with, flow}
 use Rattle.strm_rows.proofs.Prelude.{queue, ordinary, proto, urgent, options}
 use Rattle.strm_types.specs.declared.events.Event.TheVariants as events

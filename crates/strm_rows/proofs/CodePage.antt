@@ -1,5 +1,5 @@
--- A module of a user's own, as rows speak of one, and that it owes a stream nothing more: it puts one byte in place of another one in the data parts that
--- pass it, and an M_IOCTL of its command sets the two (STREAMS Programming Guide, "Modules"; streamio(7I): I_STR).
+-- A module of a user's own, as rows speak of one, and that it owes a stream nothing more: it puts one byte in place of another one in the data parts
+-- that pass it, and an M_IOCTL of its command sets the two (STREAMS Programming Guide, "Modules"; streamio(7I): I_STR).
 use Rattle.std.proofs.Common.{ℕ, ◌≡◌, ◌≤◌, ◌<◌, Bool, true, false, cond, List, [], ◌∷◌, length, map, take, refl, sym, ap, subst, ◌∙◌, arith}
 use Rattle.std.proofs.lemmas.Bool.{false≢true}
 use Rattle.std.proofs.lemmas.Bool.Decides.{nat_tests}
@@ -86,7 +86,8 @@ module _ {C : Type 0} (g : C → C) where
 
 module _ {C : Type 0} (cells : Cells C) (x : Own) where
   -- a test that says the same of a cell with another byte counts as many
-  exchanged-weighs : (q : C → Bool) → ((b : ℕ) (c : C) → q (cells.mapped b c) ≡ q c) → (xs : List C) → count_by q (map (exchanged cells x) xs) ≡ count_by q xs
+  exchanged-weighs : (q : C → Bool) → ((b : ℕ) (c : C) → q (cells.mapped b c) ≡ q c) → (xs : List C) → count_by q (map (exchanged cells x) xs)
+      ≡ count_by q xs
   exchanged-weighs q same [] = refl
   exchanged-weighs q same (c ∷ xs) =
       let one = ap (λ b. let n : ℕ = cond b 1 0 in n) (at (cells.byte c == slice_index_or x.settings 0 0)) in
@@ -184,7 +185,8 @@ module _ {C : Type 0} (cells : Cells C) (here : Spot) (m : Message C) (x : Own) 
     answer-within : Within (page_puts (Some ioc) cells here m x).sent (emits_at here (own_does here.way (shape_of m)))
     answer-within cost =
         let costs = λ (d : Does). sum_by cost (emits_at here d) in
-        let table : own_does here.way (shape_of m) ≡ own_does Down Asking = ap (λ way. own_does way (shape_of m)) down ∙ ap (λ shape. own_does Down shape) (asked-shape m asked) in
+        let shape : own_does Down (shape_of m) ≡ own_does Down Asking = ap (λ shape. own_does Down shape) (asked-shape m asked) in
+        let table : own_does here.way (shape_of m) ≡ own_does Down Asking = ap (λ way. own_does way (shape_of m)) down ∙ shape in
         let same : costs (own_does here.way (shape_of m)) ≡ costs (own_does Down Asking) = ap costs table in
         one-few cost (costs (own_does here.way (shape_of m))) (toward Up here) (ack_message ioc []) (omega (arith, same))
 
@@ -210,7 +212,8 @@ module _ {C : Type 0} (cells : Cells C) (here : Spot) (m : Message C) (x : Own) 
       };
     }
 
-pub page-put : {C : Type 0} (cells : Cells C) (here : Spot) (m : Message C) (x : Own) → OwnPut true cells here m x (page_puts (ours here.way m) cells here m x)
+pub page-put : {C : Type 0} (cells : Cells C) (here : Spot) (m : Message C) (x : Own)
+    → OwnPut true cells here m x (page_puts (ours here.way m) cells here m x)
 page-put cells here m x = by (ours here.way m) refl
   where
     by : (o : Option Ioc) → ours here.way m ≡ o → OwnPut true cells here m x (page_puts o cells here m x)
@@ -228,34 +231,40 @@ module _ {C : Type 0} (cells : Cells C) (are : AreCells cells) (x : Own) where
 
   bytes-same : (xs : List C) → map (exchanged plain x) (map cells.byte xs) ≡ map cells.byte (map (exchanged cells x) xs)
   bytes-same [] = refl
-  bytes-same (c ∷ xs) = ap (λ b. b ∷ map (exchanged plain x) (map cells.byte xs)) (byte-same c) ∙ ap (λ bytes. cells.byte (exchanged cells x c) ∷ bytes) (bytes-same xs)
+  bytes-same (c ∷ xs) =
+      ap (λ b. b ∷ map (exchanged plain x) (map cells.byte xs)) (byte-same c) ∙ ap (λ bytes. cells.byte (exchanged cells x c) ∷ bytes) (bytes-same xs)
 
-  body-same : (o : Option (List C)) → option_map (map (exchanged plain x)) (option_map (map cells.byte) o) ≡ option_map (map cells.byte) (option_map (map (exchanged cells x)) o)
+  body-same : (o : Option (List C)) → option_map (map (exchanged plain x)) (option_map (map cells.byte) o)
+      ≡ option_map (map cells.byte) (option_map (map (exchanged cells x)) o)
   body-same None = refl
   body-same (Some xs) = ap (λ bytes. Some bytes) (bytes-same xs)
 
   changed-same : (m : Message C) → changed plain x (map_message cells.byte m) ≡ map_message cells.byte (changed cells x m)
   unfolding map_message
   changed-same m =
-      ap (λ (o : Option (List ℕ)). record { kind = m.kind; band = m.band; control = option_map (map cells.byte) m.control; body = o; plain = m.plain }) (body-same m.body)
+      let control : Option (List ℕ) = option_map (map cells.byte) m.control in
+      ap (λ (o : Option (List ℕ)). record { kind = m.kind; band = m.band; control = control; body = o; plain = m.plain }) (body-same m.body)
 
   ours-same : (way : Way) (m : Message C) → ours way (map_message cells.byte m) ≡ ours way m
   unfolding map_message
   ours-same Up m = refl
   ours-same Down m = ap (λ parts. own_command (is_ioctl m.kind && not parts) (read_ioc m.plain)) (parts-forget cells.byte m)
 
-  puts-same : (o : Option Ioc) (here : Spot) (m : Message C) → page_puts o plain here (map_message cells.byte m) x ≡ map_acted cells.byte (λ (y : Own). y) (page_puts o cells here m x)
+  puts-same : (o : Option Ioc) (here : Spot) (m : Message C) → page_puts o plain here (map_message cells.byte m) x
+      ≡ map_acted cells.byte (λ (y : Own). y) (page_puts o cells here m x)
   unfolding map_message
   puts-same None here m = ap (λ (n : Message ℕ). record { state = x; notes = []; sent = onward here.way here n ∷ []; gone = [] }) (changed-same m)
   puts-same (Some ioc) here m = refl
 
   pub page-forgets : (here : Spot) (m : Message C)
-      → page_puts (ours here.way (map_message cells.byte m)) plain here (map_message cells.byte m) x ≡ map_acted cells.byte (λ (y : Own). y) (page_puts (ours here.way m) cells here m x)
+      → page_puts (ours here.way (map_message cells.byte m)) plain here (map_message cells.byte m) x
+      ≡ map_acted cells.byte (λ (y : Own). y) (page_puts (ours here.way m) cells here m x)
   page-forgets here m = ap (λ o. page_puts o plain here (map_message cells.byte m) x) (ours-same here.way m) ∙ puts-same (ours here.way m) here m
 
 -- the module's number is 3, and it puts A in place of a where nobody has set it
 pub page-good : (n : ℕ) → (n == 3) ≡ true → GoodOwn (record { number = n; settings = 97 ∷ 65 ∷ [] })
-page-good n is = let e : n ≡ 3 = grind (arith, nat_tests) in record { number = omega (arith, e); few = omega arith; bytes = (omega arith, (omega arith, tt)) }
+page-good n is =
+    let e : n ≡ 3 = grind (arith, nat_tests) in record { number = omega (arith, e); few = omega arith; bytes = (omega arith, (omega arith, tt)) }
 
 abbrev pub code_page : Behaviour
 code_page = record {

@@ -1,6 +1,6 @@
 -- What getmsg(2), I_SRDOPT and I_NREAD do as calls of a pair, as worked out by hand from the manual pages.
-use Rattle.strm_rows.proofs.Prelude.{ℕ, ◌≡◌, Bool, true, false, List, [], ◌∷◌, length, map, refl, replicate, Option, None, Some, Free, Answer, Done, no_own}
-use Rattle.strm_rows.proofs.Prelude.{Called, Caller, Get, Mode, Nread, Prio, ReadMode, ByteStream, MessageKeep, MessageDiscard, Any, High}
+use Rattle.strm_rows.proofs.Prelude.{ℕ, ◌≡◌, Bool, true, false, List, [], ◌∷◌, length, map, refl, replicate, Option, None, Some, Free, Answer, Done}
+use Rattle.strm_rows.proofs.Prelude.{Called, Caller, Get, Mode, Nread, Prio, ReadMode, ByteStream, MessageKeep, MessageDiscard, Any, High, no_own}
 use Rattle.strm_rows.proofs.Prelude.{MasterToSlave, Open, Closed, QueueName, Side, Master, Slave, Refusal, Eagain, Enxio, new_book, Request}
 use Rattle.strm_rows.proofs.Prelude.{content_of, called, plain, Goes, caller_of, content_max, entries_in, room_of, came, gone, Message, rank_of}
 use Rattle.strm_rows.proofs.Prelude.{band_of, size_of, cells_of, is_held, is_high_priority, driver_of, Queue, Flow, blocks_asked, refused_at_once}

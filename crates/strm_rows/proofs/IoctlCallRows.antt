@@ -1,7 +1,7 @@
 -- Ioctls as calls of a pair, from the call to its answer, as worked out by hand from streamio(7I) (I_STR).
-use Rattle.strm_rows.proofs.Prelude.{ℕ, ◌≡◌, Bool, true, false, List, [], ◌∷◌, ◌++◌, length, map, refl, replicate, Option, None, Some, Done, Bytes, no_own}
+use Rattle.strm_rows.proofs.Prelude.{ℕ, ◌≡◌, Bool, true, false, List, [], ◌∷◌, ◌++◌, length, map, refl, replicate, Option, None, Some, Done, Bytes}
 use Rattle.strm_rows.proofs.Prelude.{Pending, Nak, Moved, Book, Called, Turned, Caller, TIOCGWINSZ, Config, Openness, Never, Open, Closed, QueueName}
-use Rattle.strm_rows.proofs.Prelude.{Side, Master, Slave, Refusal, Einval, Eagain, Enxio, Enosr, Erange, JournalFull, Free, Waiting, Answered}
+use Rattle.strm_rows.proofs.Prelude.{Side, Master, Slave, Refusal, Einval, Eagain, Enxio, Enosr, Erange, JournalFull, Free, Waiting, Answered, no_own}
 use Rattle.strm_rows.proofs.Prelude.{new_book, Request, content_of, map_answer, map_event, payload_of, called, plain, carried, crosses, caller_of}
 use Rattle.strm_rows.proofs.Prelude.{PlainEntry, content_max, entries_in, room_of, came, gone, Message, band_of, cells_of, is_high_priority, is_held}
 use Rattle.strm_rows.proofs.Prelude.{rank_of, size_of, driver_of, blocks_asked, blocks_taken, refused, refused_at_once, refused_by_state, PlainSlot}
@@ -201,7 +201,8 @@ blocks-of-ioctls = refl
 pub ioctls-are-no-cells : map (λ x. came no_own plain (pair none none [] 1) (Called (caller Master) x Done)) both_calls ≡ [] ∷ [] ∷ [] ∷ []
 ioctls-are-no-cells = refl
 
-pub no-cells-go-with-ioctls : map (λ x. gone no_own plain (pair none none [] 1) (Called (caller Master) x Done)) (asks ∷ IoctlResult 7 ∷ []) ≡ [] ∷ [] ∷ []
+pub no-cells-go-with-ioctls : map (λ x. gone no_own plain (pair none none [] 1) (Called (caller Master) x Done)) (asks ∷ IoctlResult 7 ∷ [])
+    ≡ [] ∷ [] ∷ []
 unfolding carried
 no-cells-go-with-ioctls = refl
 

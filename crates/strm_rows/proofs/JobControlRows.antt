@@ -1,7 +1,7 @@
 -- Job control at a slave whose foreground group is 5 (POSIX, General Terminal Interface, "Terminal Access Control"): who is in the background,
 -- and what becomes of reads, gets, writes and puts from there.
-use Rattle.strm_rows.proofs.Prelude.{ℕ, ◌≡◌, Bool, true, false, List, [], ◌∷◌, map, replicate, refl, None, Some, Done, Bytes, Nak, Caller, Shut, Look, no_own}
-use Rattle.strm_rows.proofs.Prelude.{Write, Put, Get, Nread, Pop, TIOCGPGRP, TIOCSPGRP, Any, Open, Master, Slave, Einval, Eagain, Eio, Enosr}
+use Rattle.strm_rows.proofs.Prelude.{ℕ, ◌≡◌, Bool, true, false, List, [], ◌∷◌, map, replicate, refl, None, Some, Done, Bytes, Nak, Caller, Shut, Look}
+use Rattle.strm_rows.proofs.Prelude.{Write, Put, Get, Nread, Pop, TIOCGPGRP, TIOCSPGRP, Any, Open, Master, Slave, Einval, Eagain, Eio, Enosr, no_own}
 use Rattle.strm_rows.proofs.Prelude.{JournalFull, plain, Request, Head, new_head, caller_of, called, refused, refused_by_state, State, new_stream}
 use Rattle.strm_rows.proofs.Prelude.{opening, with_stream, Config}
 use Rattle.strm_types.specs.declared.answers.Answer.TheVariants.{Stop}

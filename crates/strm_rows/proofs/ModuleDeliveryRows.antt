@@ -1,6 +1,6 @@
 -- What deliveries over the modules of a pair's streams compute, as worked out by hand.
-use Rattle.strm_rows.proofs.Prelude.{ℕ, ◌≡◌, false, ◌∷◌, [], refl, MasterToSlave, SlaveToMaster, Master, Slave, Up, Down, Flushed, Waiting, Answered, no_own}
-use Rattle.strm_rows.proofs.Prelude.{plain, Goes, carried, crosses, is_data_kind, flush_message, Message, band_of, cells_of, is_held}
+use Rattle.strm_rows.proofs.Prelude.{ℕ, ◌≡◌, false, ◌∷◌, [], refl, MasterToSlave, SlaveToMaster, Master, Slave, Up, Down, Flushed, Waiting, Answered}
+use Rattle.strm_rows.proofs.Prelude.{plain, Goes, carried, crosses, is_data_kind, flush_message, Message, band_of, cells_of, is_held, no_own}
 use Rattle.strm_rows.proofs.Prelude.{is_high_priority, rank_of, size_of, driver_of, delivered, PlainSlot, State, Stream, driver_serves, header}
 use Rattle.strm_rows.proofs.Prelude.{ordinary, without_parts}
 use Rattle.strm_types.specs.declared.kinds.MsgKind.TheVariants as kinds
@@ -55,7 +55,8 @@ asks = without_parts kinds.Ioctl (header 5 7 0)
 abbrev waits : PlainSlot → State ℕ
 waits slot = let slave : Stream ℕ = end [] (bare ∷ bare ∷ []) [] in pair (end [] [] []) (record slave { head = record slave.head { ioctl = slot } }) []
 
-pub ioctl-goes-round : delivered no_own plain (spot Slave 1 Down) asks (waits (Waiting 7 5)) ≡ record { state = waits (Answered 7 5 false 1 []); gone = [] }
+pub ioctl-goes-round : delivered no_own plain (spot Slave 1 Down) asks (waits (Waiting 7 5))
+    ≡ record { state = waits (Answered 7 5 false 1 []); gone = [] }
 unfolding carried
 ioctl-goes-round = refl
 

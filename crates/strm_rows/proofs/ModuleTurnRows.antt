@@ -1,6 +1,6 @@
 -- Turns of modules' queues, as worked out by hand from the STREAMS Programming Guide, ldterm(7M) and termio(7I).
-use Rattle.strm_rows.proofs.Prelude.{ℕ, ◌≡◌, Bool, true, false, List, [], ◌∷◌, ◌++◌, map, refl, None, Some, Turn, Moved, Blocked, Idle, Turned, Open, no_own}
-use Rattle.strm_rows.proofs.Prelude.{Driver, QueueName, Master, Slave, Up, Down, new_book, plain, carried, Message, band_of, cells_of}
+use Rattle.strm_rows.proofs.Prelude.{ℕ, ◌≡◌, Bool, true, false, List, [], ◌∷◌, ◌++◌, map, refl, None, Some, Turn, Moved, Blocked, Idle, Turned, Open}
+use Rattle.strm_rows.proofs.Prelude.{Driver, QueueName, Master, Slave, Up, Down, new_book, plain, carried, Message, band_of, cells_of, no_own}
 use Rattle.strm_rows.proofs.Prelude.{data_message, is_high_priority, rank_of, size_of, driver_of, Flow, Queue, Standing, ldterm_stands, State, Stream}
 use Rattle.strm_rows.proofs.Prelude.{new_stream, TurnOutcome, turned, whole_turn, head_with, ordinary, fresh, module_named}
 use Rattle.strm_types.specs.declared.names.Place.TheVariants as places

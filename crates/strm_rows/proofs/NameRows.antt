@@ -43,7 +43,8 @@ pub names-of-drivers-and-heads : driver_of Slave ∷ head_of Slave ∷ [] ≡ na
 names-of-drivers-and-heads = refl
 
 -- modules of a user's own are told apart by their numbers, and have no queues
-pub own-numbers : map (λ name. same_module (names.Own 7) name) (names.Own 7 ∷ names.Own 8 ∷ names.Ldterm ∷ names.Pckt ∷ []) ≡ true ∷ false ∷ false ∷ false ∷ []
+pub own-numbers : map (λ name. same_module (names.Own 7) name) (names.Own 7 ∷ names.Own 8 ∷ names.Ldterm ∷ names.Pckt ∷ [])
+    ≡ true ∷ false ∷ false ∷ false ∷ []
 own-numbers = refl
 
 pub own-has-no-queues : map have_queues (names.Own 0 ∷ names.Own 255 ∷ names.Ldterm ∷ []) ≡ false ∷ false ∷ true ∷ []

@@ -1,12 +1,14 @@
--- What modules of a user's own do on a pair's streams, for one that puts A in place of a, as worked out by hand (streamio(7I): I_PUSH, I_LOOK, I_STR; STREAMS
--- Programming Guide, "Modules").
-use Rattle.strm_rows.proofs.Prelude.{ℕ, ◌≡◌, true, false, List, [], ◌∷◌, ◌++◌, map, refl, replicate, None, Some, Done, Count, Name, Open, Einval, Side}
-use Rattle.strm_rows.proofs.Prelude.{Master, Slave, Up, Down, SlaveToMaster, Write, Iocack, Ioctl, Flush, Written, Tagged, plain, tagged}
+-- What modules of a user's own do on a pair's streams, for one that puts A in place of a, as worked out by hand (streamio(7I): I_PUSH, I_LOOK, I_STR;
+-- STREAMS Programming Guide, "Modules").
+use Rattle.strm_rows.proofs.Prelude.{ℕ, ◌≡◌, true, false, List, [], ◌∷◌, ◌++◌, map, refl, None, Option, Some, Name, Open, Einval}
+use Rattle.strm_rows.proofs.Prelude.{Master, Slave, Up, Down, SlaveToMaster, Write, Iocack, Ioctl, Flush, Written, Tagged, plain, tagged, cells_of}
 use Rattle.strm_rows.proofs.Prelude.{Parcel, caller_of, called, carried, module_named, refused_by_state, put_in, State, Standing, new_stream, opening}
-use Rattle.strm_rows.proofs.Prelude.{with_stream, header, ordinary, proto, without_parts, chunk_count, data_message, rank_of, band_of, size_of, cells_of}
+use Rattle.strm_rows.proofs.Prelude.{with_stream, header, ordinary, proto, without_parts, chunk_count, data_message, rank_of, band_of, size_of}
 use Rattle.strm_rows.proofs.Prelude.{is_high_priority, no_own, module_name}
 use Rattle.strm_types.specs.declared.events.Event.TheVariants.{Look, Pop, Push}
+use Rattle.strm_types.specs.declared.names.ModuleName.{ModuleName}
 use Rattle.strm_types.specs.declared.names.ModuleName.TheVariants as names
+use Rattle.strm_types.specs.declared.refusals.Refusal.{Refusal}
 use Rattle.strm_types.specs.declared.spots.Spot.{Spot}
 use Rattle.strm_types.specs.Acks.{ack_message}
 use Rattle.strm_types.specs.Message.{Message}
@@ -47,8 +49,10 @@ pub pop-takes-it : (called code_page plain (caller_of Slave) Pop pushed).state �
 pop-takes-it = refl
 
 -- a number of which there is no module is refused as a name that doesn't exist
-pub unknown-is-refused : map (λ name. refused_by_state {C = ℕ} code_page (pair []) (caller_of Slave) (Push (Some name))) (names.Own 3 ∷ names.Own 4 ∷ names.Ptem ∷ [])
-    ≡ None ∷ Some Einval ∷ None ∷ []
+abbrev push_refused : ModuleName → Option Refusal
+push_refused name = refused_by_state {C = ℕ} code_page (pair []) (caller_of Slave) (Push (Some name))
+
+pub unknown-is-refused : map push_refused (names.Own 3 ∷ names.Own 4 ∷ names.Ptem ∷ []) ≡ None ∷ Some Einval ∷ None ∷ []
 unknown-is-refused = refl
 
 pub none-is-known : refused_by_state {C = ℕ} no_own (pair []) (caller_of Slave) (Push (Some (names.Own 3))) ≡ Some Einval
@@ -60,7 +64,10 @@ pub own-stands-once : map (λ ps. may_stand {C = ℕ} (named_by code_page (Some 
 own-stands-once = refl
 
 -- what is written goes down through it changed, and each byte is still the one that was written
-pub write-goes-through : (called code_page plain (caller_of Slave) (Write (97 ∷ 98 ∷ 97 ∷ [])) (pair (page ∷ []))).state.ends.slave.driver.queue.messages ≡ ordinary (65 ∷ 98 ∷ 65 ∷ []) ∷ []
+abbrev written_on : List (Standing ℕ) → List ℕ → List (Message ℕ)
+written_on ps bytes = (called code_page plain (caller_of Slave) (Write bytes) (pair ps)).state.ends.slave.driver.queue.messages
+
+pub write-goes-through : written_on (page ∷ []) (97 ∷ 98 ∷ 97 ∷ []) ≡ ordinary (65 ∷ 98 ∷ 65 ∷ []) ∷ []
 unfolding carried chunk_count data_message rank_of band_of size_of cells_of is_high_priority
 write-goes-through = refl
 
@@ -73,7 +80,7 @@ unfolding carried chunk_count data_message rank_of band_of size_of cells_of is_h
 origins-stay = refl
 
 -- without it nothing changes
-pub no-module-no-change : (called code_page plain (caller_of Slave) (Write (97 ∷ [])) (pair [])).state.ends.slave.driver.queue.messages ≡ ordinary (97 ∷ []) ∷ []
+pub no-module-no-change : written_on [] (97 ∷ []) ≡ ordinary (97 ∷ []) ∷ []
 unfolding carried chunk_count data_message rank_of band_of size_of cells_of is_high_priority
 no-module-no-change = refl
 

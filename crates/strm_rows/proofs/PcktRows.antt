@@ -1,7 +1,7 @@
 -- What pckt does with what is put at it, as worked out by hand from pckt(7M) and sys/stream.h.
-use Rattle.strm_rows.proofs.Prelude.{ℕ, ◌≡◌, true, false, List, [], ◌∷◌, ◌++◌, map, refl, replicate, Option, None, Some, Data, Proto, Sig, Ctl, Ioctl, no_own}
+use Rattle.strm_rows.proofs.Prelude.{ℕ, ◌≡◌, true, false, List, [], ◌∷◌, ◌++◌, map, refl, replicate, Option, None, Some, Data, Proto, Sig, Ctl, Ioctl}
 use Rattle.strm_rows.proofs.Prelude.{Setopts, Iocack, Iocnak, Pcproto, Pcsig, Read, Flush, Stop, Start, Hangup, Error, MasterToSlave, SlaveToMaster}
-use Rattle.strm_rows.proofs.Prelude.{Master, Slave, Way, Up, Down, Spot, Tagged, Base, Made, Written, plain, tagged, Acted, Comes, Parcel}
+use Rattle.strm_rows.proofs.Prelude.{Master, Slave, Way, Up, Down, Spot, Tagged, Base, Made, Written, plain, tagged, Acted, Comes, Parcel, no_own}
 use Rattle.strm_rows.proofs.Prelude.{kind_number, Message, band_of, cells_of, is_high_priority, put_in, State, new_stream, opening, with_book}
 use Rattle.strm_rows.proofs.Prelude.{with_stream, module_named, header, ordinary, proto, urgent, without_parts}
 use Rattle.strm_types.specs.declared.names.ModuleName.TheVariants as names

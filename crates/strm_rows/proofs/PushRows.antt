@@ -72,7 +72,8 @@ unfolding carried cells_of size_of
 push-on-the-other-side = refl
 
 -- a module below with messages is let come before the driver
-pub push-above-a-module : (pushed Slave (module_named no_own names.Ldterm) (pair (one 7) (holding (one 3) [] [] [] ∷ []) [])).state.enabled ≡ reads ∷ []
+pub push-above-a-module : (pushed Slave (module_named no_own names.Ldterm) (pair (one 7) (holding (one 3) [] [] [] ∷ []) [])).state.enabled
+    ≡ reads ∷ []
 unfolding carried cells_of size_of
 push-above-a-module = refl
 
@@ -82,7 +83,8 @@ unfolding carried cells_of size_of
 push-by-name = refl
 
 -- one of a name stands once, beside others
-pub stands-once : map (λ ps. may_stand {C = ℕ} (named_by no_own (Some names.Ldterm)) ps) ([] ∷ (module_named no_own names.Ldterm ∷ []) ∷ []) ≡ true ∷ false ∷ []
+pub stands-once : map (λ ps. may_stand {C = ℕ} (named_by no_own (Some names.Ldterm)) ps) ([] ∷ (module_named no_own names.Ldterm ∷ []) ∷ [])
+    ≡ true ∷ false ∷ []
 stands-once = refl
 
 pub others-may-stand : map (λ name. map (λ ps. may_stand {C = ℕ} (named_by no_own (Some name)) ps) ((module_named no_own names.Ldterm ∷ []) ∷ (module_named no_own names.Ptem ∷ []) ∷ (module_named no_own names.Pckt ∷ []) ∷ []))

@@ -1,6 +1,6 @@
 -- What puts at the modules of a pair's streams compute, and the nearest earlier queues there, as worked out by hand.
-use Rattle.strm_rows.proofs.Prelude.{ℕ, ◌≡◌, ◌∷◌, List, [], map, refl, true, false, None, Some, MasterToSlave, SlaveToMaster, Open, QueueName, Side, no_own}
-use Rattle.strm_rows.proofs.Prelude.{Master, Slave, Way, Up, Down, Flushed, Spot, plain, new_book, Fate, Goes, Parcel, Took, is_data_kind}
+use Rattle.strm_rows.proofs.Prelude.{ℕ, ◌≡◌, ◌∷◌, List, [], map, refl, true, false, None, Some, MasterToSlave, SlaveToMaster, Open, QueueName, Side}
+use Rattle.strm_rows.proofs.Prelude.{Master, Slave, Way, Up, Down, Flushed, Spot, plain, new_book, Fate, Goes, Parcel, Took, is_data_kind, no_own}
 use Rattle.strm_rows.proofs.Prelude.{flush_message, Message, band_of, cells_of, is_high_priority, rank_of, size_of, driver_of, put_in, Flow, Standing}
 use Rattle.strm_rows.proofs.Prelude.{ldterm_stands, State, Stream, flow, head_with, header, ordinary, queue, without_parts, fresh}
 use Rattle.strm_types.specs.declared.names.ModuleName.TheVariants as names

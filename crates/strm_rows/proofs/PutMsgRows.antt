@@ -1,5 +1,6 @@
 -- What putmsg(2) and putpmsg(2) send and are refused for, as worked out by hand from the manual pages.
-use Rattle.strm_rows.proofs.Prelude.{ℕ, ◌≡◌, Bool, true, false, List, [], ◌∷◌, map, refl, replicate, Option, None, Some, Done, Book, Called, Caller, no_own}
+use Rattle.strm_rows.proofs.Prelude.{ℕ, ◌≡◌, Bool, true, false, List, [], ◌∷◌, map, refl, replicate, Option, None, Some, Done, Book, Called, Caller}
+use Rattle.strm_rows.proofs.Prelude.{no_own}
 use Rattle.strm_rows.proofs.Prelude.{Put, Get, Mode, Nread, MsgKind, Data, Proto, Pcproto, Discard, Prio, Any, SlaveToMaster, Openness, Never, Open}
 use Rattle.strm_rows.proofs.Prelude.{Closed, QueueName, Side, Master, Slave, Refusal, Einval, Eagain, Enxio, Erange, new_book, Request, payload_of}
 use Rattle.strm_rows.proofs.Prelude.{called, Tagged, plain, tagged, cells_written, carried, Goes, caller_of, content_max, entries_in, room_of, came}
@@ -107,7 +108,8 @@ unfolding carried rank_of band_of cells_of is_high_priority
 puts-are-booked = refl
 
 -- neither part: nothing is sent
-pub put-of-nothing : called no_own plain (caller Master) (Put (banded 0) None None) full ≡ record { answer = Done; state = full; came = []; gone = [] }
+pub put-of-nothing : called no_own plain (caller Master) (Put (banded 0) None None) full
+    ≡ record { answer = Done; state = full; came = []; gone = [] }
 unfolding cells_of
 put-of-nothing = refl
 

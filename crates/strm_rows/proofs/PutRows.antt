@@ -1,7 +1,7 @@
 -- What puts at a head and in a pair compute, case by case, as worked out by hand from the manual pages.
-use Rattle.strm_rows.proofs.Prelude.{ℕ, ◌≡◌, Bool, true, false, List, [], ◌∷◌, map, refl, Option, None, Some, Moved, Both, FlushAsked, Band, MsgKind, no_own}
+use Rattle.strm_rows.proofs.Prelude.{ℕ, ◌≡◌, Bool, true, false, List, [], ◌∷◌, map, refl, Option, None, Some, Moved, Both, FlushAsked, Band, MsgKind}
 use Rattle.strm_rows.proofs.Prelude.{Dir, MasterToSlave, SlaveToMaster, Openness, Never, Open, Closed, QueueName, Side, Master, Slave, Way, Up, Down}
-use Rattle.strm_rows.proofs.Prelude.{Rule, Room, Spot, plain, new_book, Acted, Fate, Goes, Parcel, Took, carried, is_data_kind, flush_message}
+use Rattle.strm_rows.proofs.Prelude.{Rule, Room, Spot, plain, new_book, Acted, Fate, Goes, Parcel, Took, carried, is_data_kind, flush_message, no_own}
 use Rattle.strm_rows.proofs.Prelude.{head_put, Head, Message, band_of, cells_of, is_held, is_high_priority, rank_of, size_of, driver_of, delivered}
 use Rattle.strm_rows.proofs.Prelude.{put_in, State, Stream, driver_serves, flow, head_with, ordinary, proto, queue, urgent}
 use Rattle.strm_types.specs.declared.events.FlushQueues.TheVariants.{Read, Write}

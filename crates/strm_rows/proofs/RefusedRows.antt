@@ -1,6 +1,6 @@
 -- What the definitions of refusals and of the journal compute, case by case.
-use Rattle.strm_rows.proofs.Prelude.{ℕ, ◌≡◌, Bool, true, false, List, [], ◌∷◌, map, refl, replicate, Option, None, Some, Config, Done, Count, Bytes, no_own}
-use Rattle.strm_rows.proofs.Prelude.{Moved, Called, Turned, Caller, OpenMaster, Unlock, OpenSlave, Write, Openness, Never, Open, Closed}
+use Rattle.strm_rows.proofs.Prelude.{ℕ, ◌≡◌, Bool, true, false, List, [], ◌∷◌, map, refl, replicate, Option, None, Some, Config, Done, Count, Bytes}
+use Rattle.strm_rows.proofs.Prelude.{Moved, Called, Turned, Caller, OpenMaster, Unlock, OpenSlave, Write, Openness, Never, Open, Closed, no_own}
 use Rattle.strm_rows.proofs.Prelude.{Driver, QueueName, Side, Master, Slave, Up, Refusal, Einval, Eagain, Enxio, Enosr, JournalFull, caller_of}
 use Rattle.strm_rows.proofs.Prelude.{Message, data_message, band_of, size_of, cells_of, is_high_priority, driver_of, new_queue, new_book, head_with}
 use Rattle.strm_rows.proofs.Prelude.{State, opening, new_head, chunk_count, Request, payload_of, content_of, PlainEntry, content_max, room_of}

@@ -1,8 +1,8 @@
 -- What the definitions compute, for a few scripts whose answers were worked out by hand from the manual pages.
-use Rattle.strm_rows.proofs.Prelude.{ℕ, ◌≡◌, [], ◌∷◌, refl, replicate, None, Some, Data, Pcproto, Master, Slave, Moved, Idle, Eagain, Enxio, Einval, no_own}
+use Rattle.strm_rows.proofs.Prelude.{ℕ, ◌≡◌, [], ◌∷◌, refl, replicate, None, Some, Data, Pcproto, Master, Slave, Moved, Idle, Eagain, Enxio, Einval}
 use Rattle.strm_rows.proofs.Prelude.{Message, data_message, rank_of, band_of, size_of, cells_of, is_high_priority, is_held, driver_of, State, opening}
 use Rattle.strm_rows.proofs.Prelude.{chunk_count, carried, turned, OpenMaster, Unlock, OpenSlave, Write, Count, Bytes, plain, caller_of, called}
-use Rattle.strm_rows.proofs.Prelude.{refused_by_state, refused_at_once}
+use Rattle.strm_rows.proofs.Prelude.{refused_by_state, refused_at_once, no_own}
 use Rattle.strm_types.specs.Queue.{put, put_back}
 use Rattle.strm_types.specs.declared.events.Event.TheVariants.{Read}
 
@@ -50,7 +50,8 @@ pub turn-makes-room : (turned no_own plain (driver_of Master) Idle after-long).t
 unfolding carried chunk_count data_message rank_of band_of size_of cells_of is_high_priority is_held
 turn-makes-room = refl
 
-pub write-goes-on : (called no_own plain (caller_of Master) (Write (122 ∷ [])) (turned no_own plain (driver_of Master) Idle after-long).state).answer ≡ Count 1
+pub write-goes-on : (called no_own plain (caller_of Master) (Write (122 ∷ [])) (turned no_own plain (driver_of Master) Idle after-long).state).answer
+    ≡ Count 1
 unfolding carried chunk_count data_message rank_of band_of size_of cells_of is_high_priority is_held
 write-goes-on = refl
 

@@ -1,8 +1,8 @@
 -- What a pair's state tells of the modules on its streams, on small stacks.
-use Rattle.strm_rows.proofs.Prelude.{ℕ, ◌≡◌, true, false, List, [], ◌∷◌, map, refl, ◌==◌, None, Some, Ptem, Open, Slave, Master, Up, Down, Enable, no_own}
+use Rattle.strm_rows.proofs.Prelude.{ℕ, ◌≡◌, true, false, List, [], ◌∷◌, map, refl, ◌==◌, None, Some, Ptem, Open, Slave, Master, Up, Down, Enable}
 use Rattle.strm_rows.proofs.Prelude.{Spot, new_book, plain, Message, band_of, cells_of, is_high_priority, map_message, rank_of, size_of, weight_of}
 use Rattle.strm_rows.proofs.Prelude.{Queue, Standing, module_line, module_name, ldterm_stands, State, Stream, messages_in, new_stream, module_named}
-use Rattle.strm_rows.proofs.Prelude.{head_with, ordinary, queue, fresh}
+use Rattle.strm_rows.proofs.Prelude.{head_with, ordinary, queue, fresh, no_own}
 use Rattle.strm_types.specs.declared.names.ModuleName.TheVariants.{Ldterm}
 use Rattle.strm_types.specs.declared.spots.Asks.TheVariants.{Empty}
 use Rattle.strm_laws.specs.Kept.{stream_weight}

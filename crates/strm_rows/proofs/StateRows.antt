@@ -1,7 +1,7 @@
 -- What calls and turns compute, case by case, as worked out by hand from the manual pages.
-use Rattle.strm_rows.proofs.Prelude.{ℕ, ◌≡◌, Bool, true, false, List, [], ◌∷◌, length, map, refl, replicate, Done, Bytes, Turn, Moved, Blocked, Idle, no_own}
+use Rattle.strm_rows.proofs.Prelude.{ℕ, ◌≡◌, Bool, true, false, List, [], ◌∷◌, length, map, refl, replicate, Done, Bytes, Turn, Moved, Blocked, Idle}
 use Rattle.strm_rows.proofs.Prelude.{Caller, OpenMaster, Unlock, OpenSlave, Write, Dir, MasterToSlave, SlaveToMaster, Openness, Never, Open, Closed}
-use Rattle.strm_rows.proofs.Prelude.{QueueName, Side, Master, Slave, Down, Tagged, Written, plain, tagged, cells_written, caller_of, Message}
+use Rattle.strm_rows.proofs.Prelude.{QueueName, Side, Master, Slave, Down, Tagged, Written, plain, tagged, cells_written, caller_of, Message, no_own}
 use Rattle.strm_rows.proofs.Prelude.{data_message, is_held, rank_of, band_of, size_of, cells_of, is_high_priority, driver_of, head_of, Queue, Flow}
 use Rattle.strm_rows.proofs.Prelude.{new_book, State, Stream, opening, new_stream, messages_in, chunk_count, TurnOutcome, driver_serves, turned}
 use Rattle.strm_rows.proofs.Prelude.{whole_turn, Fate, Goes, carried, content_of, called, head_with, flow, queue, ordinary, proto, urgent}
@@ -68,7 +68,8 @@ pub written-bytes-have-their-places : cells_written tagged SlaveToMaster 5 (97 �
 written-bytes-have-their-places = refl
 
 abbrev written_twice : State Tagged
-written_twice = (called no_own tagged (caller Slave) (Write (98 ∷ 99 ∷ [])) (called no_own tagged (caller Slave) (Write (97 ∷ [])) opening).state).state
+written_twice =
+    (called no_own tagged (caller Slave) (Write (98 ∷ 99 ∷ [])) (called no_own tagged (caller Slave) (Write (97 ∷ [])) opening).state).state
 
 pub second-write-is-booked-behind-the-first : map cells_of written_twice.ends.slave.driver.queue.messages ≡ cells_written tagged SlaveToMaster 0 (97 ∷ []) ∷ cells_written tagged SlaveToMaster 1 (98 ∷ 99 ∷ []) ∷ []
 unfolding carried chunk_count data_message rank_of band_of size_of cells_of is_high_priority

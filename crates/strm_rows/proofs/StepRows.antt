@@ -1,8 +1,8 @@
 -- What steps and the replay of a journal are: for a short journal, and for entries that are no steps.
-use Rattle.strm_rows.proofs.Prelude.{ℕ, ◌≡◌, Bool, List, [], ◌∷◌, refl, Done, Count, Turn, Idle, Called, Turned, Caller, OpenMaster, Unlock, Write, no_own}
+use Rattle.strm_rows.proofs.Prelude.{ℕ, ◌≡◌, Bool, List, [], ◌∷◌, refl, Done, Count, Turn, Idle, Called, Turned, Caller, OpenMaster, Unlock, Write}
 use Rattle.strm_rows.proofs.Prelude.{MasterToSlave, SlaveToMaster, Side, Master, Dir, Made, Base, plain, tagged, caller_of, data_message, rank_of}
 use Rattle.strm_rows.proofs.Prelude.{band_of, size_of, cells_of, is_high_priority, driver_of, State, opening, chunk_count, turned, Request, called}
-use Rattle.strm_rows.proofs.Prelude.{PlainEntry, replay, IsLegal}
+use Rattle.strm_rows.proofs.Prelude.{PlainEntry, replay, IsLegal, no_own}
 use Rattle.std.proofs.Common.{ap}
 use Rattle.std.proofs.lemmas.Bool.{false≢true}
 use Rattle.strm_types.specs.Cells.{Cells}
