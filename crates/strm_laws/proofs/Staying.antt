@@ -6,14 +6,18 @@ use Rattle.strm_laws.specs.Prelude.{toward, crosses, driver_put, put_across, put
 use Rattle.strm_laws.specs.Prelude.{waits_for_readers, Message, has_parts, is_held, act_among, is_closed, is_open, same_side, same_way, Queue, Within}
 use Rattle.strm_laws.specs.Prelude.{next_at, cost_of, name_does, Shape, Held, shape_by, ModuleName}
 use Rattle.strm_types.specs.declared.names.ModuleName.TheVariants as names
+use Rattle.strm_types.specs.Tables.{name_holds}
 use Rattle.strm_laws.specs.Behaviours.{Behaviour}
 use Rattle.strm_laws.specs.Earlier.{driver_place, modules_on}
-use Rattle.strm_laws.specs.Pair.{IsKeptAhead}
+use Rattle.std.specs.List.{list_all}
+use Rattle.strm_laws.specs.Pair.{IsKeptAhead, IsOpenAhead}
 use Rattle.strm_laws.specs.Puts.{SameButMade, across_of, made_above, passed_up, put_at_driver, put_at_head, put_at_module, put_behind, put_below, put_in}
+use Rattle.strm_laws.specs.StackCosts.{stands_of, stands_on}
 use Rattle.strm_laws.specs.Stacked.{Standing, module_puts, module_name}
 use Rattle.strm_laws.specs.State.{State, stream}
 use Rattle.strm_laws.proofs.PutParts.{puts-hold}
 use Rattle.strm_laws.proofs.PutsKeep.{same-itself, same-stays}
+use Rattle.strm_laws.proofs.StackStays.{puts-stand}
 use Rattle.strm_laws.proofs.LawfulKinds.{puts-lawfully}
 
 -- What is sent on from a spot is nothing, or one M_DATA or M_PROTO on the same way of the same side, below the head where it goes down.
@@ -22,14 +26,25 @@ SentOn to [] = Unit {0}
 SentOn to (x ∷ []) = (is_held x.message.kind ≡ true) × (x.to.side ≡ to.side) × (x.to.way ≡ to.way) × (x.to.way ≡ Down → 0 < x.to.at)
 SentOn to (x ∷ y ∷ more) = ⊥
 
--- what is ahead is open where it was
-pub kept-ahead : (way : Way) (side : Side) (s t : State ℕ) → ((sd : Side) → (stream sd t).opened ≡ (stream sd s).opened) → IsKeptAhead way side s → IsKeptAhead way side t
-kept-ahead Up side s t same kept = ap is_open (same side) ∙ kept
-kept-ahead Down side s t same kept = ap is_closed (same Master) ∙ kept
+-- what is ahead is kept where it was
+open-ahead : (way : Way) (side : Side) (s t : State ℕ) → ((sd : Side) → (stream sd t).opened ≡ (stream sd s).opened) → IsOpenAhead way side s
+    → IsOpenAhead way side t
+open-ahead Up side s t same kept = ap is_open (same side) ∙ kept
+open-ahead Down side s t same kept = ap is_closed (same Master) ∙ kept
+
+pub kept-ahead : (way : Way) (side : Side) (s t : State ℕ) → ((sd : Side) → (stream sd t).opened ≡ (stream sd s).opened) → stands_of t ≡ stands_of s
+    → IsKeptAhead way side s → IsKeptAhead way side t
+kept-ahead way side s t same stand ahead = record {
+  opened = open-ahead way side s t same ahead.opened;
+  kept = ap (λ all. list_all name_holds (stands_on side all)) stand ∙ ahead.kept;
+}
 
 pub puts-same : (K : Behaviour) (to : Spot) (m : Message ℕ) (s : State ℕ) (side : Side) → (stream side (put_in K plain to m s).state).opened
     ≡ (stream side s).opened
 puts-same K to m s side = (puts-hold (SameButMade s) K (same-stays s) plain to m s (same-itself s)).opened side
+
+pub puts-stand-there : (K : Behaviour) (to : Spot) (m : Message ℕ) (s : State ℕ) → stands_of (put_in K plain to m s).state ≡ stands_of s
+puts-stand-there K to m s = puts-stand (stands_of s) K plain to m s refl
 
 -- what the kind of such a message says
 module _ where

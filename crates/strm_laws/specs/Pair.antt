@@ -1,13 +1,16 @@
 -- A pair as its callers see it, and what a call or a turn adds to it.
 use Rattle.std.specs.Prelude.{◌≡◌, ◌<◌, ◌⊎◌, ℕ, true, false, zero, suc, List, [], ◌∷◌, ◌++◌, Option, None, Some, slice_get}
+use Rattle.std.specs.List.{list_all}
 use Rattle.strm_laws.specs.Prelude.{Config, Turn, Moved, Blocked, Idle, STOP_BLOCKS, Side, Master, Way, Up, Down, Turned, Caller, Verdict}
 use Rattle.strm_laws.specs.Prelude.{QueueName, Refusal, Request, PlainEntry, is_closed, is_open, turn_blocks, plain, tallied, no_fates, Fates}
 use Rattle.strm_types.specs.declared.names.ModuleName.TheVariants as names
 use Rattle.strm_types.specs.declared.names.Place.TheVariants as places
 use Rattle.strm_laws.specs.Behaviours.{Behaviour}
+use Rattle.strm_laws.specs.StackCosts.{stands_of, stands_on}
 use Rattle.strm_laws.specs.State.{State, opening, stream}
 use Rattle.strm_laws.specs.Turns.{whole_turn}
 use Rattle.strm_types.specs.JobControl.{judged}
+use Rattle.strm_types.specs.Tables.{name_holds}
 use Rattle.strm_laws.specs.Refusals.{Free, enough, blocks_asked, refused, stop_of, turn_refused}
 use Rattle.strm_laws.specs.Step.{Step}
 use Rattle.strm_laws.specs.Kept.{gone}
@@ -72,11 +75,15 @@ refused_of p (Some name) = queue_refused p name
 abbrev pub next_refused : PairState → Option Refusal
 next_refused p = refused_of p (slice_get p.state.enabled 0)
 
+abbrev pub IsOpenAhead : {C : Type 0} → Way → Side → State C → Type 0
+IsOpenAhead Up side s = is_open (stream side s).opened ≡ true
+IsOpenAhead Down side s = is_closed (stream Master s).opened ≡ false
+
 -- What a module sends on as M_DATA comes to stand on a queue ahead with its blocks: up the stream of a side that is open, and down while the master
--- isn't closed (streamio(7I), ptm(7D)). Else the head or the driver there frees it.
-abbrev pub IsKeptAhead : {C : Type 0} → Way → Side → State C → Type 0
-IsKeptAhead Up side s = is_open (stream side s).opened ≡ true
-IsKeptAhead Down side s = is_closed (stream Master s).opened ≡ false
+-- isn't closed (streamio(7I), ptm(7D)), where no module of a user's own stands on the side. Else the head or the driver there frees it, or such a module.
+pub record IsKeptAhead {C : Type 0} (way : Way) (side : Side) (s : State C) : Type 0 where
+  pub opened : IsOpenAhead way side s
+  pub kept : list_all name_holds (stands_on side (stands_of s)) ≡ true
 
 -- A turn that moved so many bytes, of a pair in this state, stopped within its message, and so many blocks are free behind it: that is one of
 -- ldterm's, which treated a byte at least, and where what it sends is kept ahead fewer than `STOP_BLOCKS` blocks of some kind are free.

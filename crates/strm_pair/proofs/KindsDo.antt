@@ -38,10 +38,11 @@ module _ {M P : Type 0} (wrap : M → AnyModule) (made : P → Module ℕ) (in_i
     kind-fits s any x q is held = record { queues = held.queues; itself = kind.back s x q (subst (λ m. IsKindHeld s m q) is held.itself) }
 
     -- its put
-    pub kind-puts : (s t : StoreValue) (x y : M) (q r : Option QueuePair) (message most : ℕ) (acts : Acts) (f f' : Fates) (is : Acted ℕ (plain.Standing P ℕ))
-        → Puts (standing_in in_itself) (Fits IsHeld) owns (keeps_of keeps) s t (standing x q) (standing y r) message most acts f f' is
-        → Puts (standing_in kind_in) (Fits IsKindHeld) owns (keeps_of kind_keeps) s t (standing (wrap x) q) (standing (wrap y) r) message most acts f f' (done_by (of_kind made) is)
-    kind-puts s t x y q r message most acts f f' is e =
+    pub kind-puts : (s t : StoreValue) (x y : M) (q r : Option QueuePair) (holds : Bool) (message most : ℕ) (acts : Acts) (f f' : Fates) (is : Acted ℕ (plain.Standing P ℕ))
+        → Puts (standing_in in_itself) (Fits IsHeld) owns (keeps_of keeps) s t (standing x q) (standing y r) holds message most acts f f' is
+        → Puts (standing_in kind_in) (Fits IsKindHeld) owns (keeps_of kind_keeps) s t (standing (wrap x) q) (standing (wrap y) r) holds message most acts f f'
+        (done_by (of_kind made) is)
+    kind-puts s t x y q r holds message most acts f f' is e =
         let sent = λ (i : ℕ). times_sent i (sent_of acts.sent) in
         record {
           state = kind-stands t y r ∙ ap (of_kind made) e.state;

@@ -11,7 +11,7 @@ use strm_queue::lengths::first_size;
 use strm_queue::standing::{count, is_full, sizes};
 use strm_types::{Band, Place, QueueName, Way};
 
-impl Streams {
+impl<M: OwnModule> Streams<M> {
     ghost use Rattle.strm_pair.specs.Pairs.{state_in, AreHeld};
 
     /// How many bytes count in a band of a queue.

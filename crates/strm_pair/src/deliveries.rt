@@ -14,7 +14,7 @@ use strm_blocks::{Blocks, InHand};
 use strm_frame::deliver;
 use strm_types::{Fates, HOPS, Spot};
 
-impl Streams {
+impl<M: OwnModule> Streams<M> {
     ghost use Rattle.strm_pair.specs.Effects.{Leads};
     ghost use Rattle.strm_pair.specs.Pairs.{state_in};
 

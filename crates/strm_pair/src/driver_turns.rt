@@ -42,7 +42,7 @@ fn settle<B: Blocks>(store: &B, queue: &mut Queue, size: usize) -> TurnEnd
     }
 }
 
-impl Streams {
+impl<M: OwnModule> Streams<M> {
     ghost use Rattle.strm_blocks.specs.Blocks.{token};
     ghost use Rattle.strm_pair.specs.Effects.{AreAtRest, Becomes, Delivers, MayDeliver};
     ghost use Rattle.strm_pair.specs.Pairs.{state_in, end_at, AreBeside, AreHeld};

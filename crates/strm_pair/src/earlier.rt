@@ -75,7 +75,7 @@ fn before_modules(side: Side, way: Way, count: usize, at: usize) -> Option<Queue
     }
 }
 
-impl Streams {
+impl<M: OwnModule> Streams<M> {
     ghost use Rattle.strm_blocks.specs.Blocks.{StoreValue};
     ghost use Rattle.strm_pair.specs.Pairs.{state_in};
 

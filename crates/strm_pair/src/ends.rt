@@ -33,13 +33,13 @@ pub(crate) fn first_list(side: Side) -> usize
 pub(crate) struct StreamEnd {
     pub opened: Openness,
     pub head: Head,
-    pub stack: Stack,
+    pub stack: Stack<M>,
     pub driver: Queue,
     /// The tables for the queues of a module, while no module that has queues stands on the stack.
     pub shelf: Option<Tables>,
 }
 
-impl StreamEnd {
+impl<M: OwnModule> StreamEnd<M> {
     // Makes the head as new, with nothing on its queue.
     fn renew_head<B: Blocks>(&mut self, store: &mut B)
         requires { IsReady (B.value store.old) self.old.head.queue }

@@ -16,7 +16,7 @@ use strm_blocks::Blocks;
 use strm_head::make_ioctl;
 use strm_types::{Answer, Content, Fates, Ioc, Side, Spot, Way, asks_group};
 
-impl Streams {
+impl<M: OwnModule> Streams<M> {
     ghost use Rattle.strm_pair.specs.Effects.{Becomes, Delivers, MayDeliver};
     ghost use Rattle.strm_pair.specs.Pairs.{state_in, AreHeld};
 

@@ -19,7 +19,7 @@ pub(crate) fn sum(counts: &[u64]) -> u64
     *first + sum(rest)
 }
 
-impl Streams {
+impl<M: OwnModule> Streams<M> {
     ghost use Rattle.strm_blocks.specs.Blocks.{StoreValue};
     ghost use Rattle.strm_pair.specs.Pairs.{state_in};
 

@@ -30,7 +30,7 @@ fn len_of(lent: Option<&[u8]>) -> usize
     }
 }
 
-impl Streams {
+impl<M: OwnModule> Streams<M> {
     ghost use Rattle.strm_pair.specs.Effects.{Becomes, Delivers, Leads, MayDeliver};
     ghost use Rattle.strm_pair.specs.Pairs.{state_in, AreHeld};
 

@@ -29,7 +29,7 @@ pub(crate) enum Begun {
     Serves(Spot),
 }
 
-impl Streams {
+impl<M: OwnModule> Streams<M> {
     ghost use Rattle.strm_pair.specs.Effects.{AreAtRest, Leads, MayDeliver};
     ghost use Rattle.strm_pair.specs.Pairs.{free_in, state_in, AreBeside, AreHeld, kept_by};
 

@@ -21,18 +21,18 @@ pub enum AnyModule {
     Pckt(Pckt),
 }
 
-impl Default for AnyModule {
+impl<M: OwnModule> Default for AnyModule<M> {
     ghost is_default = { λ x. (s : StoreValue) → kind_in s x ≡ OfPtem new_ptem };
 
     /// What stands in the unused places of an array.
-    fn default() -> AnyModule {
+    fn default() -> AnyModule<M> {
         AnyModule::Ptem(Ptem::new())
     }
 }
 
-impl AnyModule {
+impl<M: OwnModule> AnyModule<M> {
     /// One as its name makes it.
-    pub(crate) fn made(name: ModuleName) -> AnyModule
+    pub(crate) fn made(name: ModuleName) -> AnyModule<M>
         ensures made { (s : StoreValue) → kind_in s result ≡ kind_named name }
         ensures fresh { IsFresh name result }
     {
@@ -54,7 +54,7 @@ impl AnyModule {
     }
 }
 
-impl Module for AnyModule {
+impl<M: OwnModule> Module for AnyModule<M> {
     ghost use Rattle.strm_types.specs.Cells as cells;
     ghost use Rattle.strm_types.specs.Tables.{name_does};
     ghost use Rattle.strm_laws.proofs.PutsWithin.{module-within};

@@ -47,7 +47,7 @@ use strm_types::{
 #[derive(Drop)]
 pub struct Pair<B: Blocks + Drop> {
     store: B,
-    streams: Streams,
+    streams: Streams<M>,
     journal: Journal,
     base: Base,
     limits: Config,

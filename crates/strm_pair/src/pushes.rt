@@ -63,7 +63,7 @@ pub(crate) struct TakenOff {
     pub met: bool,
 }
 
-impl Streams {
+impl<M: OwnModule> Streams<M> {
     ghost use Rattle.strm_blocks.specs.Blocks.{StoreValue};
     ghost use Rattle.strm_pair.specs.Effects.{AreAtRest, Leads};
     ghost use Rattle.strm_pair.specs.Pairs.{state_in, end_at, with_end, AreHeld};

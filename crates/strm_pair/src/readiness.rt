@@ -40,7 +40,7 @@ fn is_answered<T>(slot: &Slot<T>) -> bool
     matches!(slot, Slot::Answered { .. })
 }
 
-impl Streams {
+impl<M: OwnModule> Streams<M> {
     ghost use Rattle.strm_pair.specs.Pairs.{state_in, AreHeld};
 
     /// What a side is ready for.

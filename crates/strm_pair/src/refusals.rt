@@ -41,14 +41,14 @@ fn needed(is_asked: bool, condition: bool, refusal: Refusal) -> Option<Refusal>
     unless(!is_asked || condition, refusal)
 }
 
-impl Streams {
+impl<M: OwnModule> Streams<M> {
     ghost use Rattle.strm_blocks.specs.Blocks.{StoreValue};
     ghost use Rattle.strm_pair.specs.Streams.{stream_in};
     ghost use Rattle.strm_types.specs.declared.names.Side.TheVariants.{Master, Slave};
     ghost use Rattle.strm_pair.specs.Pairs.{state_in, end_at, AreHeld};
 
     /// The stream of a side.
-    pub(crate) fn end(&self, side: Side) -> &StreamEnd
+    pub(crate) fn end(&self, side: Side) -> &StreamEnd<M>
         ensures end { result.now ≡ end_at side self.now }
         ensures stream { (s : StoreValue) → stream_in s result.now ≡ stream side (state_in s self.now) }
     {

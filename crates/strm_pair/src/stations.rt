@@ -78,7 +78,7 @@ fn is_flush(kind: MsgKind) -> bool
     matches!(kind, MsgKind::Flush)
 }
 
-impl Streams {
+impl<M: OwnModule> Streams<M> {
     ghost use Rattle.strm_pair.specs.Pairs.{state_in, end_at, with_end, AreBeside, kept_by};
     ghost use Rattle.strm_blocks.specs.Blocks.{StoreValue};
 
@@ -310,7 +310,7 @@ impl Streams {
     }
 }
 
-impl<B: Blocks> Stations<B> for Streams {
+impl<B: Blocks, M: OwnModule> Stations<B> for Streams<M> {
     ghost use Rattle.std.specs.Prelude.{ℕ};
     ghost use Rattle.strm_laws.specs.State.{State};
     ghost use Rattle.strm_pair.specs.Pairs.{state_in, AreBeside, kept_by};

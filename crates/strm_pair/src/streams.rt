@@ -37,7 +37,7 @@ use strm_types::{
 /// and what was booked of each direction.
 #[derive(Drop)]
 pub(crate) struct Streams {
-    pub ends: Both<StreamEnd>,
+    pub ends: Both<StreamEnd<M>>,
     pub locked: bool,
     pub enabled: Enabled,
     pub next_ioctl: u32,
@@ -73,7 +73,7 @@ pub(crate) fn queue_tables(alloc: Global) -> Result<Both<SideTables>, AllocError
 
 // A stream that nobody opened, whose queues stand on the lists from a number on: the head's, the driver's, and two that
 // are kept for the queues of a module.
-fn new_end(first: usize, tables: SideTables) -> StreamEnd
+fn new_end<M: OwnModule>(first: usize, tables: SideTables) -> StreamEnd<M>
     requires { first ≤ 4 }
     ensures side { (s : StoreValue) → IsBlank s first → IsSide s first result }
     ensures stream { (s : StoreValue) → IsBlank s first → stream_in s result ≡ new_stream }
@@ -87,13 +87,13 @@ fn new_end(first: usize, tables: SideTables) -> StreamEnd
     }
 }
 
-impl Streams {
+impl<M: OwnModule> Streams<M> {
     ghost use Rattle.strm_types.specs.declared.names.Side.TheVariants.{Master};
     ghost use Rattle.strm_pair.specs.Effects.{AreAtRest, Becomes, Leads, MayDeliver};
     ghost use Rattle.strm_pair.specs.Pairs.{free_in, state_in, end_at, with_end, AreBeside, AreHeld};
 
     /// The streams of a new pair.
-    pub fn new(tables: Both<SideTables>) -> Streams
+    pub fn new(tables: Both<SideTables>) -> Streams<M>
         ensures state { (mblks dblks : ℕ) → state_in (empty_store mblks dblks) result ≡ opening }
         ensures held { (mblks dblks : ℕ) → AreHeld (empty_store mblks dblks) result }
     {

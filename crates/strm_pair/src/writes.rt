@@ -30,7 +30,7 @@ pub(crate) fn with_written(book: Book, count: usize) -> Book
     }
 }
 
-impl Streams {
+impl<M: OwnModule> Streams<M> {
     ghost use Rattle.strm_pair.specs.Effects.{AreAtRest, Delivers, MayDeliver};
     ghost use Rattle.strm_pair.specs.Pairs.{state_in};
 

@@ -13,12 +13,12 @@ use strm_pty::{Pckt, Ptem};
 
 /// Makes a module of a text. One that has queues has two lists of its own from a number on, where nothing stands, and their tables are
 /// taken off the shelf.
-pub(crate) fn module_of<B: Blocks>(
+pub(crate) fn module_of<B: Blocks, M: OwnModule>(
     store: &mut B,
     first: usize,
     shelf: &mut Option<Tables>,
     text: &ModuleText<'_>,
-) -> Standing<AnyModule>
+) -> Standing<AnyModule<M>>
     requires first { first ≤ 6 }
     requires free { IsFreeFor (B.value store.old) first shelf.old text.now }
     requires good { IsModuleText text.now }

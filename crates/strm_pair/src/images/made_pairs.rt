@@ -56,11 +56,11 @@ pub(crate) fn fates_of(text: &StateText<'_>) -> Fates
 }
 
 /// Makes both streams of a text in a store that holds nothing, and has the blocks that the messages take.
-pub(crate) fn streams_of<B: Blocks>(
+pub(crate) fn streams_of<B: Blocks, M: OwnModule>(
     store: &mut B,
     tables: Both<SideTables>,
     text: &StateText<'_>,
-) -> Streams
+) -> Streams<M>
     requires lists { (B.value store.old).lists ≡ replicate LISTS [] }
     requires hand { (B.value store.old).hand ≡ [] }
     requires good { Restorable (imaged_now text.now).state }

@@ -13,12 +13,12 @@ use strm_image::ModuleText;
 
 /// Makes the modules of a text, the one on top first, of which one at most has queues: they stand on two lists of their own from a
 /// number on, and their tables are taken off the shelf.
-pub(crate) fn stack_of<B: Blocks>(
+pub(crate) fn stack_of<B: Blocks, M: OwnModule>(
     store: &mut B,
     first: usize,
     shelf: &mut Option<Tables>,
     texts: &[ModuleText<'_>],
-) -> Stack
+) -> Stack<M>
     requires first { first ≤ 6 }
     requires reads { list_at (B.value store.old) first ≡ [] }
     requires writes { list_at (B.value store.old) (first + 1) ≡ [] }

@@ -17,13 +17,13 @@ use strm_image::StreamText;
 use strm_types::Openness;
 
 /// Makes the stream of a side of a text, on four lists where nothing stands: the head's, the driver's, and two for the queues of a module.
-pub(crate) fn end_of<B: Blocks>(
+pub(crate) fn end_of<B: Blocks, M: OwnModule>(
     store: &mut B,
     first: usize,
     tables: SideTables,
     opened: Openness,
     text: &StreamText<'_>,
-) -> StreamEnd
+) -> StreamEnd<M>
     requires first { first ≤ 4 }
     requires blank { IsBlank (B.value store.old) first }
     requires good { IsStreamText text.now }

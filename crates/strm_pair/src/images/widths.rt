@@ -62,7 +62,7 @@ fn know_slot(ioctl: &Slot<IoctlBytes>)
     }
 }
 
-fn know_module(any: &Standing<AnyModule>)
+fn know_module<M: OwnModule>(any: &Standing<AnyModule<M>>)
     ensures { (s : StoreValue) → HasModuleNumbers (module_in s any.now) }
 {
     match &any.module {
@@ -75,7 +75,7 @@ fn know_module(any: &Standing<AnyModule>)
     }
 }
 
-fn know_modules(modules: &[Standing<AnyModule>])
+fn know_modules<M: OwnModule>(modules: &[Standing<AnyModule<M>>])
     ensures { (s : StoreValue) → AllByRecursion HasModuleNumbers (map (module_in s) modules.now) }
 {
     if let Some((first, rest)) = modules.split_first() {
@@ -84,7 +84,7 @@ fn know_modules(modules: &[Standing<AnyModule>])
     }
 }
 
-fn know_end(end: &StreamEnd)
+fn know_end<M: OwnModule>(end: &StreamEnd<M>)
     ensures { (s : StoreValue) → HasNumbers (stream_in s end.now) }
 {
     know_word(end.head.group);
@@ -93,7 +93,7 @@ fn know_end(end: &StreamEnd)
 }
 
 /// What the streams of a pair keep.
-pub(crate) fn know_streams(streams: &Streams)
+pub(crate) fn know_streams<M: OwnModule>(streams: &Streams<M>)
     ensures { (s : StoreValue) → AreNumbers (state_in s streams.now) }
 {
     know_end(&streams.ends.master);
