@@ -8,6 +8,7 @@ ghost use Rattle.strm_laws.specs.Closes.{head_emptied, driver_emptied, ended, hu
 ghost use Rattle.strm_types.specs.Emptied.{of_all};
 ghost use Rattle.strm_laws.specs.Puts.{flushed_on};
 
+use crate::own::OwnModule;
 use crate::streams::Streams;
 use strm_blocks::Blocks;
 use strm_frame::clear_queue;

@@ -5,6 +5,7 @@ ghost use Rattle.strm_types.specs.Queue.{bytes_of};
 ghost use Rattle.strm_pair.specs.Shows.{count_at, first_at, full_at, messages_at};
 
 use crate::named_queues::{count_named, first_size_named, is_full_named, sizes_named};
+use crate::own::OwnModule;
 use crate::streams::Streams;
 use strm_blocks::Blocks;
 use strm_queue::lengths::first_size;

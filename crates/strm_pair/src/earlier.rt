@@ -9,6 +9,7 @@ ghost use Rattle.strm_types.specs.Names.{enable_some};
 ghost use Rattle.strm_laws.specs.Puts.{earlier_at, noted};
 ghost use Rattle.strm_pair.specs.Nearest.{earlier_of};
 
+use crate::own::OwnModule;
 use crate::stacks::{module_count, place_at};
 use crate::streams::Streams;
 use strm_blocks::Blocks;

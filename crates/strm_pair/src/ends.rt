@@ -9,6 +9,7 @@ ghost use Rattle.strm_pair.specs.Lists.{first_list};
 ghost use Rattle.strm_types.specs.declared.names.Openness.TheVariants.{Open, Closed};
 ghost use Rattle.strm_queue.specs.Stored.{IsReady};
 
+use crate::own::OwnModule;
 use crate::stacks::{Stack, take_modules};
 use strm_blocks::Blocks;
 use strm_frame::Tables;
@@ -30,7 +31,7 @@ pub(crate) fn first_list(side: Side) -> usize
 /// The stream of one side: its head, its modules and its driver's queue, and whether it was opened. The tables of the bands of all its
 /// queues are made with it, so that a push asks for no memory.
 #[derive(Drop)]
-pub(crate) struct StreamEnd {
+pub(crate) struct StreamEnd<M: OwnModule> {
     pub opened: Openness,
     pub head: Head,
     pub stack: Stack<M>,

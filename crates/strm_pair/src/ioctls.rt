@@ -11,6 +11,7 @@ ghost use Rattle.strm_laws.specs.Pushes.{ioctl_dropped};
 ghost use Rattle.strm_laws.specs.State.{stream};
 ghost use Rattle.strm_blocks.specs.Blocks.{StoreValue};
 
+use crate::own::OwnModule;
 use crate::streams::Streams;
 use strm_blocks::Blocks;
 use strm_head::make_ioctl;

@@ -13,6 +13,7 @@ ghost use Rattle.strm_types.specs.PutMsg.{put_blocks, put_refusal};
 ghost use Rattle.strm_laws.specs.State.{with_book};
 ghost use Rattle.strm_pair.specs.Parts.{longest_part};
 
+use crate::own::OwnModule;
 use crate::streams::Streams;
 use crate::writes::with_written;
 use strm_blocks::Blocks;

@@ -9,6 +9,7 @@ ghost use Rattle.strm_frame.specs.Stacks.{IsPlace};
 ghost use Rattle.strm_pair.specs.Named.{at_named, is_there, messages_named};
 ghost use Rattle.strm_pair.specs.Stacks.{modules_in, IsStackHeld};
 
+use crate::own::OwnModule;
 use crate::stacks::{Stack, module_count, place_at};
 use strm_blocks::Blocks;
 use strm_types::{Band, MODULES, Place, Way};

@@ -30,6 +30,7 @@ use crate::answers::own;
 use crate::base::Base;
 use crate::journal::Journal;
 use crate::ledgers::sum;
+use crate::own::{NoModule, OwnModule};
 use crate::past::Past;
 use crate::refusals::or_else;
 use crate::streams::{Streams, queue_tables};
@@ -45,7 +46,7 @@ use strm_types::{
 /// A pair of a master and a slave, whose messages stand in a store of its own. Contracts see it as its plain state, its
 /// journal with the state that it began at, the sizes that it was made with, and the numbers of free blocks.
 #[derive(Drop)]
-pub struct Pair<B: Blocks + Drop> {
+pub struct Pair<B: Blocks + Drop, M: OwnModule = NoModule> {
     store: B,
     streams: Streams<M>,
     journal: Journal,
@@ -62,7 +63,7 @@ pub struct Recorded<'a> {
     pub bytes: &'a [u8],
 }
 
-impl<B: Blocks + Drop> Model for Pair<B> {
+impl<B: Blocks + Drop, M: OwnModule> Model for Pair<B, M> {
     ghost use Rattle.strm_laws.specs.Pair.{PairState};
 
     ghost Value = { PairState };
@@ -75,12 +76,12 @@ impl<B: Blocks + Drop> Model for Pair<B> {
     ghost invariant = { λ p. IsWhole (B.value p.store) p.streams p.journal p.base p.limits p.fates };
 }
 
-impl<B: Blocks + Drop> Pair<B> {
+impl<B: Blocks + Drop, M: OwnModule> Pair<B, M> {
     /// A pair which nobody opened, over a store that holds nothing: its lists are empty, and nothing is in hand. The
     /// sizes of its journal are those of `sizes`, its numbers of blocks are the store's. The memory of the journal with its base, which is
     /// [`IMAGE_FIXED`] bytes and [`IMAGE_BLOCK`] for each message block, and of the queues' bands is reserved here, and no later call takes
     /// any to keep; where that is refused, the store comes back.
-    pub fn new(alloc: Global, sizes: Config, store: B) -> Result<Pair<B>, (NoMemory, B)>
+    pub fn new(alloc: Global, sizes: Config, store: B) -> Result<Pair<B, M>, (NoMemory, B)>
         requires lists { (B.value store).lists ≡ replicate LISTS [] }
         requires hand { (B.value store).hand ≡ [] }
         ensures { MatchResult result

@@ -18,6 +18,7 @@ ghost use Rattle.strm_pair.specs.Taken.{TookNone, TookTop, WithoutTop};
 
 use crate::earlier::note;
 use crate::ends::first_list;
+use crate::own::OwnModule;
 use crate::stacks::{Taken, module_count, push_named, take_top};
 use crate::streams::Streams;
 use strm_blocks::Blocks;
@@ -41,7 +42,7 @@ fn mode_on_push(name: ModuleName) -> Option<ReadMode>
 {
     match name {
         ModuleName::Ldterm => Some(ReadMode::MessageKeep),
-        ModuleName::Ptem | ModuleName::Pckt => None,
+        ModuleName::Ptem | ModuleName::Pckt | ModuleName::Own(_) => None,
     }
 }
 
@@ -51,7 +52,7 @@ fn mode_behind(name: Option<ModuleName>) -> Option<ReadMode>
 {
     match name {
         Some(ModuleName::Ldterm) => Some(ReadMode::ByteStream),
-        Some(ModuleName::Ptem | ModuleName::Pckt) | None => None,
+        Some(ModuleName::Ptem | ModuleName::Pckt | ModuleName::Own(_)) | None => None,
     }
 }
 

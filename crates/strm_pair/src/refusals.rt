@@ -14,6 +14,7 @@ ghost use Rattle.strm_types.specs.Names.{is_never, is_open};
 ghost use Rattle.strm_laws.specs.State.{stream};
 
 use crate::ends::StreamEnd;
+use crate::own::{OwnModule, is_known};
 use crate::stacks::module_count;
 use crate::streams::Streams;
 use strm_blocks::Blocks;
@@ -144,7 +145,7 @@ impl<M: OwnModule> Streams<M> {
         )
     }
 
-    // Whether a module of a name may be pushed on a side's stream: there is room, and none of its name stands there.
+    // Whether a module of a name may be pushed on a side's stream: there are modules of the name, there is room, and none of its name stands there.
     fn may_push(&self, side: Side, name: Option<ModuleName>) -> bool
         ensures { (s : StoreValue) → result ≡ may_stand (named_by name) (stream side (state_in s self.now)).modules }
     {
@@ -152,7 +153,7 @@ impl<M: OwnModule> Streams<M> {
             return false;
         };
         let stack = &self.end(side).stack;
-        module_count(stack) < MODULES && !stack.has(kind)
+        is_known::<M>(kind) && module_count(stack) < MODULES && !stack.has(kind)
     }
 
     // What job control makes of a caller's call that does this at the terminal.

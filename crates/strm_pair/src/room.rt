@@ -13,6 +13,7 @@ ghost use Rattle.strm_pair.specs.Streams.{IsSide, stream_in};
 ghost use Rattle.strm_pair.specs.Stacks.{IsStackHeld};
 
 use crate::ends::StreamEnd;
+use crate::own::OwnModule;
 use crate::streams::Streams;
 use strm_blocks::Blocks;
 use strm_queue::standing::is_full;

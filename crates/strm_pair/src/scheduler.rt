@@ -8,6 +8,7 @@ ghost use Rattle.strm_laws.specs.Refusals.{enough, in_range};
 ghost use Rattle.strm_laws.specs.Rest.{EchoesOnce, work};
 ghost use Rattle.strm_laws.specs.StackCosts.{stands_of};
 
+use crate::own::OwnModule;
 use crate::pair::Pair;
 use strm_blocks::Blocks;
 use strm_types::Refusal;
@@ -19,7 +20,7 @@ pub struct Ran {
     pub stopped: Option<Refusal>,
 }
 
-impl<B: Blocks + Drop> Pair<B> {
+impl<B: Blocks + Drop, M: OwnModule> Pair<B, M> {
     /// Makes turns, each of the queue that was enabled first, until none is enabled or the next one is refused: JournalFull, ENOSR or ERANGE
     /// ([`Pair::turn`]). The journal gains an entry a turn, so it ends: two `ldterm`s that echo each other's echo go on till the journal
     /// is full. Where one stands there at most, with no `pckt` below it, no queue is enabled in the end, if the journal had an entry for each

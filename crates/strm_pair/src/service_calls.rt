@@ -9,6 +9,7 @@ ghost use Rattle.strm_laws.specs.TurnCalls.{discipline_of, module_at};
 ghost use Rattle.strm_frame.specs.Outboxes.{sent_of};
 ghost use Rattle.strm_pair.specs.ModuleServed.{ActsAs, BookTakes, CallsAs, IsKeptAll, MayBook, MayCall, StackServes, StopsFew, TreatsAs, between, call_of, with_more};
 
+use crate::own::OwnModule;
 use crate::stacks::place_at;
 use crate::streams::Streams;
 use strm_blocks::Blocks;

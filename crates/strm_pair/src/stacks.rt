@@ -15,13 +15,14 @@ ghost use Rattle.strm_pair.specs.Taken.{TookNone, TookTop};
 
 use crate::ends::StreamEnd;
 use crate::modules::AnyModule;
+use crate::own::OwnModule;
 use arrayvec::ArrayVec;
 use strm_blocks::Blocks;
 use strm_frame::{Module, QueuePair, Standing, Tables};
 use strm_types::{Fates, ModuleName, Note, Place, Rule, Side};
 
 /// The modules of a side's stream.
-pub(crate) type Stack = strm_frame::Stack<AnyModule<M>>;
+pub(crate) type Stack<M> = strm_frame::Stack<AnyModule<M>>;
 
 /// A module that was taken off a stack: its name, which queues before its own have room again, and whether the M_IOCTL that is sought
 /// stood on its write queue.
@@ -157,8 +158,11 @@ pub(crate) fn push_named<B: Blocks, M: OwnModule>(
     ensures keeps { (i : ℕ) → stack_keeps stack.new i ≡ stack_keeps stack.old i }
 {
     let _ = store;
+    let Some(module) = AnyModule::made(name) else {
+        unreachable!()
+    };
     let _ = stack.push(Standing {
-        module: AnyModule::made(name),
+        module,
         queues: queues_for(name, first + 2, shelf),
     });
 }

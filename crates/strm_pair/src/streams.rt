@@ -22,6 +22,7 @@ ghost use Rattle.strm_pair.specs.Streams.{IsBlank, IsSide, stream_in};
 ghost use Rattle.strm_pair.specs.Parts.{longest_part};
 
 use crate::ends::{StreamEnd, first_list};
+use crate::own::OwnModule;
 use crate::stacks::Stack;
 use std::alloc::{AllocError, Global};
 use strm_blocks::Blocks;
@@ -36,7 +37,7 @@ use strm_types::{
 /// The streams of a pair, whether its slave is locked, the queues that are enabled, the number that the next ioctl gets,
 /// and what was booked of each direction.
 #[derive(Drop)]
-pub(crate) struct Streams {
+pub(crate) struct Streams<M: OwnModule> {
     pub ends: Both<StreamEnd<M>>,
     pub locked: bool,
     pub enabled: Enabled,

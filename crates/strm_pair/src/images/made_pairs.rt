@@ -13,6 +13,7 @@ ghost use Rattle.strm_pair.specs.Runs.{Spent};
 
 use crate::ends::first_list;
 use crate::images::made_streams::end_of;
+use crate::own::OwnModule;
 use crate::streams::{SideTables, Streams};
 use strm_blocks::Blocks;
 use strm_frame::Enabled;

@@ -6,6 +6,7 @@ ghost use Rattle.strm_frame.specs.Hands.{HasRoom};
 ghost use Rattle.strm_pair.specs.Placing.{AreModuleTexts, AreStacked, module_blocks};
 
 use crate::images::made_modules::module_of;
+use crate::own::OwnModule;
 use crate::stacks::Stack;
 use strm_blocks::Blocks;
 use strm_frame::Tables;

@@ -11,6 +11,7 @@ use crate::ends::StreamEnd;
 use crate::images::heads::head_of;
 use crate::images::made_queues::queue_of;
 use crate::images::made_stacks::stack_of;
+use crate::own::OwnModule;
 use crate::streams::SideTables;
 use strm_blocks::Blocks;
 use strm_image::StreamText;

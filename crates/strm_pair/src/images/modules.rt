@@ -18,6 +18,7 @@ ghost use Rattle.strm_pair.specs.Stacks.{IsStackHeld, modules_in};
 
 use crate::images::queues::put_queue;
 use crate::modules::AnyModule;
+use crate::own::OwnModule;
 use crate::stacks::Stack;
 use strm_blocks::Blocks;
 use strm_frame::{QueuePair, Standing};

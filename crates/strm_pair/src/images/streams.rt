@@ -16,6 +16,7 @@ ghost use Rattle.strm_types.specs.Slots.{map_slot};
 use crate::ends::StreamEnd;
 use crate::images::modules::put_modules;
 use crate::images::queues::put_queue;
+use crate::own::OwnModule;
 use strm_blocks::Blocks;
 use strm_head::{Head, IoctlBytes};
 use strm_image::writing::{put_control_mode, put_head_bits, put_read_mode, put_signals, put_slot};

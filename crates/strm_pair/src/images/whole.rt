@@ -8,6 +8,7 @@ ghost use Rattle.strm_image.specs.HasImage.{imaged};
 ghost use Rattle.strm_pair.specs.Pairs.{AreHeld, state_in};
 
 use crate::images::streams::put_stream;
+use crate::own::OwnModule;
 use crate::streams::Streams;
 use std::mem;
 use strm_blocks::Blocks;

@@ -11,6 +11,7 @@ ghost use Rattle.strm_pair.specs.Streams.{stream_in};
 
 use crate::ends::StreamEnd;
 use crate::modules::AnyModule;
+use crate::own::OwnModule;
 use crate::streams::Streams;
 use strm_frame::Standing;
 use strm_head::IoctlBytes;

@@ -16,6 +16,7 @@ ghost use Rattle.strm_pair.specs.Restored.{IsImageOf, IsNoImage, image_blocks, r
 use crate::base::Base;
 use crate::images::made_pairs::{fates_of, streams_of};
 use crate::journal::Journal;
+use crate::own::OwnModule;
 use crate::pair::Pair;
 use crate::streams::{SideTables, queue_tables};
 use std::alloc::{AllocError, Global};
@@ -45,9 +46,9 @@ impl Reserved {
     }
 }
 
-impl<B: Blocks + Drop> Pair<B> {
+impl<B: Blocks + Drop, M: OwnModule> Pair<B, M> {
     // A pair of a text over a store that holds nothing, and has the blocks that the messages of the text take.
-    fn made_of(limits: Config, text: &StateText<'_>, store: B, reserved: Reserved) -> Pair<B>
+    fn made_of(limits: Config, text: &StateText<'_>, store: B, reserved: Reserved) -> Pair<B, M>
         requires lists { (B.value store).lists ≡ replicate LISTS [] }
         requires hand { (B.value store).hand ≡ [] }
         requires fits { (v : Version) × (image.fits (v, imaged_now text.now) ≡ true) }
@@ -83,7 +84,7 @@ impl<B: Blocks + Drop> Pair<B> {
         sizes: Config,
         text: &[u8],
         store: B,
-    ) -> Result<Pair<B>, (Refusal, B)>
+    ) -> Result<Pair<B, M>, (Refusal, B)>
         requires lists { (B.value store).lists ≡ replicate LISTS [] }
         requires hand { (B.value store).hand ≡ [] }
         ensures einval { (refusal_in result ≡ Some Einval) ↔ IsNoImage text.now }

@@ -10,6 +10,7 @@ ghost use Rattle.strm_laws.specs.Pair.{restarted};
 
 use crate::images::whole::image_into;
 use crate::images::widths::{know_fates, know_streams};
+use crate::own::OwnModule;
 use crate::pair::Pair;
 use std::alloc::Global;
 use strm_blocks::Blocks;
@@ -26,7 +27,7 @@ fn copied<T: Copy>(alloc: Global, items: &[T]) -> Result<Vec<T>, NoMemory>
     Ok(copy)
 }
 
-impl<B: Blocks + Drop> Pair<B> {
+impl<B: Blocks + Drop, M: OwnModule> Pair<B, M> {
     /// Writes the image of the pair in version 2 (docs/IMAGES.md), its plain state and how many bytes have gone by each rule, to the front of
     /// a buffer, and answers how long it is. Behind it the buffer stays; where it is too small it holds the first bytes of the image. The pair
     /// stays as it is. No memory is taken. The cost is in proportion to the bytes, and a step for each band of a queue where one above 0 has marks
