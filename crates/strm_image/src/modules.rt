@@ -16,7 +16,8 @@ use crate::queues::{QueueText, queues_at};
 use crate::versions::{QueueKind, Version};
 use arrayvec::ArrayVec;
 use strm_types::{
-    COLUMN_MAX, InputModes, LocalModes, MODULES, ModuleName, OutputModes, SETTINGS_MAX, Termios, Winsize,
+    COLUMN_MAX, InputModes, LocalModes, MODULES, ModuleName, OutputModes, SETTINGS_MAX, Termios,
+    Winsize,
 };
 
 /// An `ldterm`, where it stands in a text.
