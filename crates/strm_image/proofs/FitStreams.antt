@@ -21,7 +21,8 @@ use Rattle.strm_image.specs.Codes.{control_mode, module_kind, name_kind, read_mo
 use Rattle.strm_image.specs.Format.{byte, only, u16, u32}
 use Rattle.strm_image.specs.HasImage.{HasHalves, HasKindNumbers, HasModuleNumbers, HasNumbers, HasSlotNumbers, HasWords, IsLaid}
 use Rattle.strm_image.specs.Image.{is_quiet, laid_on}
-use Rattle.strm_image.specs.Modules.{are_few, are_settings, ldterm, module_below, module_format, modules, next_names, ptem, settings, termios, winsize}
+use Rattle.strm_image.specs.Modules.{are_few, are_settings, ldterm, module_below, module_format, modules, next_names, ptem, settings}
+use Rattle.strm_image.specs.Modules.{termios, winsize}
 use Rattle.strm_image.specs.Streams.{Bits, HeadBits, bits, bits_code, group_if, head_bits, is_answer, laid, signals, signals_behind, slot, slot_kind}
 use Rattle.strm_image.proofs.EachOnce.{AreNew, IsCount, all_new}
 use Rattle.strm_image.proofs.FitQueues.{flag_fits, queue_fits, with_parts}

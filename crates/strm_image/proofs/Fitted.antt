@@ -23,7 +23,8 @@ each_below : (bytes : List ℕ) → list_all byte.fits bytes ≡ true → AllByR
 each_below [] fits = tt
 each_below (b ∷ bytes) fits = let a = and_parts (byte.fits b) (list_all byte.fits bytes) fits in (ltb-true b 256 a.0, each_below bytes a.1)
 
-pub octets_parts : (count : Format ℕ) (bytes : List ℕ) → (counted count octets_of).fits bytes ≡ true → (count.fits (length bytes) ≡ true) × AllByRecursion (λ b. b < 256) bytes
+pub octets_parts : (count : Format ℕ) (bytes : List ℕ) → (counted count octets_of).fits bytes ≡ true
+    → (count.fits (length bytes) ≡ true) × AllByRecursion (λ b. b < 256) bytes
 octets_parts count bytes fits =
     let a = and_parts (count.fits (length bytes)) _ fits in
     (a.0, each_below bytes (and_parts _ (list_all byte.fits bytes) a.1).1)

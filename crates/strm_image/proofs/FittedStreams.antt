@@ -1,7 +1,7 @@
 -- The modules and the streams that fit their formats are good, at rest, and have their widths: the other way round of FitStreams.
 use Rattle.strm_image.proofs.Prelude.{◌≡◌, ℕ, zero, suc, ◌<◌, ◌≤◌, Bool, true, false, not, ◌&&◌, ◌||◌, eqb, List, [], ◌∷◌, ◌++◌, length, map, Option}
-use Rattle.strm_image.proofs.Prelude.{None, Some, refl, arith, ◌^◌, nat_lt, is_some, and_parts, eqb-true, leb-true, ltb-false, ltb-true, not-true, false≢true}
-use Rattle.strm_image.proofs.Prelude.{times, times-cons, top-times}
+use Rattle.strm_image.proofs.Prelude.{None, Some, refl, arith, ◌^◌, nat_lt, is_some, and_parts, eqb-true, leb-true, ltb-false, ltb-true, not-true}
+use Rattle.strm_image.proofs.Prelude.{false≢true, times, times-cons, top-times}
 use Rattle.strm_image.specs.Prelude.{IOCTL_MAX, MODULES, ModuleName, Side, COLUMN_MAX, Free, Waiting, Answered, Termios, Winsize, Discipline, Between}
 use Rattle.strm_image.specs.Prelude.{IsIdle, Stage, by_itself, discipline, is_between, waits_there, Message, is_master, is_open, same_module}
 use Rattle.strm_image.specs.Prelude.{is_none_left, AreSignals, has_signal, is_signal, PlainSlot, answer_bytes, is_free, ldterm_rests, QueuePair}

@@ -24,7 +24,8 @@ each_fits : (bytes : List ℕ) → AllByRecursion (λ b. b < 256) bytes → list
 each_fits [] small = refl
 each_fits (b ∷ bytes) small = and_from _ _ (lt-ltb b 256 small.0) (each_fits bytes small.1)
 
-pub octets_fit : (count : Format ℕ) (bytes : List ℕ) → count.fits (length bytes) ≡ true → AllByRecursion (λ b. b < 256) bytes → (counted count octets_of).fits bytes ≡ true
+pub octets_fit : (count : Format ℕ) (bytes : List ℕ) → count.fits (length bytes) ≡ true → AllByRecursion (λ b. b < 256) bytes
+    → (counted count octets_of).fits bytes ≡ true
 octets_fit count bytes few small = and_from _ _ few (and_from _ _ (eq-eqb _ _ refl) (each_fits bytes small))
 
 module _ {A S : Type 0} (next : A → S → S) (f : S → Format A) where

@@ -7,7 +7,9 @@ use Rattle.std.specs.List.{AllByRecursion, flat_map, list_all}
 use Rattle.std.proofs.lemmas.List.Concat.{flat_map-cons}
 use Rattle.std.proofs.lemmas.Nat.{be_bytes_2, be_bytes_4, be_bytes_8, from_be_bytes-to_be_bytes_2, from_be_bytes-to_be_bytes_4, from_be_bytes-to_be_bytes_8}
 use Rattle.std.proofs.lemmas.Option.{cond_some, same_Some}
-use Rattle.strm_image.specs.Format.{Format, IsExact, IsBytes, ◌>>=◌, read_byte, byte, number, u16, u32, u64, nothing, bytes_of, octets_of, only, fit_from, text_from, read_from, chain, gather_from, gathered, gathered_of, before, at_end, keep, always, times, counted, ◌then◌, made, tagged, with_code, coded, coded_where, whole, IsTextOf, Reads}
+use Rattle.strm_image.specs.Format.{Format, IsExact, IsBytes, ◌>>=◌, read_byte, byte, number, u16, u32, u64, nothing, bytes_of, octets_of, only}
+use Rattle.strm_image.specs.Format.{fit_from, text_from, read_from, chain, gather_from, gathered, gathered_of, before, at_end, keep, always, times}
+use Rattle.strm_image.specs.Format.{counted, ◌then◌, made, tagged, with_code, coded, coded_where, whole, IsTextOf, Reads}
 
 -- what stands behind bytes is bytes
 pub rest_is_bytes : (bytes a b : List ℕ) → IsBytes bytes → bytes ≡ a ++ b → IsBytes b

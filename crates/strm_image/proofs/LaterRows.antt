@@ -33,9 +33,12 @@ module _ {A B : Type 0} where
   unfolding Later
   made_later shape to parts f g p x fits = let a = and_parts (shape x) (f.fits (parts x)) fits in and_from _ _ a.0 (p (parts x) a.1)
 
-  tagged_later : (tag : B → A) (tags tags' : Format A) (f g : A → Format B) → Later tags tags' → ((k : A) → Later (f k) (g k)) → Later (tagged tag tags f) (tagged tag tags' g)
+  tagged_later : (tag : B → A) (tags tags' : Format A) (f g : A → Format B) → Later tags tags' → ((k : A) → Later (f k) (g k))
+      → Later (tagged tag tags f) (tagged tag tags' g)
   unfolding Later
-  tagged_later tag tags tags' f g q p x fits = let a = and_parts (tags.fits (tag x)) ((f (tag x)).fits x) fits in and_from _ _ (q (tag x) a.0) (p (tag x) x a.1)
+  tagged_later tag tags tags' f g q p x fits =
+      let a = and_parts (tags.fits (tag x)) ((f (tag x)).fits x) fits in
+      and_from _ _ (q (tag x) a.0) (p (tag x) x a.1)
 
 module _ {A : Type 0} where
   same : (f : Format A) → Later f f
@@ -187,7 +190,10 @@ body_later (names.Own n) = same (module_body First (names.Own n))
 
 module_later : Later (module_format First) (module_format Second)
 unfolding module_format
-module_later = tagged_later module_name _ _ (module_body First) (module_body Second) (only_later (may_stand First) (may_stand Second) module_kind module_kind (λ name e. refl) (same module_kind)) body_later
+module_later =
+    let names = only_later (may_stand First) (may_stand Second) module_kind module_kind (λ name e. refl) (same module_kind) in
+    tagged_later module_name (only (may_stand First) module_kind) (only (may_stand Second) module_kind) (module_body First) (module_body Second) names
+    body_later
 
 modules_later : Later (modules First) (modules Second)
 unfolding modules module_below

@@ -16,7 +16,8 @@ use Rattle.strm_image.specs.Modules.{termios, termios_of, termios_parts, winsize
 use Rattle.strm_image.specs.Modules.{ldterm_parts, ptem, ptem_of, ptem_parts, alone, is_named, the_ptem, pckt_of, pckt_parts, are_settings, settings}
 use Rattle.strm_image.specs.Modules.{own_of, settings_of, may_stand, module_body, module_format, module_below, next_names, are_few, modules}
 use Rattle.strm_image.proofs.CodeRows.{flag_exact, module_kind_exact}
-use Rattle.strm_image.proofs.Formats.{byte_exact, nothing_exact, u16_exact, u32_exact, bytes_exact, bytes_long, octets_exact, octets_long, only_exact, chain_exact, chain_long, counted_exact, tagged_exact, then_exact, made_exact, IsMade}
+use Rattle.strm_image.proofs.Formats.{byte_exact, nothing_exact, u16_exact, u32_exact, bytes_exact, bytes_long, octets_exact, octets_long, only_exact}
+use Rattle.strm_image.proofs.Formats.{chain_exact, chain_long, counted_exact, tagged_exact, then_exact, made_exact, IsMade}
 use Rattle.strm_image.proofs.QueueRows.{queue_exact}
 
 pub termios_exact : IsExact termios
@@ -81,7 +82,8 @@ pckt_back (OfLdterm l) queues e = absurd cc
 pckt_back (OfPtem p) queues e = absurd cc
 pckt_back (OfOwn o) queues e = absurd cc
 
-own_back : (n : ℕ) (part : Module ℕ) (queues : Option (QueuePair ℕ)) → is_named (names.Own n) (stood part queues) ≡ true → own_of n (settings_of (stood part queues)) ≡ stood part queues
+own_back : (n : ℕ) (part : Module ℕ) (queues : Option (QueuePair ℕ))
+    → is_named (names.Own n) (stood part queues) ≡ true → own_of n (settings_of (stood part queues)) ≡ stood part queues
 own_back n (OfOwn o) None e =
     let same : o.number ≡ n = eqb-true o.number n (and_parts (same_module (names.Own o.number) (names.Own n)) _ e).0 in
     ap (λ number. own_of number o.settings) (sym same)
@@ -100,7 +102,10 @@ pckt_made : IsMade (is_named names.Pckt) pckt_of pckt_parts (nothing tt)
 pckt_made = record { back = λ x fits. (refl, refl); whole = λ m shape. pckt_back m.part m.queues shape }
 
 own_made : (n : ℕ) → IsMade (is_named (names.Own n)) (own_of n) settings_of settings
-own_made n = record { back = λ x fits. (refl, and_from _ _ (same_module-self (names.Own n)) refl); whole = λ m shape. own_back n m.part m.queues shape }
+own_made n = record {
+  back = λ x fits. (refl, and_from _ _ (same_module-self (names.Own n)) refl);
+  whole = λ m shape. own_back n m.part m.queues shape;
+}
 
 body_exact : (v : Version) (name : ModuleName) → IsExact (module_body v name)
 body_exact v names.Ldterm = made_exact _ _ _ _ (ldterm_exact v) (ldterm_made v)

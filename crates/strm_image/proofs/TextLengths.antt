@@ -167,7 +167,8 @@ kind_length (OfLdterm l) (Some pair) good banded =
     (omega (arith, sum_by-cons load pair.read (pair.write ∷ []), sum_by-cons load pair.write []))
 kind_length (OfPtem p) queues good banded = within (behind (short 1 (module_kind.text names.Ptem) (omega arith)) (behind (termios_length p.termios good.kind) (winsize_length p.window))) (omega arith)
 kind_length (OfPckt p) queues good banded = short _ _ (omega arith)
-kind_length (OfOwn o) queues good banded = within (behind (short 2 (module_kind.text (names.Own o.number)) (omega arith)) (settings_length o.settings good.kind.few)) (omega arith)
+kind_length (OfOwn o) queues good banded =
+    within (behind (short 2 (module_kind.text (names.Own o.number)) (omega arith)) (settings_length o.settings good.kind.few)) (omega arith)
 
 module_length : (p : Standing ℕ) → GoodModule p → AllByRecursion HasBands (module_queues p) → AtMost (weigh p) ((module_format Second).text p)
 module_length p good banded = kind_length p.part p.queues good banded
@@ -178,7 +179,8 @@ each_length [] good banded = tt
 each_length (p ∷ ps) good banded = (λ above. module_length p good.0 banded.0, each_length ps good.1 banded.1)
 
 -- ldterm is longer than one of a user's own, and no other one is
-one_weighs : (n : ModuleName) → size n + OWN_FIXED * cond (same_module n names.Ldterm) 1 0 ≤ OWN_FIXED + size names.Ldterm * cond (same_module n names.Ldterm) 1 0
+one_weighs : (n : ModuleName)
+    → size n + OWN_FIXED * cond (same_module n names.Ldterm) 1 0 ≤ OWN_FIXED + size names.Ldterm * cond (same_module n names.Ldterm) 1 0
 unfolding size
 one_weighs names.Ldterm = omega arith
 one_weighs names.Ptem = omega arith
@@ -186,7 +188,8 @@ one_weighs names.Pckt = omega arith
 one_weighs (names.Own n) = omega arith
 
 -- by how many stand there, and how often ldterm does
-sizes_most : (on : List ModuleName) → sum_by size on + OWN_FIXED * names_count names.Ldterm on ≤ OWN_FIXED * length on + size names.Ldterm * names_count names.Ldterm on
+sizes_most : (on : List ModuleName)
+    → sum_by size on + OWN_FIXED * names_count names.Ldterm on ≤ OWN_FIXED * length on + size names.Ldterm * names_count names.Ldterm on
 unfolding size
 sizes_most [] = omega (arith, is_names_count.none names.Ldterm)
 sizes_most (n ∷ ns) = omega (arith, sum_by-cons size n ns, is_names_count.more names.Ldterm n ns, one_weighs n, sizes_most ns)
@@ -203,11 +206,13 @@ modules_weigh (p ∷ ps) =
     let split : sum_by load (queues_of_modules (p ∷ ps)) ≡ sum_by load (module_queues p) + sum_by load (queues_of_modules ps) = rw (flat_map-cons module_queues p ps) (sum_by-append load (module_queues p) (queues_of_modules ps)) in
     omega (arith, sum_by-cons weigh p ps, one, split, sum_by-cons size (module_name p) (map module_name ps), modules_weigh ps)
 
-modules_length : (ps : List (Standing ℕ)) → GoodModules ps → AllByRecursion (λ p. AllByRecursion HasBands (module_queues p)) ps → AtMost (299 + 2 * QUEUE_FIXED + 2 * OWN_FIXED + sum_by load (queues_of_modules ps)) ((modules Second).text ps)
+modules_length : (ps : List (Standing ℕ)) → GoodModules ps → AllByRecursion (λ p. AllByRecursion HasBands (module_queues p)) ps
+    → AtMost (299 + 2 * QUEUE_FIXED + 2 * OWN_FIXED + sum_by load (queues_of_modules ps)) ((modules Second).text ps)
 unfolding modules
 modules_length ps good banded =
     let few : length (map module_name ps) ≤ MODULES = omega (arith, length-map ps module_name, good.few) in
-    within (behind (short 1 (byte.text (length ps)) (omega arith)) (texts next_names (module_below Second) weigh ps (each_length ps good.each banded) [])) (omega (arith, sizes_once (map module_name ps) good.once few, modules_weigh ps))
+    within (behind (short 1 (byte.text (length ps)) (omega arith)) (texts next_names (module_below Second) weigh ps (each_length ps good.each banded) []))
+    (omega (arith, sizes_once (map module_name ps) good.once few, modules_weigh ps))
 
 -- ---- streams
 

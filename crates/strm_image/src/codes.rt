@@ -1,5 +1,5 @@
-//! Values that stand in a text as one byte each, or as one and a number behind it. Each reader answers the value and the bytes behind it, and none where the byte is that
-//! of no value.
+//! Values that stand in a text as one byte each, or as one and a number behind it. Each reader answers the value and the bytes behind
+//! it, and none where the byte is that of no value.
 
 ghost use Rattle.std.specs.Prelude.{◌≡◌};
 ghost use Rattle.strm_image.specs.Codes.{control_mode, flag, kind, module_kind, name_kind, openness, place, read_mode, side, version, way};
