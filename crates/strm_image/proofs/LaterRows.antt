@@ -191,8 +191,8 @@ body_later (names.Own n) = same (module_body First (names.Own n))
 module_later : Later (module_format First) (module_format Second)
 unfolding module_format
 module_later =
-    let names = only_later (may_stand First) (may_stand Second) module_kind module_kind (λ name e. refl) (same module_kind) in
-    tagged_later module_name (only (may_stand First) module_kind) (only (may_stand Second) module_kind) (module_body First) (module_body Second) names
+    let tags = only_later (may_stand First) (may_stand Second) module_kind module_kind (λ name e. refl) (same module_kind) in
+    tagged_later module_name (only (may_stand First) module_kind) (only (may_stand Second) module_kind) (module_body First) (module_body Second) tags
     body_later
 
 modules_later : Later (modules First) (modules Second)

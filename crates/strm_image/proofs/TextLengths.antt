@@ -211,7 +211,8 @@ modules_length : (ps : List (Standing ℕ)) → GoodModules ps → AllByRecursio
 unfolding modules
 modules_length ps good banded =
     let few : length (map module_name ps) ≤ MODULES = omega (arith, length-map ps module_name, good.few) in
-    within (behind (short 1 (byte.text (length ps)) (omega arith)) (texts next_names (module_below Second) weigh ps (each_length ps good.each banded) []))
+    let each = texts next_names (module_below Second) weigh ps (each_length ps good.each banded) [] in
+    within (behind (short 1 (byte.text (length ps)) (omega arith)) each)
     (omega (arith, sizes_once (map module_name ps) good.once few, modules_weigh ps))
 
 -- ---- streams
