@@ -10,7 +10,7 @@ use Rattle.strm_laws.specs.Behaviours.{Behaviour}
 use Rattle.strm_laws.specs.LdtermWeights.{weight_begun, weight_in_work}
 use Rattle.strm_laws.specs.Places.{weight_gone, weight_made}
 use Rattle.strm_laws.specs.Pushes.{is_known, module_named, named_by}
-use Rattle.strm_laws.specs.Stacked.{kind_line, kind_weight, KindRests, ldterm_stands, Module, module_puts, OfLdterm, OfOwn, OfPckt, OfPtem, Standing}
+use Rattle.strm_laws.specs.Stacked.{kind_line, kind_weight, KindRests, ldterm_stands, Module, OfLdterm, OfOwn, OfPckt, OfPtem, Standing}
 use Rattle.strm_types.proofs.LdtermWithin.{ldterm-within}
 use Rattle.strm_laws.proofs.GoodLdtermTurns.{serves-good}
 use Rattle.strm_laws.proofs.GoodLdterms.{good-stands, good-with, ldterm-good}

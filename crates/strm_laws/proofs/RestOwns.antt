@@ -1,14 +1,14 @@
 -- A put at a module of a user's own adds no more moves than its message costs: it makes no M_DATA and no M_IOCTL of another kind, and loses and doubles
 -- no cell.
-use Rattle.strm_laws.proofs.Prelude.{ℕ, zero, suc, ◌≡◌, ◌≤◌, ◌+◌, ◌-◌, Bool, true, false, cond, List, [], ◌∷◌, length, refl, sym, ap, subst, arith}
+use Rattle.strm_laws.proofs.Prelude.{ℕ, suc, ◌≡◌, ◌≤◌, ◌+◌, ◌-◌, Bool, true, false, cond, List, [], ◌∷◌, length, refl, subst, arith}
 use Rattle.strm_laws.proofs.Prelude.{◌&&◌, not, sum_by}
 use Rattle.std.specs.List.{AllByRecursion}
-use Rattle.strm_laws.specs.Prelude.{FlushAsked, MsgKind, Data, Proto, Ioctl, Iocack, Flush, Sig, Side, Way, Up, Down, Spot, Cells, Dir, Parcel}
-use Rattle.strm_laws.specs.Prelude.{asked_by, is_bare_flush, is_flush, is_packed, Message, cells_of, has_parts, weight_of, other, cost_of, emits_at}
-use Rattle.strm_laws.specs.Prelude.{At, Shape, Held, Asking, Acking, FlushR, FlushW, FlushRW, FlushMixed, Packed, Passing, shape_by, shape_of, toward}
+use Rattle.strm_laws.specs.Prelude.{FlushAsked, MsgKind, Data, Proto, Ioctl, Flush, Sig, Side, Way, Up, Down, Spot, Cells, Parcel}
+use Rattle.strm_laws.specs.Prelude.{asked_by, is_bare_flush, is_flush, Message, cells_of, has_parts, weight_of, other, cost_of, emits_at}
+use Rattle.strm_laws.specs.Prelude.{At, Shape, Held, Asking, FlushR, FlushW, FlushRW, FlushMixed, Packed, shape_by, shape_of, toward}
 use Rattle.strm_types.specs.Owns.{Own}
 use Rattle.strm_types.specs.Tables.{own_does}
-use Rattle.strm_laws.specs.Behaviours.{Behaviour, OwnPut, is_only_itself}
+use Rattle.strm_laws.specs.Behaviours.{Behaviour, is_only_itself}
 use Rattle.strm_laws.specs.Places.{weight_sent}
 use Rattle.strm_laws.specs.Rest.{echoes, moves_above}
 use Rattle.strm_laws.specs.StackCosts.{Stands}

@@ -1,6 +1,6 @@
 -- A module of a user's own, as rows speak of one, and that it owes a stream nothing more: it puts one byte in place of another one in the data parts
 -- that pass it, and an M_IOCTL of its command sets the two (STREAMS Programming Guide, "Modules"; streamio(7I): I_STR).
-use Rattle.std.proofs.Common.{ℕ, ◌≡◌, ◌≤◌, ◌<◌, Bool, true, false, cond, List, [], ◌∷◌, length, map, take, refl, sym, ap, subst, ◌∙◌, arith}
+use Rattle.std.proofs.Common.{ℕ, ◌≡◌, ◌≤◌, ◌<◌, Bool, true, false, cond, List, [], ◌∷◌, map, take, refl, sym, ap, ◌∙◌, arith}
 use Rattle.std.proofs.lemmas.Bool.{false≢true}
 use Rattle.std.proofs.lemmas.Bool.Decides.{nat_tests}
 use Rattle.std.proofs.lemmas.List.{length-append, length-map, length-take}
@@ -8,15 +8,11 @@ use Rattle.std.proofs.lemmas.List.Sums.{sum_by-cons}
 use Rattle.std.specs.List.{AllByRecursion}
 use Rattle.std.specs.Prelude.{◌==◌, ◌&&◌, ◌||◌, ◌%◌, count_by, if◌then◌else◌, not, slice_index_or, sum_by, None, Option, Some, option_map}
 use Rattle.strm_types.specs.declared.ioctls.Ioc.{Ioc}
-use Rattle.strm_types.specs.declared.kinds.MsgKind.{MsgKind}
-use Rattle.strm_types.specs.declared.kinds.MsgKind.TheVariants.{Ioctl}
-use Rattle.strm_types.specs.declared.limits.TheConstants.{BLOCK_SIZE, IOCTL_MAX}
-use Rattle.strm_types.specs.declared.names.Dir.{Dir}
 use Rattle.strm_types.specs.declared.names.Way.{Way}
 use Rattle.strm_types.specs.declared.names.Way.TheVariants.{Up, Down}
 use Rattle.strm_types.specs.declared.spots.Spot.{Spot}
 use Rattle.strm_types.specs.Acks.{ack_message, acked, payload}
-use Rattle.strm_types.specs.Budgets.{Does, Within, cost_of, emits_at}
+use Rattle.strm_types.specs.Budgets.{Does, Within, emits_at}
 use Rattle.strm_types.specs.Cells.{AreCells, Cells, plain}
 use Rattle.strm_types.specs.Commands.{is_asked, is_ioctl}
 use Rattle.strm_types.specs.Deliver.{Acted, onward, toward}
@@ -25,12 +21,11 @@ use Rattle.strm_types.specs.Message.{Message, cells_of, has_parts, is_part, map_
 use Rattle.strm_types.specs.Names.{direction_at}
 use Rattle.strm_types.specs.Origins.{map_acted}
 use Rattle.strm_types.specs.Owns.{Own}
-use Rattle.strm_types.specs.Shapes.{At, Asking, shape_by, shape_of}
+use Rattle.strm_types.specs.Shapes.{Asking, shape_by, shape_of}
 use Rattle.strm_types.specs.Tables.{own_does}
 use Rattle.strm_types.specs.Write.{chunk_count}
 use Rattle.strm_laws.specs.Behaviours.{Behaviour, GoodOwn, OwnPut, blocks_of, part_blocks, passes_all}
 use Rattle.strm_laws.specs.GoodMessages.{GoodMessage}
-use Rattle.strm_laws.specs.LdtermWeights.{IgnoresMapping}
 use Rattle.strm_types.proofs.CostsOf.{one-few}
 use Rattle.strm_types.proofs.ShapesOf.{asked-shape}
 use Rattle.strm_types.proofs.Weights.{count-join}

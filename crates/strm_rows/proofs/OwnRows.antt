@@ -10,9 +10,7 @@ use Rattle.strm_types.specs.declared.names.ModuleName.{ModuleName}
 use Rattle.strm_types.specs.declared.names.ModuleName.TheVariants as names
 use Rattle.strm_types.specs.declared.refusals.Refusal.{Refusal}
 use Rattle.strm_types.specs.declared.spots.Spot.{Spot}
-use Rattle.strm_types.specs.Acks.{ack_message}
 use Rattle.strm_types.specs.Message.{Message}
-use Rattle.strm_types.specs.Owns.{Own}
 use Rattle.strm_laws.specs.Pushes.{may_stand, named_by}
 use Rattle.strm_laws.specs.Stacked.{Module, OfOwn}
 use Rattle.strm_rows.proofs.CodePage.{code_page, page_command}
