@@ -2,6 +2,7 @@
 use Rattle.std.specs.Prelude.{ℕ, ◌≡◌, ◌≤◌, ◌<◌, ◌+◌, length}
 use Rattle.strm_pair.specs.Prelude.{IOCTL_MAX, Openness, AreSignals, is_part_kind, Stream, StoreValue, list_at, StreamText, queue_now, laid_now}
 use Rattle.strm_types.specs.Slots.{answer_bytes, map_slot}
+use Rattle.strm_laws.specs.Behaviours.{Behaviour}
 use Rattle.strm_laws.specs.Restorable.{GoodQueue}
 use Rattle.strm_image.specs.Image.{stream_of}
 use Rattle.strm_pair.specs.declared.ends.StreamEnd.{StreamEnd}
@@ -11,9 +12,9 @@ use Rattle.strm_pair.specs.Stacks.{stack_keeps}
 use Rattle.strm_pair.specs.Streams.{IsSide, stream_in}
 
 -- what the text of a stream has as its format says: what readers may read, modules, signals, and the answer of an ioctl
-pub record IsStreamText (t : StreamText) : Type 0 where
+pub record IsStreamText (K : Behaviour) (t : StreamText) : Type 0 where
   pub head : GoodQueue is_part_kind (queue_now t.head)
-  pub modules : AreModuleTexts t.modules.items
+  pub modules : AreModuleTexts K t.modules.items
   pub signals : AreSignals t.signals.now
   pub answer : length (answer_bytes (map_slot (λ b. b.now) t.slot)) ≤ IOCTL_MAX
 

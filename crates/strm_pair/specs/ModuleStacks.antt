@@ -17,6 +17,7 @@ rest-keeps : (s : StoreValue) (x : AnyModule) (queues : Option QueuePair) → Is
 rest-keeps s (kinds.Ldterm x) queues held rest i = own-rests s x queues Up i held rest
 rest-keeps s (kinds.Ptem x) queues held rest i = refl
 rest-keeps s (kinds.Pckt x) queues held rest i = refl
+rest-keeps s (kinds.Own o) queues held rest i = refl
 
 pub rests-keep : (s : StoreValue) (xs : List AnyStanding) → AllByRecursion (IsHeld s) xs → AllByRecursion (λ p. IsAtRest p) (map (module_in s) xs) → (i : ℕ) → all_of keeps xs i ≡ 0
 rests-keep s [] held rest i = omega arith

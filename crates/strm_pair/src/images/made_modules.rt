@@ -6,7 +6,7 @@ ghost use Rattle.strm_pair.specs.Placing.{IsFreeFor, IsModuleText, IsPlaced, mod
 
 use crate::images::made_kinds::{ldterm_of, pair_of};
 use crate::modules::AnyModule;
-use crate::own::OwnModule;
+use crate::own::{OwnModule, Owned};
 use strm_blocks::Blocks;
 use strm_frame::{Standing, Tables};
 use strm_image::ModuleText;
@@ -22,7 +22,7 @@ pub(crate) fn module_of<B: Blocks, M: OwnModule>(
 ) -> Standing<AnyModule<M>>
     requires first { first ≤ 6 }
     requires free { IsFreeFor (B.value store.old) first shelf.old text.now }
-    requires good { IsModuleText text.now }
+    requires good { IsModuleText M.does text.now }
     requires room { HasRoom (B.value store.old) (module_blocks text.now) }
     ensures { IsPlaced (B.value store.old) (B.value store.new) first shelf.old shelf.new text.now result }
 {
@@ -47,5 +47,14 @@ pub(crate) fn module_of<B: Blocks, M: OwnModule>(
             module: AnyModule::Pckt(Pckt),
             queues: None,
         },
+        ModuleText::Own(found) => {
+            let Some(own) = Owned::restored(found.number, found.settings) else {
+                unreachable!()
+            };
+            Standing {
+                module: AnyModule::Own(own),
+                queues: None,
+            }
+        }
     }
 }

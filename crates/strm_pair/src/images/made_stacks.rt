@@ -24,7 +24,7 @@ pub(crate) fn stack_of<B: Blocks, M: OwnModule>(
     requires reads { list_at (B.value store.old) first ≡ [] }
     requires writes { list_at (B.value store.old) (first + 1) ≡ [] }
     requires shelf { is_some shelf.old ≡ true }
-    requires good { AreModuleTexts texts.now }
+    requires good { AreModuleTexts M.does texts.now }
     requires room { HasRoom (B.value store.old) (sum_by module_blocks texts.now) }
     ensures { AreStacked (B.value store.old) (B.value store.new) first texts.now result.modules.items shelf.new }
 {

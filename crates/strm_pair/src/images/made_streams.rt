@@ -27,7 +27,7 @@ pub(crate) fn end_of<B: Blocks, M: OwnModule>(
 ) -> StreamEnd<M>
     requires first { first ≤ 4 }
     requires blank { IsBlank (B.value store.old) first }
-    requires good { IsStreamText text.now }
+    requires good { IsStreamText M.does text.now }
     requires room { HasRoom (B.value store.old) (laid_blocks (laid_now text.now)) }
     ensures { IsStood (B.value store.old) (B.value store.new) first (stream_now opened text.now) (laid_blocks (laid_now text.now)) result }
 {

@@ -2,7 +2,7 @@
 
 ghost use Rattle.std.specs.Prelude.{◌≡◌, map};
 ghost use Rattle.std.specs.List.{AllByRecursion, flat_map};
-ghost use Rattle.strm_laws.specs.Stacked.{OfPtem, OfPckt};
+ghost use Rattle.strm_laws.specs.Stacked.{OfOwn, OfPtem, OfPckt};
 ghost use Rattle.strm_blocks.specs.Blocks.{StoreValue};
 ghost use Rattle.strm_image.specs.Modules.{alone, module_format, modules};
 ghost use Rattle.strm_image.specs.Sinks.{put};
@@ -18,12 +18,12 @@ ghost use Rattle.strm_pair.specs.Stacks.{IsStackHeld, modules_in};
 
 use crate::images::queues::put_queue;
 use crate::modules::AnyModule;
-use crate::own::OwnModule;
+use crate::own::{OwnModule, Owned};
 use crate::stacks::Stack;
 use strm_blocks::Blocks;
 use strm_frame::{QueuePair, Standing};
 use strm_image::writing::{
-    put_flag, put_line, put_module_name, put_ptem, put_termios, put_u8, put_u32,
+    put_flag, put_line, put_module_name, put_ptem, put_settings, put_termios, put_u8, put_u32,
 };
 use strm_image::{QueueKind, Sink};
 use strm_ldterm::Ldterm;
@@ -32,7 +32,7 @@ use strm_types::ModuleName;
 
 // What an ldterm has in front of its queues, behind its name.
 #[tactic(auto, using(strm_image::proofs::SinkRows::put_both))]
-fn put_settings(out: &mut Sink, ldterm: &Ldterm)
+fn put_line_modes(out: &mut Sink, ldterm: &Ldterm)
     ensures { (s : StoreValue) → out.new ≡ put (settings_text (own_in s ldterm.now)) out.old }
 {
     put_module_name(out, ModuleName::Ldterm);
@@ -56,7 +56,7 @@ fn put_ldterm<'a, B: Blocks>(
 {
     let Some(pair) = queues else { unreachable!() };
     let mut out = out;
-    put_settings(&mut out, ldterm);
+    put_line_modes(&mut out, ldterm);
     let out = put_queue(store, &pair.read, QueueKind::LdtermRead, out);
     put_queue(store, &pair.write, QueueKind::LdtermWrite, out)
 }
@@ -82,8 +82,23 @@ fn put_pckt<'a>(out: Sink<'a>) -> Sink<'a>
     out
 }
 
+// A module of a user's own: its number, and what it is set to.
+#[tactic(auto, using(strm_image::proofs::SinkRows::put_both, strm_image::proofs::WrittenRows::own_told))]
+fn put_own<'a, M: OwnModule>(own: &Owned<M>, out: Sink<'a>) -> Sink<'a>
+    ensures { result ≡ put ((module_format Second).text (alone (OfOwn own.now))) out.entry }
+{
+    let mut out = out;
+    put_module_name(&mut out, ModuleName::Own(own.number()));
+    put_settings(&mut out, own.settings());
+    out
+}
+
 // A module, behind its name.
-fn put_module<'a, B: Blocks, M: OwnModule>(store: &B, any: &Standing<AnyModule<M>>, out: Sink<'a>) -> Sink<'a>
+fn put_module<'a, B: Blocks, M: OwnModule>(
+    store: &B,
+    any: &Standing<AnyModule<M>>,
+    out: Sink<'a>,
+) -> Sink<'a>
     requires held { IsHeld (B.value store.now) any.now }
     ensures { result ≡ put ((module_format Second).text (module_in (B.value store.now) any.now)) out.entry }
 {
@@ -91,12 +106,17 @@ fn put_module<'a, B: Blocks, M: OwnModule>(store: &B, any: &Standing<AnyModule<M
         AnyModule::Ldterm(ldterm) => put_ldterm(store, ldterm, &any.queues, out),
         AnyModule::Ptem(ptem) => put_ptem_module(ptem, out),
         AnyModule::Pckt(_) => put_pckt(out),
+        AnyModule::Own(own) => put_own(own, out),
     }
 }
 
 // Modules, one behind the other.
 #[tactic(auto, using(strm_image::proofs::SinkRows::put_both, strm_image::proofs::SinkRows::put_nothing))]
-fn put_each<'a, B: Blocks, M: OwnModule>(store: &B, modules: &[Standing<AnyModule<M>>], out: Sink<'a>) -> Sink<'a>
+fn put_each<'a, B: Blocks, M: OwnModule>(
+    store: &B,
+    modules: &[Standing<AnyModule<M>>],
+    out: Sink<'a>,
+) -> Sink<'a>
     requires held { AllByRecursion (IsHeld (B.value store.now)) modules.now }
     ensures { result ≡ put (flat_map (module_format Second).text (map (module_in (B.value store.now)) modules.now)) out.entry }
 {
@@ -109,7 +129,11 @@ fn put_each<'a, B: Blocks, M: OwnModule>(store: &B, modules: &[Standing<AnyModul
 
 /// Writes the modules of a stream between two calls, with their number in front.
 #[tactic(auto, using(strm_image::proofs::SinkRows::put_both, strm_image::proofs::WrittenRows::modules_told))]
-pub(crate) fn put_modules<'a, B: Blocks, M: OwnModule>(store: &B, stack: &Stack<M>, out: Sink<'a>) -> Sink<'a>
+pub(crate) fn put_modules<'a, B: Blocks, M: OwnModule>(
+    store: &B,
+    stack: &Stack<M>,
+    out: Sink<'a>,
+) -> Sink<'a>
     requires held { IsStackHeld (B.value store.now) stack.now }
     ensures { result ≡ put ((modules Second).text (modules_in (B.value store.now) stack.now)) out.entry }
 {

@@ -1,11 +1,16 @@
-//! That the numbers of a pair have the widths that an image has, as their types say. Each function tells what is so, and does nothing.
+//! That the numbers of a pair have the widths that an image has, as their types say, and that there are modules of all names on its streams. Each function
+//! tells what is so, and does nothing.
 
-ghost use Rattle.std.specs.Prelude.{◌<◌, ◌^◌, map};
+ghost use Rattle.std.specs.Prelude.{◌≡◌, ◌<◌, ◌^◌, true, map};
 ghost use Rattle.std.specs.List.{AllByRecursion};
 ghost use Rattle.strm_blocks.specs.Blocks.{StoreValue};
 ghost use Rattle.strm_head.specs.Heads.{plain_slot};
 ghost use Rattle.strm_image.specs.HasImage.{AreCounts, AreNumbers, HasHalves, HasModuleNumbers, HasNumbers, HasSlotNumbers, HasWords};
+ghost use Rattle.strm_laws.specs.Pushes.{is_known};
+ghost use Rattle.strm_laws.specs.Stacked.{module_name};
 ghost use Rattle.strm_pair.specs.AnyModules.{module_in};
+ghost use Rattle.strm_pair.specs.Known.{all_known, are_known};
+ghost use Rattle.strm_pair.specs.Stacks.{modules_in};
 ghost use Rattle.strm_pair.specs.Pairs.{state_in};
 ghost use Rattle.strm_pair.specs.Streams.{stream_in};
 
@@ -64,7 +69,8 @@ fn know_slot(ioctl: &Slot<IoctlBytes>)
 }
 
 fn know_module<M: OwnModule>(any: &Standing<AnyModule<M>>)
-    ensures { (s : StoreValue) → HasModuleNumbers (module_in s any.now) }
+    ensures numbers { (s : StoreValue) → HasModuleNumbers (module_in s any.now) }
+    ensures known { (s : StoreValue) → is_known M.does (module_name (module_in s any.now)) ≡ true }
 {
     match &any.module {
         AnyModule::Ldterm(ldterm) => know_termios(ldterm.termios),
@@ -73,11 +79,15 @@ fn know_module<M: OwnModule>(any: &Standing<AnyModule<M>>)
             know_window(ptem.window);
         }
         AnyModule::Pckt(_) => {}
+        AnyModule::Own(own) => {
+            own.number();
+        }
     }
 }
 
 fn know_modules<M: OwnModule>(modules: &[Standing<AnyModule<M>>])
-    ensures { (s : StoreValue) → AllByRecursion HasModuleNumbers (map (module_in s) modules.now) }
+    ensures numbers { (s : StoreValue) → AllByRecursion HasModuleNumbers (map (module_in s) modules.now) }
+    ensures known { (s : StoreValue) → are_known M.does (map module_name (map (module_in s) modules.now)) ≡ true }
 {
     if let Some((first, rest)) = modules.split_first() {
         know_module(first);
@@ -86,7 +96,8 @@ fn know_modules<M: OwnModule>(modules: &[Standing<AnyModule<M>>])
 }
 
 fn know_end<M: OwnModule>(end: &StreamEnd<M>)
-    ensures { (s : StoreValue) → HasNumbers (stream_in s end.now) }
+    ensures numbers { (s : StoreValue) → HasNumbers (stream_in s end.now) }
+    ensures known { (s : StoreValue) → are_known M.does (map module_name (modules_in s end.now.stack)) ≡ true }
 {
     know_word(end.head.group);
     know_slot(&end.head.ioctl);
@@ -95,7 +106,8 @@ fn know_end<M: OwnModule>(end: &StreamEnd<M>)
 
 /// What the streams of a pair keep.
 pub(crate) fn know_streams<M: OwnModule>(streams: &Streams<M>)
-    ensures { (s : StoreValue) → AreNumbers (state_in s streams.now) }
+    ensures numbers { (s : StoreValue) → AreNumbers (state_in s streams.now) }
+    ensures known { (s : StoreValue) → all_known M.does (state_in s streams.now) ≡ true }
 {
     know_end(&streams.ends.master);
     know_end(&streams.ends.slave);

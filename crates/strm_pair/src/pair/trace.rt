@@ -7,6 +7,7 @@ ghost use Rattle.strm_image.specs.Sinks.{front_over};
 ghost use Rattle.strm_image.specs.Traces.{IsTrace};
 ghost use Rattle.strm_image.specs.declared.versions.Version.TheVariants.{Second};
 ghost use Rattle.strm_laws.specs.Pair.{restarted};
+ghost use Rattle.strm_pair.specs.Known.{all_known};
 
 use crate::images::whole::image_into;
 use crate::images::widths::{know_fates, know_streams};
@@ -36,6 +37,7 @@ impl<B: Blocks + Drop, M: OwnModule> Pair<B, M> {
         ensures text { out.new ≡ front_over (image.text (Second, imaged self.now.state self.now.fates)) out.old }
         ensures length { result ≡ length (image.text (Second, imaged self.now.state self.now.fates)) }
         ensures fits { image.fits (Second, imaged self.now.state self.now.fates) ≡ true }
+        ensures known { all_known M.does self.now.state ≡ true }
     {
         self.store.audit();
         know_streams(&self.streams);
@@ -47,6 +49,7 @@ impl<B: Blocks + Drop, M: OwnModule> Pair<B, M> {
     pub fn image(&self, alloc: Global) -> Result<Vec<u8>, NoMemory>
         ensures text { IfOk result (λ text. text.items ≡ image.text (Second, imaged self.now.state self.now.fates)) }
         ensures fits { image.fits (Second, imaged self.now.state self.now.fates) ≡ true }
+        ensures known { all_known M.does self.now.state ≡ true }
     {
         let wanted = self.image_into(&mut []);
         let Ok(mut text) = Vec::from_elem(alloc, 0, wanted) else {
