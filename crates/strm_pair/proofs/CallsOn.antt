@@ -252,15 +252,15 @@ module _ (here : Spot) where
     went-whole : call.stopped ≡ false → bytes_left here.way false (discipline_of (module_at here s)) ≡ 0
     went-whole goes = let all = went-all false call s tells low full over goes in omega (arith, all, none)
 
-    stopped-some : (stopped : Bool) (M : Type 0) → M → OnTrue stopped (M → 0 < call.bytes) → stopped ≡ true → 0 < call.bytes
-    stopped-some true M many some is = some many
-    stopped-some false M many some is = absurd (false≢true is)
+    stopped-some : (stopped : Bool) (A : Type 0) → A → OnTrue stopped (A → 0 < call.bytes) → stopped ≡ true → 0 < call.bytes
+    stopped-some true A many some is = some many
+    stopped-some false A many some is = absurd (false≢true is)
 
-    pub first-went : (M : Type 0) → M → OnTrue call.stopped (M → 0 < call.bytes) → bytes_left here.way false (discipline_of (module_at here s)) ≡ 0
-    first-went M many some = at call.stopped refl
+    pub first-went : (A : Type 0) → A → OnTrue call.stopped (A → 0 < call.bytes) → bytes_left here.way false (discipline_of (module_at here s)) ≡ 0
+    first-went A many some = at call.stopped refl
       where
         at : (stopped : Bool) → call.stopped ≡ stopped → bytes_left here.way false (discipline_of (module_at here s)) ≡ 0
-        at true is = let went = stopped-some call.stopped M many some is in absurd (omega (arith, went, none))
+        at true is = let went = stopped-some call.stopped A many some is in absurd (omega (arith, went, none))
         at false is = went-whole is
 
   -- the last call treats what has begun

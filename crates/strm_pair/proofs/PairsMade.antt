@@ -22,7 +22,7 @@ module _ (s : StoreValue) (lists : s.lists ≡ replicate 8 []) where
   pub blank-last : IsBlank s 4
   blank-last = record { head = list-none 4 refl; driver = list-none 5 refl; up = list-none 6 refl; down = list-none 7 refl }
 
-module _ {s t u : StoreValue} {p q : Stream ℕ} {m n : ℕ} {e f : StreamEnd} (master : IsStood s t 0 p m e) (slave : IsStood t u 4 q n f) where
+module _ {M : Type 0} {s t u : StoreValue} {p q : Stream ℕ} {m n : ℕ} {e f : StreamEnd M} (master : IsStood s t 0 p m e) (slave : IsStood t u 4 q n f) where
   -- the master's lists stay
   stays : Stays t u (stack_keeps e.stack)
   stays = still t u (stack_keeps e.stack) slave.hand slave.mblks slave.dblks
@@ -43,7 +43,7 @@ module _ {s t u : StoreValue} {p q : Stream ℕ} {m n : ℕ} {e f : StreamEnd} (
   }
 
 -- the slave's lists are empty till then
-module _ {s t : StoreValue} {p : Stream ℕ} {m : ℕ} {e : StreamEnd} (master : IsStood s t 0 p m e) where
+module _ {M : Type 0} {s t : StoreValue} {p : Stream ℕ} {m : ℕ} {e : StreamEnd M} (master : IsStood s t 0 p m e) where
   pub blank-behind : IsBlank s 4 → IsBlank t 4
   blank-behind blank = record {
     head = master.behind 4 (omega arith) ∙ blank.head;

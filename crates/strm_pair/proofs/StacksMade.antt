@@ -55,14 +55,14 @@ module _ (first k : ℕ) where
 
 -- ---- with one module more
 
-module _ {s t : StoreValue} {first : ℕ} {ms : List ModuleText} {xs : List AnyStanding} {was : Option Tables} (so_far : AreStacked s t first ms xs was) where
+module _ {M : Type 0} {s t : StoreValue} {first : ℕ} {ms : List ModuleText} {xs : List (AnyStanding M)} {was : Option Tables} (so_far : AreStacked s t first ms xs was) where
   -- an ldterm finds its lists empty
   pub free-for : (m : ModuleText) → sum_by is_ldterm ms + is_ldterm m ≤ 1 → IsFreeFor t first was m
   free-for (texts.Ldterm l) few = so_far.free (omega (arith, so_far.own first, all-few first first ms, few))
   free-for (texts.Ptem p) few = tt
   free-for texts.Pckt few = tt
 
-  module _ {u : StoreValue} {m : ModuleText} {x : AnyStanding} {is : Option Tables} (placed : IsPlaced t u first was is m x) (few : sum_by is_ldterm ms + is_ldterm m ≤ 1) where
+  module _ {u : StoreValue} {m : ModuleText} {x : AnyStanding M} {is : Option Tables} (placed : IsPlaced t u first was is m x) (few : sum_by is_ldterm ms + is_ldterm m ≤ 1) where
     -- it has no list while another one has
     none-own : (k : ℕ) → 0 < all_of owns xs k → owns x first ≡ 0
     none-own k some = omega (arith, some, so_far.own k, all-few first k ms, few, own-few first first m, placed.own first)
@@ -145,7 +145,7 @@ module _ (f k : ℕ) where
 
 -- ---- where the first one is to be placed
 
-pub stacked-none : (s : StoreValue) (first : ℕ) (shelf : Option Tables) (xs : List AnyStanding) → xs ≡ [] → list_at s first ≡ [] → list_at s (first + 1) ≡ [] → is_some shelf ≡ true → AreStacked s s first [] xs shelf
+pub stacked-none : {M : Type 0} (s : StoreValue) (first : ℕ) (shelf : Option Tables) (xs : List (AnyStanding M)) → xs ≡ [] → list_at s first ≡ [] → list_at s (first + 1) ≡ [] → is_some shelf ≡ true → AreStacked s s first [] xs shelf
 stacked-none s first shelf xs none reads writes there = subst (λ ys. AreStacked s s first [] ys shelf) (sym none) (record {
   state = refl;
   held = record { each = tt; apart = λ k. omega arith };
@@ -166,7 +166,7 @@ module _ (ms : List ModuleText) (i : ℕ) (m : ModuleText) (at : m ≡ get_or ms
     dblks = omega (arith, room.dblks, spent.dblks, sum_by_more_le module_blocks ms i m within, ap module_blocks at);
   }
 
-  pub stacked-more : {s t u : StoreValue} {first : ℕ} {xs ys : List AnyStanding} {x : AnyStanding} {was is : Option Tables} → EachOnce (names_now ms) → AreStacked s t first (take i ms) xs was → IsPlaced t u first was is m x → ys ≡ xs ++ x ∷ []
+  pub stacked-more : {M : Type 0} {s t u : StoreValue} {first : ℕ} {xs ys : List (AnyStanding M)} {x : AnyStanding M} {was is : Option Tables} → EachOnce (names_now ms) → AreStacked s t first (take i ms) xs was → IsPlaced t u first was is m x → ys ≡ xs ++ x ∷ []
       → AreStacked s u first (take (i + 1) ms) ys is
   stacked-more {s} {t} {u} {first} {xs} {ys} {x} {was} {is} each so_far placed pushed =
       let more : take (i + 1) ms ≡ take i ms ++ m ∷ [] = take_more ms i m within ∙ ap (λ k. take i ms ++ k ∷ []) (sym at) in
@@ -175,7 +175,7 @@ module _ (ms : List ModuleText) (i : ℕ) (m : ModuleText) (at : m ≡ get_or ms
 
 -- ---- a module without queues
 
-pub placed-bare : (s : StoreValue) (first : ℕ) (shelf : Option Tables) (t : ModuleText) (x : AnyStanding) → module_in s x ≡ module_now t → IsHeld s x → ((i : ℕ) → keeps x i ≡ 0) → ((k : ℕ) → owns x k ≡ own_of first k t) → module_blocks t ≡ 0
+pub placed-bare : {M : Type 0} (s : StoreValue) (first : ℕ) (shelf : Option Tables) (t : ModuleText) (x : AnyStanding M) → module_in s x ≡ module_now t → IsHeld s x → ((i : ℕ) → keeps x i ≡ 0) → ((k : ℕ) → owns x k ≡ own_of first k t) → module_blocks t ≡ 0
     → IsPlaced s s first shelf shelf t x
 placed-bare s first shelf t x is held rests own none = record {
   state = is;

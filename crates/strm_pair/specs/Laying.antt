@@ -23,7 +23,7 @@ abbrev pub stream_now : Openness → StreamText → Stream ℕ
 stream_now opened t = stream_of opened (laid_now t)
 
 -- A stream stands on four lists of a store, from a number on, and no other list changed. It keeps nothing in hand, and its messages take so many blocks.
-pub record IsStood (old new : StoreValue) (first : ℕ) (plain : Stream ℕ) (blocks : ℕ) (e : StreamEnd) : Type 0 where
+pub record IsStood {M : Type 0} (old new : StoreValue) (first : ℕ) (plain : Stream ℕ) (blocks : ℕ) (e : StreamEnd M) : Type 0 where
   pub stream : stream_in new e ≡ plain
   pub side : IsSide new first e
   pub rests : (i : ℕ) → stack_keeps e.stack i ≡ 0

@@ -38,7 +38,7 @@ IsFreeFor s first shelf texts.Pckt = Unit {0}
 IsFreeFor s first shelf (texts.Own o) = Unit {0}
 
 -- A module stands as a text has it. It keeps nothing in hand. Where it has no list of its own, the store and the shelf are as they were.
-pub record IsPlaced (old new : StoreValue) (first : ℕ) (was is : Option Tables) (text : ModuleText) (x : AnyStanding) : Type 0 where
+pub record IsPlaced {M : Type 0} (old new : StoreValue) (first : ℕ) (was is : Option Tables) (text : ModuleText) (x : AnyStanding M) : Type 0 where
   pub state : module_in new x ≡ module_now text
   pub held : IsHeld new x
   pub rests : (i : ℕ) → keeps x i ≡ 0
@@ -54,7 +54,7 @@ pub record AreModuleTexts (K : Behaviour) (ms : List ModuleText) : Type 0 where
   pub names : EachOnce (names_now ms)
 
 -- Modules stand as a text has them, the one on top first. While none has queues, the lists for these are empty, and their tables are on the shelf.
-pub record AreStacked (old new : StoreValue) (first : ℕ) (ms : List ModuleText) (xs : List AnyStanding) (shelf : Option Tables) : Type 0 where
+pub record AreStacked {M : Type 0} (old new : StoreValue) (first : ℕ) (ms : List ModuleText) (xs : List (AnyStanding M)) (shelf : Option Tables) : Type 0 where
   pub state : map (module_in new) xs ≡ modules_now ms
   pub held : AreHeld IsHeld owns new xs
   pub rests : (i : ℕ) → all_of keeps xs i ≡ 0

@@ -12,7 +12,7 @@ use Rattle.strm_pair.specs.Stacks.{modules_in, Stack}
 
 -- A put did what a definition says: the message has gone, and what is sent on has come in hand, beside what the stacks keep. No more
 -- blocks of each kind were taken than `takes`.
-pub record PutBy (old new : StoreValue) (p q : Streams) (message takes : ℕ) (sent_on : List Sent) (told told' : Fates) (is : Took ℕ (State ℕ)) : Type 0 where
+pub record PutBy {M : Type 0} (old new : StoreValue) (p q : Streams M) (message takes : ℕ) (sent_on : List Sent) (told told' : Fates) (is : Took ℕ (State ℕ)) : Type 0 where
   pub state : state_in new q ≡ is.state
   pub sent : parcels_in new sent_on ≡ is.sent
   pub tells : told' ≡ tallied is.gone told
@@ -24,7 +24,7 @@ pub record PutBy (old new : StoreValue) (p q : Streams) (message takes : ℕ) (s
 
 -- A put at an open head did what a definition says: the message has gone, and this is to be sent down. No block was taken, the stacks keep what
 -- they did, and an M_DATA or M_PROTO frees none.
-pub record CameBy (old new : StoreValue) (p q : Streams) (message : ℕ) (down : List (Parcel ℕ)) (told told' : Fates) (is : Took ℕ (State ℕ)) : Type 0 where
+pub record CameBy {M : Type 0} (old new : StoreValue) (p q : Streams M) (message : ℕ) (down : List (Parcel ℕ)) (told told' : Fates) (is : Took ℕ (State ℕ)) : Type 0 where
   pub state : state_in new q ≡ is.state
   pub down_is : down ≡ is.sent
   pub tells : told' ≡ tallied is.gone told
@@ -38,7 +38,7 @@ abbrev pub taken_at : Spot → Message ℕ → List (Standing ℕ) → Acted ℕ
 taken_at to m ms = put_among (module_puts plain 0) (to.at - 1) to m ms
 
 -- A stack of modules took a message at a place.
-abbrev pub StackTakes : (old new : StoreValue) → (x y : Stack) → (message : ℕ) → Spot → Acts → (told told' : Fates) → Type 0
+abbrev pub StackTakes : {M : Type 0} (old new : StoreValue) → (x y : Stack M) → (message : ℕ) → Spot → Acts → (told told' : Fates) → Type 0
 StackTakes old new x y message to acts told told' =
     let m = message_in old message in
     let ms = modules_in old x in

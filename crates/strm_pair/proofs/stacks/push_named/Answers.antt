@@ -7,7 +7,7 @@ use Rattle.strm_pair.specs.declared.modules.AnyModule.{AnyModule}
 use Rattle.strm_pair.specs.AnyModules.{AnyStanding}
 
 -- the module with the queues that it is given
-abbrev pushed_of : AnyModule → Option QueuePair → AnyStanding
+abbrev pushed_of : {M : Type 0} → AnyModule M → Option QueuePair → AnyStanding M
 pushed_of x queues = standing x queues
 
 pub returns-clause-modules : goal.returns-clause-modules

@@ -10,10 +10,10 @@ use Rattle.strm_pair.proofs.streams.Streams.+note_each.Goals.{in-Enable, in-Room
 
 module _ (s : StoreValue) (side : Side) (place : Option Place) (at : ℕ) where
   -- streams behind notes
-  abbrev noted_on : List Note → Streams → Streams
+  abbrev noted_on : {M : Type 0} → List Note → Streams M → Streams M
   noted_on notes p = record p { enabled = noted side place (earlier_at side at (state_in s p)) notes p.enabled }
 
-  noted-more : (n : Note) (ns notes : List Note) (p q r : Streams) → notes ≡ n ∷ ns → q ≡ noted_on (n ∷ []) p → r ≡ noted_on ns q → r ≡ noted_on notes p
+  noted-more : {M : Type 0} (n : Note) (ns notes : List Note) (p q r : Streams M) → notes ≡ n ∷ ns → q ≡ noted_on (n ∷ []) p → r ≡ noted_on ns q → r ≡ noted_on notes p
   noted-more (Enable way) ns notes p q r is first rest = rest ∙ ap (noted_on ns) first ∙ ap (λ all. noted_on all p) (sym is)
   noted-more (Room way) ns notes p q r is first rest = rest ∙ ap (noted_on ns) first ∙ ap (λ all. noted_on all p) (sym is)
 
