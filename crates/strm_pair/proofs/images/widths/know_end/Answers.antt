@@ -5,7 +5,7 @@ use Rattle.strm_pair.specs.AnyModules.{module_in}
 use Rattle.strm_pair.proofs.images.widths.know_end.Goals as goal
 
 pub returns : goal.returns
-returns c = λ s. record {
+returns g c = λ s. record {
   group = c.know_word.ensures;
   ioctl = c.know_slot.ensures;
   modules = subst (λ xs. AllByRecursion HasModuleNumbers (map (module_in s) xs)) c.as_slice.ensures.value (c.know_modules.ensures s);

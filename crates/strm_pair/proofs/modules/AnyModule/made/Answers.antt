@@ -10,16 +10,16 @@ ldterm-fits s x None has held = absurd (false≢true has)
 ldterm-fits s x (Some pair) has held = held pair
 
 pub returns-in-Ldterm-clause-made : goal.returns-in-Ldterm-clause-made
-returns-in-Ldterm-clause-made c = rw c.in-Ldterm.is (λ s. ap OfLdterm (c.new.ensures.state s))
+returns-in-Ldterm-clause-made g c = rw c.in-Ldterm.is (λ s. ap OfLdterm (c.new.ensures.state s))
 
 pub returns-in-Ldterm-clause-fresh : goal.returns-in-Ldterm-clause-fresh
-returns-in-Ldterm-clause-fresh c = rw c.in-Ldterm.is (record {
+returns-in-Ldterm-clause-fresh g c = rw c.in-Ldterm.is (record {
   held = λ s queues has. ldterm-fits s c.new.result queues has (λ pair. c.new.ensures.held s pair);
   rests = c.new.ensures.rests;
 })
 
 pub returns-in-Ptem-clause-fresh : goal.returns-in-Ptem-clause-fresh
-returns-in-Ptem-clause-fresh c = rw c.in-Ptem.is (record { held = λ s queues has. none-are queues has; rests = λ i. refl })
+returns-in-Ptem-clause-fresh g c = rw c.in-Ptem.is (record { held = λ s queues has. none-are queues has; rests = λ i. refl })
 
 pub returns-in-Pckt-clause-fresh : goal.returns-in-Pckt-clause-fresh
-returns-in-Pckt-clause-fresh c = rw c.in-Pckt.is (record { held = λ s queues has. none-are queues has; rests = λ i. refl })
+returns-in-Pckt-clause-fresh g c = rw c.in-Pckt.is (record { held = λ s queues has. none-are queues has; rests = λ i. refl })

@@ -18,7 +18,7 @@ module _ (s : StoreValue) (side : Side) (place : Option Place) (at : ℕ) where
   noted-more (Room way) ns notes p q r is first rest = rest ∙ ap (noted_on ns) first ∙ ap (λ all. noted_on all p) (sym is)
 
 pub returns : goal.returns
-returns t c = λ s.
+returns g t c = λ s.
     let side = c.args.side in
     let at = c.args.at in
     let p = c.args.self.now in

@@ -7,7 +7,7 @@ use Rattle.strm_pair.proofs.Modes.{may-known}
 use Rattle.strm_pair.proofs.streams.Streams.may_push.Goals as goal
 
 pub returns-then-module_count-lt-MODULES : goal.returns-then-module_count-lt-MODULES
-returns-then-module_count-lt-MODULES c = λ s.
+returns-then-module_count-lt-MODULES g c = λ s.
     let ms = (stream c.args.side (state_in s c.args.self.now)).modules in
     let kind = c.in-Some.kind in
     let there = c.has.ensures s ∙ ap (λ (t : Stream ℕ). stands module_name kind t.modules) (c.end.ensures.stream s) in
@@ -17,7 +17,7 @@ returns-then-module_count-lt-MODULES c = λ s.
     (ap not there ∙ sym (ap (λ b. b && not (stands module_name kind ms)) few) ∙ may-known kind ms)
 
 pub returns-else-module_count-lt-MODULES : goal.returns-else-module_count-lt-MODULES
-returns-else-module_count-lt-MODULES c = λ s.
+returns-else-module_count-lt-MODULES g c = λ s.
     let ms = (stream c.args.side (state_in s c.args.self.now)).modules in
     let kind = c.in-Some.kind in
     let many = c.module_count.ensures s ∙ ap (λ (t : Stream ℕ). length t.modules) (c.end.ensures.stream s) in
