@@ -9,7 +9,7 @@ use Rattle.strm_pair.specs.Prelude.{Took, tallied, toward, Goes, is_data_kind, a
 use Rattle.strm_pair.specs.Prelude.{is_held, direction_at, enable_some, is_open, IsKeptAhead, across_of, earlier_at, noted, passed_up, put_at_driver}
 use Rattle.strm_pair.specs.Prelude.{put_at_head, put_at_module, put_behind, put_below, put_in, is_there, State, stream, with_stream}
 use Rattle.strm_pair.specs.Prelude.{with_driver_queue, IsChain, Sent, MODULES, head_takes, FlushR, FlushRW, FlushW, shape_of, driver_own, at_place}
-use Rattle.strm_pair.specs.Prelude.{module_takes}
+use Rattle.strm_pair.specs.Prelude.{module_takes, Behaviour}
 use Rattle.strm_types.specs.declared.kinds.MsgKind.TheVariants.{Ioctl}
 use Rattle.strm_types.specs.Cells as cells
 use Rattle.strm_types.specs.Queue as plain
@@ -349,36 +349,36 @@ head-room s i to st chain top room =
     let at : (to.at == 0) ≡ true = grind (arith, nat_tests) in
     room-for s (own to (shape_of m) st) (head_takes m) (omega (arith, turned-low s i chain, head-own to (shape_of m) st at)) room
 
-pub head-put : {M : Type 0} (s t : StoreValue) (p q : Streams M) (i : ℕ) (to : Spot) (sent_on : List Sent) (f f' : Fates) → let m = message_in s i in IsChain (in_hand s i) → to.at ≡ 0
-    → PutBy s t p q i (head_takes m) sent_on f f' (put_at_head to.side to m (state_in s p)) → PutIn s t p q i to sent_on f f' (put_in cells.plain to m (state_in s p))
-head-put s t p q i to sent_on f f' chain top put =
+pub head-put : {M : Type 0} (K : Behaviour) (s t : StoreValue) (p q : Streams M) (i : ℕ) (to : Spot) (sent_on : List Sent) (f f' : Fates) → let m = message_in s i in IsChain (in_hand s i) → to.at ≡ 0
+    → PutBy s t p q i (head_takes m) sent_on f f' (put_at_head to.side to m (state_in s p)) → PutIn s t p q i to sent_on f f' (put_in K cells.plain to m (state_in s p))
+head-put K s t p q i to sent_on f f' chain top put =
     let m = message_in s i in
     let st = state_in s p in
     let at : (to.at == 0) ≡ true = grind (arith, nat_tests) in
-    subst (λ b. PutIn s t p q i to sent_on f f' (cond b (put_at_head to.side to m st) (put_below cells.plain to.way to m st))) (sym at)
+    subst (λ b. PutIn s t p q i to sent_on f f' (cond b (put_at_head to.side to m st) (put_below K cells.plain to.way to m st))) (sym at)
     (put-more s t p q i (head_takes m) (own to (shape_of m) st) sent_on f f' (put_at_head to.side to m st) (omega (arith, turned-low s i chain, head-own to (shape_of m) st at)) put)
 
 -- below the head, by whether a module stands at the place
-below-put : {M : Type 0} (s t : StoreValue) (p q : Streams M) (i : ℕ) (to : Spot) (sent_on : List Sent) (f f' : Fates) (stands : Bool) → let m = message_in s i in let st = state_in s p in
+below-put : {M : Type 0} (K : Behaviour) (s t : StoreValue) (p q : Streams M) (i : ℕ) (to : Spot) (sent_on : List Sent) (f f' : Fates) (stands : Bool) → let m = message_in s i in let st = state_in s p in
     (to.at ≡ 0 → ⊥) → nat_le to.at (modules_on to.side st) ≡ stands
-    → PutIn s t p q i to sent_on f f' (cond stands (put_at_module cells.plain to m st) (put_behind to.way to m st)) → PutIn s t p q i to sent_on f f' (put_in cells.plain to m st)
-below-put s t p q i to sent_on f f' stands inside place put =
+    → PutIn s t p q i to sent_on f f' (cond stands (put_at_module K cells.plain to m st) (put_behind to.way to m st)) → PutIn s t p q i to sent_on f f' (put_in K cells.plain to m st)
+below-put K s t p q i to sent_on f f' stands inside place put =
     let m = message_in s i in
     let st = state_in s p in
     let below : (to.at == 0) ≡ false = grind (arith, nat_tests) in
-    subst (λ b. PutIn s t p q i to sent_on f f' (cond b (put_at_head to.side to m st) (put_below cells.plain to.way to m st))) (sym below)
-    (subst (λ b. PutIn s t p q i to sent_on f f' (cond b (put_at_module cells.plain to m st) (put_behind to.way to m st))) (sym place) put)
+    subst (λ b. PutIn s t p q i to sent_on f f' (cond b (put_at_head to.side to m st) (put_below K cells.plain to.way to m st))) (sym below)
+    (subst (λ b. PutIn s t p q i to sent_on f f' (cond b (put_at_module K cells.plain to m st) (put_behind to.way to m st))) (sym place) put)
 
-pub module-put : {M : Type 0} (s t : StoreValue) (p q : Streams M) (i : ℕ) (to : Spot) (sent_on : List Sent) (f f' : Fates) → let m = message_in s i in let st = state_in s p in
+pub module-put : {M : Type 0} (K : Behaviour) (s t : StoreValue) (p q : Streams M) (i : ℕ) (to : Spot) (sent_on : List Sent) (f f' : Fates) → let m = message_in s i in let st = state_in s p in
     let ms = (stream to.side st).modules in (to.at ≡ 0 → ⊥) → nat_le to.at (modules_on to.side st) ≡ true
-    → PutBy s t p q i (at_place (module_takes to m) 0 to.at ms) sent_on f f' (put_at_module cells.plain to m st)
-    → PutIn s t p q i to sent_on f f' (put_in cells.plain to m st)
-module-put s t p q i to sent_on f f' inside stands put =
+    → PutBy s t p q i (at_place (module_takes to m) 0 to.at ms) sent_on f f' (put_at_module K cells.plain to m st)
+    → PutIn s t p q i to sent_on f f' (put_in K cells.plain to m st)
+module-put K s t p q i to sent_on f f' inside stands put =
     let m = message_in s i in
     let st = state_in s p in
     let below : (to.at == 0) ≡ false = grind (arith, nat_tests) in
-    below-put s t p q i to sent_on f f' true inside stands
-    (put-more s t p q i (at_place (module_takes to m) 0 to.at (stream to.side st).modules) (own to (shape_of m) st) sent_on f f' (put_at_module cells.plain to m st) (omega (arith, place-own to m st below stands)) put)
+    below-put K s t p q i to sent_on f f' true inside stands
+    (put-more s t p q i (at_place (module_takes to m) 0 to.at (stream to.side st).modules) (own to (shape_of m) st) sent_on f f' (put_at_module K cells.plain to m st) (omega (arith, place-own to m st below stands)) put)
 
 -- behind the modules
 abbrev pub behind_takes : Way → Spot → Message ℕ → ℕ
@@ -402,13 +402,13 @@ pub behind-room : (way : Way) (s : StoreValue) (i : ℕ) (to : Spot) (st : State
     → HasRoom s (own to (shape_of (message_in s i)) st) → HasRoom s (behind_takes way to (message_in s i))
 behind-room way s i to st is inside past room = subst (λ (n : ℕ). HasRoom s n) (behind-is way to (message_in s i) st is inside past) room
 
-pub behind-put : {M : Type 0} (way : Way) (s t : StoreValue) (p q : Streams M) (i : ℕ) (to : Spot) (sent_on : List Sent) (f f' : Fates) → let m = message_in s i in let st = state_in s p in
+pub behind-put : {M : Type 0} (K : Behaviour) (way : Way) (s t : StoreValue) (p q : Streams M) (i : ℕ) (to : Spot) (sent_on : List Sent) (f f' : Fates) → let m = message_in s i in let st = state_in s p in
     to.way ≡ way → (to.at ≡ 0 → ⊥) → nat_le to.at (modules_on to.side st) ≡ false
-    → PutBy s t p q i (behind_takes way to m) sent_on f f' (put_behind way to m st) → PutIn s t p q i to sent_on f f' (put_in cells.plain to m st)
-behind-put way s t p q i to sent_on f f' is inside past put =
+    → PutBy s t p q i (behind_takes way to m) sent_on f f' (put_behind way to m st) → PutIn s t p q i to sent_on f f' (put_in K cells.plain to m st)
+behind-put K way s t p q i to sent_on f f' is inside past put =
     let m = message_in s i in
     let st = state_in s p in
-    below-put s t p q i to sent_on f f' false inside past
+    below-put K s t p q i to sent_on f f' false inside past
     (put-more s t p q i (behind_takes way to m) (own to (shape_of m) st) sent_on f f' (put_behind to.way to m st) (omega (arith, behind-is way to m st is inside past))
     (subst (λ w. PutBy s t p q i (behind_takes way to m) sent_on f f' (put_behind w to m st)) (sym is) put))
 

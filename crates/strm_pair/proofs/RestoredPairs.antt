@@ -2,7 +2,7 @@
 use Rattle.strm_pair.proofs.Prelude.{ℕ, ◌≡◌, ◌≤◌, ◌-◌, true, false, List, [], refl, sym, ap, subst, ◌∙◌, arith, replicate, Option, Some, same_images}
 use Rattle.strm_pair.proofs.Prelude.{image_length_in}
 use Rattle.strm_pair.specs.Prelude.{Config, Refusal, Einval, Enosr, Fates, plain, IsBase, told_by, FewBooked, Free, enough, AreWithinEntries, IsLegal}
-use Rattle.strm_pair.specs.Prelude.{StoreValue, IsStore, free_m, free_d, Second, IsTextOf, HasImage, imaged, Imaged, image, imaged_now}
+use Rattle.strm_pair.specs.Prelude.{StoreValue, IsStore, free_m, free_d, Second, IsTextOf, HasImage, imaged, Imaged, image, imaged_now, Behaviour}
 use Rattle.std.specs.Prelude.{◌↔◌, length}
 use Rattle.std.proofs.lemmas.Bool.{and_from, le-leb}
 use Rattle.strm_image.specs.declared.image.ImageText.{ImageText}
@@ -41,14 +41,14 @@ start_of x = record { state = x.state; fates = fates_in x; past = [] }
 
 module _ {M : Type 0} (s : StoreValue) (p : Streams M) (j : Journal) (b : Start) (limits : Config) (fates : Fates) (x : Imaged)
     (begins : b ≡ start_of x) (state : state_in s p ≡ x.state) (none : journal_of j ≡ []) (gone : fates ≡ fates_in x) where
-  pub restored-kept : IsBase x.state (fates_in x) → AreHeld s p → s.mblks ≡ limits.mblks → s.dblks ≡ limits.dblks → j.most_entries ≡ limits.journal_events → j.most_bytes ≡ limits.journal_bytes → IsKept s p j b limits fates
-  restored-kept based held mblks dblks events bytes = record {
+  pub restored-kept : (K : Behaviour) → IsBase x.state (fates_in x) → AreHeld s p → s.mblks ≡ limits.mblks → s.dblks ≡ limits.dblks → j.most_entries ≡ limits.journal_events → j.most_bytes ≡ limits.journal_bytes → IsKept K s p j b limits fates
+  restored-kept K based held mblks dblks events bytes = record {
     based = subst (λ (t : Start). IsBase t.state t.fates) (sym begins) based;
-    replayed = state ∙ sym (ap (λ (t : Start). t.state) begins) ∙ sym (led-nowhere b j none);
-    legal = subst (λ js. IsLegal plain b.state js) (sym none) tt;
+    replayed = state ∙ sym (ap (λ (t : Start). t.state) begins) ∙ sym (led-nowhere K b j none);
+    legal = subst (λ js. IsLegal K plain b.state js) (sym none) tt;
     within = subst AreWithinEntries (sym none) tt;
     few = subst FewBooked (sym state) based.few;
-    told = gone ∙ sym (ap (λ (t : Start). t.fates) begins) ∙ ap (λ js. told_by plain b.state js b.fates) (sym none);
+    told = gone ∙ sym (ap (λ (t : Start). t.fates) begins) ∙ ap (λ js. told_by K plain b.state js b.fates) (sym none);
     held = held;
     mblks = mblks;
     dblks = dblks;
@@ -88,8 +88,8 @@ free-of s limits same lists hand = all-free s lists hand ∙ sym (ap (λ (l : Co
 -- ---- which refusal
 
 module _ (bytes : List ℕ) (i : ImageText) (found : IsTextOf image bytes (image_now i)) (o : Option Refusal) where
-  pub not-einval : (o ≡ Some Einval → ⊥) → (o ≡ Some Einval) ↔ IsNoImage bytes
-  not-einval other = (λ e. absurd (other e), λ none. absurd (none (imaged_now i.state) (i.version, found)))
+  pub not-einval : (K : Behaviour) → (o ≡ Some Einval → ⊥) → (o ≡ Some Einval) ↔ IsNoImage K bytes
+  not-einval K other = (λ e. absurd (other e), λ none. absurd (none (imaged_now i.state) (i.version, found)))
 
   pub not-enosr : (free : Free) (n : ℕ) → n ≡ image_blocks (imaged_now i.state) → n ≤ free.mblks → n ≤ free.dblks → (o ≡ Some Enosr → ⊥) → (o ≡ Some Enosr) ↔ ((x : Imaged) × (IsImageOf bytes x × (enough (image_blocks x) free ≡ false)))
   not-enosr free n is m d other = (λ e. absurd (other e), λ few. absurd (has-blocks bytes i found free n is m d few))

@@ -6,7 +6,7 @@ use Rattle.strm_pair.specs.Prelude.{MsgKind, Data, Way, Up, Down, Spot, plain, A
 use Rattle.strm_pair.specs.Prelude.{stages_done, treats, Begins, bytes_left, Discipline, Message, cells_of, data_message, is_held, size_of, act_among}
 use Rattle.strm_pair.specs.Prelude.{Outgoing, output_serves, posted, unchanged, first_size, is_none_left, left_with, Serving, opost, stood}
 use Rattle.strm_pair.specs.Prelude.{disciplined, IsKeptAhead, module_acted, Module, OfLdterm, Standing, module_serves, State, stream, asks_on, called}
-use Rattle.strm_pair.specs.Prelude.{discipline_of, led, module_at, none_there, treated, StaysAlone, stop_at}
+use Rattle.strm_pair.specs.Prelude.{discipline_of, led, module_at, none_there, treated, StaysAlone, stop_at, Behaviour}
 use Rattle.std.proofs.Common.{◌*◌}
 use Rattle.std.specs.Bool.{OnTrue}
 use Rattle.strm_types.specs.Deliver.{onward}
@@ -130,10 +130,10 @@ acted-same here again stop s =
     let t = called here again stop (stream here.side s).modules in
     acted-holds (SameButMade s) stays.names stays.books here t s (stays.modules here.side t.state s (same-itself s))
 
-pub led-same : (here : Spot) (again : Bool) (stop : Option ℕ) (s : State ℕ) → SameButMade s (led here again stop s).state
-led-same here again stop s =
+pub led-same : (K : Behaviour) (here : Spot) (again : Bool) (stop : Option ℕ) (s : State ℕ) → SameButMade s (led K here again stop s).state
+led-same K here again stop s =
     let w = module_acted here (called here again stop (stream here.side s).modules) s in
-    sent-holds (SameButMade s) (same-stays s) plain w.sent w.state (acted-same here again stop s)
+    sent-holds (SameButMade s) K (same-stays s) plain w.sent w.state (acted-same here again stop s)
 
 pub stopped-stays : (here : Spot) (again : Bool) (call : Call) (s : State ℕ) → TellsAs here again call s → here.at - 1 < length (stream here.side s).modules → Begins here.way again (discipline_of (module_at here s))
     → call.stopped ≡ true → call.bytes < bytes_left here.way again (discipline_of (module_at here s)) → IsKeptAhead here.way here.side s → StaysAlone ComesToStand (acts_in here again call s).state (acts_in here again call s).sent

@@ -143,10 +143,10 @@ pub serves-on : (here : Spot) (again : Bool) (stop : Option ℕ) (p : Module ℕ
 serves-on here again stop (OfLdterm l) queues may = serves-served plain here 0 again stop (disciplined l queues) may
 serves-on here again stop other queues may = tt
 
-pub puts-serve : (here : Spot) (m : Message ℕ) (way : Way) (again : Bool) (p : Module ℕ) (queues : Option (QueuePair ℕ)) → MayServe way again p
-    → MayServe way again (module_puts plain 0 here m (stood p queues)).state.part
-puts-serve here m way again (OfLdterm l) queues may = puts-served here m way again (disciplined l queues) may
-puts-serve here m way again other queues may = may
+pub puts-serve : (K : Behaviour) (here : Spot) (m : Message ℕ) (way : Way) (again : Bool) (p : Module ℕ) (queues : Option (QueuePair ℕ)) → MayServe way again p
+    → MayServe way again (module_puts K plain 0 here m (stood p queues)).state.part
+puts-serve K here m way again (OfLdterm l) queues may = puts-served here m way again (disciplined l queues) may
+puts-serve K here m way again other queues may = may
 
 pub line-serves : (way : Way) (again : Bool) (p : Module ℕ) → MayServe way again p → MayServe way again (without_kind_line p)
 line-serves way again (OfLdterm l) may = line-served way again l may

@@ -13,33 +13,33 @@ pushed_of x queues = standing x queues
 pub returns-clause-modules : goal.returns-clause-modules
 returns-clause-modules g c =
     let s = g.B.Blocks.value c.args.store.now in
-    pushed-modules s c.args.first c.args.name c.args.stack.now c.push.new.self (pushed_of c.made.result c.queues_for.result) c.requires.held c.requires.may_stand c.requires.spare (c.made.ensures.made s) c.made.ensures.fresh c.queues_for.ensures.given c.push.result (c.push.ensures.pushed s)
+    pushed-modules s g.M.Behaves.does c.args.first c.args.name c.args.stack.now c.push.new.self (pushed_of c.made.result c.queues_for.result) c.requires.held c.requires.may_stand c.requires.spare (c.made.ensures.made s) c.made.ensures.fresh c.queues_for.ensures.given c.push.result (c.push.ensures.pushed s)
 
 pub returns-clause-held : goal.returns-clause-held
 returns-clause-held g c =
     let s = g.B.Blocks.value c.args.store.now in
-    pushed-held s c.args.first c.args.name c.args.stack.now c.push.new.self (pushed_of c.made.result c.queues_for.result) c.requires.held c.requires.may_stand c.requires.spare (c.made.ensures.made s) c.made.ensures.fresh c.queues_for.ensures.given c.push.result (c.push.ensures.pushed s) c.requires.held
+    pushed-held s g.M.Behaves.does c.args.first c.args.name c.args.stack.now c.push.new.self (pushed_of c.made.result c.queues_for.result) c.requires.held c.requires.may_stand c.requires.spare (c.made.ensures.made s) c.made.ensures.fresh c.queues_for.ensures.given c.push.result (c.push.ensures.pushed s) c.requires.held
 
 pub returns-clause-owned : goal.returns-clause-owned
 returns-clause-owned g c =
     let s = g.B.Blocks.value c.args.store.now in
-    pushed-owned s c.args.first c.args.name c.args.stack.now c.push.new.self (pushed_of c.made.result c.queues_for.result) c.requires.held c.requires.may_stand c.requires.spare (c.made.ensures.made s) c.made.ensures.fresh c.queues_for.ensures.given c.push.result (c.push.ensures.pushed s) c.requires.owned
+    pushed-owned s g.M.Behaves.does c.args.first c.args.name c.args.stack.now c.push.new.self (pushed_of c.made.result c.queues_for.result) c.requires.held c.requires.may_stand c.requires.spare (c.made.ensures.made s) c.made.ensures.fresh c.queues_for.ensures.given c.push.result (c.push.ensures.pushed s) c.requires.owned
 
 pub returns-clause-spare : goal.returns-clause-spare
 returns-clause-spare g c =
     let s = g.B.Blocks.value c.args.store.now in
-    pushed-spare s c.args.first c.args.name c.args.stack.now c.push.new.self (pushed_of c.made.result c.queues_for.result) c.requires.held c.requires.may_stand c.requires.spare (c.made.ensures.made s) c.made.ensures.fresh c.queues_for.ensures.given c.push.result (c.push.ensures.pushed s)
+    pushed-spare s g.M.Behaves.does c.args.first c.args.name c.args.stack.now c.push.new.self (pushed_of c.made.result c.queues_for.result) c.requires.held c.requires.may_stand c.requires.spare (c.made.ensures.made s) c.made.ensures.fresh c.queues_for.ensures.given c.push.result (c.push.ensures.pushed s)
 
 pub returns-clause-keeps : goal.returns-clause-keeps
 returns-clause-keeps g c =
     let s = g.B.Blocks.value c.args.store.now in
-    pushed-keeps s c.args.first c.args.name c.args.stack.now c.push.new.self (pushed_of c.made.result c.queues_for.result) c.requires.held c.requires.may_stand c.requires.spare (c.made.ensures.made s) c.made.ensures.fresh c.queues_for.ensures.given c.push.result (c.push.ensures.pushed s)
+    pushed-keeps s g.M.Behaves.does c.args.first c.args.name c.args.stack.now c.push.new.self (pushed_of c.made.result c.queues_for.result) c.requires.held c.requires.may_stand c.requires.spare (c.made.ensures.made s) c.made.ensures.fresh c.queues_for.ensures.given c.push.result (c.push.ensures.pushed s)
 
 pub queues_for-requires-clause-shelf : goal.queues_for-requires-clause-shelf
 queues_for-requires-clause-shelf g c = λ is.
-    c.requires.shelf (queues-alone (g.B.Blocks.value c.args.store.now) c.args.name c.args.stack.now.modules.items c.requires.held.each c.requires.may_stand is (c.args.first + 2))
+    c.requires.shelf (queues-alone (g.B.Blocks.value c.args.store.now) g.M.Behaves.does c.args.name c.args.stack.now.modules.items c.requires.held.each c.requires.may_stand is (c.args.first + 2))
 
 pub returns-clause-shelf : goal.returns-clause-shelf
 returns-clause-shelf g c =
     let s = g.B.Blocks.value c.args.store.now in
-    pushed-shelf s c.args.first c.args.name c.args.stack.now c.push.new.self (pushed_of c.made.result c.queues_for.result) c.requires.held c.requires.may_stand c.requires.spare (c.made.ensures.made s) c.made.ensures.fresh c.queues_for.ensures.given c.push.result (c.push.ensures.pushed s) c.args.shelf.now c.queues_for.new.shelf c.queues_for.ensures.shelf c.requires.shelf
+    pushed-shelf s g.M.Behaves.does c.args.first c.args.name c.args.stack.now c.push.new.self (pushed_of c.made.result c.queues_for.result) c.requires.held c.requires.may_stand c.requires.spare (c.made.ensures.made s) c.made.ensures.fresh c.queues_for.ensures.given c.push.result (c.push.ensures.pushed s) c.args.shelf.now c.queues_for.new.shelf c.queues_for.ensures.shelf c.requires.shelf

@@ -44,7 +44,7 @@ invariant_of-self g c =
     let as_new : AreFresh l.mblks l.dblks c.renew.new.self = record { state = fresh.state old l.mblks l.dblks kept.held.beside; held = fresh.held old l.mblks l.dblks kept.held.beside } in
     let start = fresh-start _ c.renew.new.self (start_in c.write.new.self) _ _ l.mblks l.dblks blank as_new c.none-self-inside.ensures c.none-self-inside-2.ensures c.write.ensures.start in
     record {
-      kept = fresh-kept _ _ _ _ l _ start blank as_new c.clear.ensures.empty (c.clear.ensures.most_entries ∙ kept.events) (c.clear.ensures.most_bytes ∙ kept.bytes) c.none-self-inside.ensures;
+      kept = fresh-kept g.M.Behaves.does _ _ _ _ l _ start blank as_new c.clear.ensures.empty (c.clear.ensures.most_entries ∙ kept.events) (c.clear.ensures.most_bytes ∙ kept.bytes) c.none-self-inside.ensures;
       written = is-written c.write.new.self _ _ _ l c.write.ensures.start c.write.ensures.text (omega (arith, c.self.invariant.written.room, c.write.ensures.memory));
     }
 

@@ -9,7 +9,7 @@ use Rattle.strm_pair.proofs.RestoredPairs.{limits-over, mblks-all, not-einval, n
 use Rattle.strm_pair.proofs.pair.Pair.restore.Goals as goal
 
 pub returns-then-mblks-blocks-clause-einval : goal.returns-then-mblks-blocks-clause-einval
-returns-then-mblks-blocks-clause-einval g c = not-einval c.args.text.now c.in-Some.found c.in-Some.ensures.found (Some Enosr) (λ e. cc)
+returns-then-mblks-blocks-clause-einval g c = not-einval c.args.text.now c.in-Some.found c.in-Some.ensures.found (Some Enosr) g.M.Behaves.does (λ e. cc)
 
 pub new-requires : goal.new-requires
 new-requires g c =
@@ -17,7 +17,7 @@ new-requires g c =
     omega (arith, c.audit.ensures.few_mblks, mblks-all (g.B.Blocks.value c.args.store) c.args.sizes c.free_blocks-mblks.result.0 c.free_blocks-mblks.result.1 c.requires.lists c.requires.hand free.message_blocks free.data_blocks)
 
 pub returns-in_default-new-clause-einval : goal.returns-in_default-new-clause-einval
-returns-in_default-new-clause-einval g c = not-einval c.args.text.now c.in-Some.found c.in-Some.ensures.found (Some NoMemory) (λ e. cc)
+returns-in_default-new-clause-einval g c = not-einval c.args.text.now c.in-Some.found c.in-Some.ensures.found (Some NoMemory) g.M.Behaves.does (λ e. cc)
 
 pub returns-in_default-new-clause-enosr : goal.returns-in_default-new-clause-enosr
 returns-in_default-new-clause-enosr g c =
@@ -33,7 +33,7 @@ made_of-requires-clause-limits g c =
     same ∙ sym (ap (λ (l : Config). sizes_over s l) same)
 
 pub returns-clause-einval : goal.returns-clause-einval
-returns-clause-einval g c = not-einval c.args.text.now c.in-Some.found c.in-Some.ensures.found None (λ e. cc)
+returns-clause-einval g c = not-einval c.args.text.now c.in-Some.found c.in-Some.ensures.found None g.M.Behaves.does (λ e. cc)
 
 pub returns-clause-enosr : goal.returns-clause-enosr
 returns-clause-enosr g c =

@@ -13,8 +13,8 @@ returns-then-module_count-lt-MODULES g c = λ s.
     let there = c.has.ensures s ∙ ap (λ (t : Stream ℕ). stands module_name kind t.modules) (c.end.ensures.stream s) in
     let many = c.module_count.ensures s ∙ ap (λ (t : Stream ℕ). length t.modules) (c.end.ensures.stream s) in
     let few : nat_lt (length ms) MODULES ≡ true = grind (arith, nat_tests) in
-    subst (λ (name : Option ModuleName). not c.has.result ≡ may_stand (named_by name) ms) (sym c.in-Some.is)
-    (ap not there ∙ sym (ap (λ b. b && not (stands module_name kind ms)) few) ∙ may-known kind ms)
+    subst (λ (name : Option ModuleName). not c.has.result ≡ may_stand (named_by g.M.Behaves.does name) ms) (sym c.in-Some.is)
+    (ap not there ∙ sym (ap (λ b. b && not (stands module_name kind ms)) few) ∙ may-known g.M.Behaves.does kind ms)
 
 pub returns-else-module_count-lt-MODULES : goal.returns-else-module_count-lt-MODULES
 returns-else-module_count-lt-MODULES g c = λ s.
@@ -23,5 +23,5 @@ returns-else-module_count-lt-MODULES g c = λ s.
     let many = c.module_count.ensures s ∙ ap (λ (t : Stream ℕ). length t.modules) (c.end.ensures.stream s) in
     let full : nat_lt (length ms) MODULES ≡ false = grind (arith, nat_tests) in
     let none : nat_lt c.module_count.result MODULES ≡ false = grind (arith, nat_tests) in
-    subst (λ (name : Option ModuleName). nat_lt c.module_count.result MODULES ≡ may_stand (named_by name) ms) (sym c.in-Some.is)
-    (none ∙ sym (ap (λ b. b && not (stands module_name kind ms)) full) ∙ may-known kind ms)
+    subst (λ (name : Option ModuleName). nat_lt c.module_count.result MODULES ≡ may_stand (named_by g.M.Behaves.does name) ms) (sym c.in-Some.is)
+    (none ∙ sym (ap (λ b. b && not (stands module_name kind ms)) full) ∙ may-known g.M.Behaves.does kind ms)

@@ -40,5 +40,5 @@ returns g c =
     let m = message_of (in_hand made i) in
     let shown : m ≡ mode_message c.in-Some.mode false = c.make-message.ensures.shows ∙ ap (λ (n : ℕ). record { kind = Setopts; band = 0; control = None; body = None; plain = n ∷ 0 ∷ [] }) c.mode_number.ensures in
     rw c.in-Some.is
-    (subst (λ (o : Carried ℕ (State ℕ)). Leads s t q c.args.told.now c.deliver_alone.new.told o.state o.gone) (mode-delivered c.args.side c.in-Some.mode (state_in s p))
-    (made-leads s made p c.requires.rests i c.make-message.ensures.after t q c.args.told.now c.deliver_alone.new.told (head_above c.args.side) (mode_message c.in-Some.mode false) shown c.deliver_alone.ensures.leads))
+    (subst (λ (o : Carried ℕ (State ℕ)). Leads s t q c.args.told.now c.deliver_alone.new.told o.state o.gone) (mode-delivered g.M.Behaves.does c.args.side c.in-Some.mode (state_in s p))
+    (made-leads s made p c.requires.rests i c.make-message.ensures.after g.M.Behaves.does t q c.args.told.now c.deliver_alone.new.told (head_above c.args.side) (mode_message c.in-Some.mode false) shown c.deliver_alone.ensures.leads))
