@@ -93,7 +93,7 @@ module _ (here : Spot) where
       let more : t.again ≡ true = sym (index-map none_there (λ p. (module_serves plain here 0 again None p).again) false i ps low) ∙ asks in
       let bytes : call.bytes ≡ t.bytes = tells.bytes ∙ ap (λ o. treated here again o ps) none ∙ index-map none_there (λ p. (module_serves plain here 0 again None p).bytes) 0 i ps low in
       let g = module-goes here again l begins more in
-      let at = ap (λ v. under_way (module_at here v)) (state ∙ ap (λ o. (led K here again o s).state) none) ∙ led-at (here K) again None s low in
+      let at = ap (λ v. under_way (module_at here v)) (state ∙ ap (λ o. (led K here again o s).state) none) ∙ led-at here K again None s low in
       let stage = ap (λ (x : UnderWay). stages_done x.stage) at in
       let left = ap (λ w. bytes_left w true (discipline_of (module_at here st))) g.up ∙ ap (λ (x : UnderWay). bytes_left Up true (record (discipline_of (module_at here st)) { stage = x.stage; in_work = x.in_work })) at in
       record { stop = none; treat = omega (arith, g.treat, bytes, left); all = λ full. omega (arith, g.all (λ first. (full first).0), bytes, left); done = omega (arith, g.done, bytes, stage); begun = subst (λ w. stages_done (discipline_of (module_at here st)).stage ≤ 3 * bytes_left w true (discipline_of (module_at here st))) (sym g.up) (begun-few (discipline_of (module_at here st)).stage (discipline_of (module_at here st))) }
@@ -151,7 +151,7 @@ module _ (here : Spot) where
           gone = all;
           within = omega (arith, (last any_name).0, same);
           some = went;
-          stands = subst (λ v. here.at - 1 < length (stream here.side v).modules) (sym state) (omega (arith, r.inside, led-length (here K) again stop s));
+          stands = subst (λ v. here.at - 1 < length (stream here.side v).modules) (sym state) (omega (arith, r.inside, led-length here K again stop s));
           moves = λ name. ap (λ n. moved_on K plain here name n s0) (sym same) ∙ (last name).1 ∙ ap (λ n. to name n (led K here again stop s).state) same ∙ ap (to name (bytes + call.bytes)) (sym state);
           tells = told-on;
           left = omega (arith, held, falls, few, done-few (discipline_of (module_at here s)).stage);
@@ -340,7 +340,7 @@ pub turned-by : (K : Behaviour) (name : QueueName) (here : Spot) (bytes : ℕ) (
 turned-by K name here bytes old s0 st f f' may treats =
     let within = subst (λ v. bytes ≤ bytes_left here.way false (discipline_of (module_at here v))) may.stays treats.within in
     let some = subst (λ v. bytes ≡ 0 → bytes_left here.way false (discipline_of (module_at here v)) ≡ 0) may.stays treats.some in
-    may.moves (Moved bytes) ∙ moves-within (here K) name bytes old (omega (arith, may.inside, may.within)) within some ∙ ap (λ v. moved_on K plain here name bytes v) (sym may.stays) ∙ treats.moves name
+    may.moves (Moved bytes) ∙ moves-within here K name bytes old (omega (arith, may.inside, may.within)) within some ∙ ap (λ v. moved_on K plain here name bytes v) (sym may.stays) ∙ treats.moves name
 
 -- bytes were taken where some were treated
 pub some-taken : (bytes : ℕ) → nat_lt 0 bytes ≡ not (bytes == 0)

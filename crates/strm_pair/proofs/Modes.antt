@@ -138,9 +138,9 @@ stays-there : (side : Side) (p : Standing ℕ) (s : State ℕ) → with_modules 
 stays-there side p s = refl
 
 -- A module is pushed: the head may be told its mode before it stands there.
-pub pushed-is : (K : Behaviour) (side : Side) (name : ModuleName) (p : Standing ℕ) (s : State ℕ) → named_by (Some name) ≡ Some p → AllByRecursion HasAsNamed (stream side s).modules
-    → may_stand (named_by (Some name)) (stream side s).modules ≡ true → let t = mode_put side (mode_on_push name) s in
-    pushed_named side (named_by (Some name)) s ≡ record { state = driver_comes (have_queues name) side (with_modules side (p ∷ (stream side t.state).modules) t.state); gone = t.gone }
+pub pushed-is : (K : Behaviour) (side : Side) (name : ModuleName) (p : Standing ℕ) (s : State ℕ) → named_by K (Some name) ≡ Some p → AllByRecursion HasAsNamed (stream side s).modules
+    → may_stand (named_by K (Some name)) (stream side s).modules ≡ true → let t = mode_put side (mode_on_push name) s in
+    pushed_named side (named_by K (Some name)) s ≡ record { state = driver_comes (have_queues name) side (with_modules side (p ∷ (stream side t.state).modules) t.state); gone = t.gone }
 pushed-is K side names.Pckt p s is has may =
     ap (led []) (stays-there side (module_named K names.Pckt) s) ∙ ap (λ q. led [] (driver_comes false side (with_modules side (q ∷ (stream side s).modules) s))) (ap (or_new K) is)
 pushed-is K side names.Ptem p s is has may =

@@ -32,7 +32,7 @@ impl<M: OwnModule> Streams<M> {
     ) -> Answer<u32>
         requires { MayDeliver (B.value store.old) self.old 6 }
         ensures answer { result ≡ Done }
-        ensures delivers { let s = B.value store.old in let is = flushed_on plain band side what (state_in s self.old) in
+        ensures delivers { let s = B.value store.old in let is = flushed_on M.does plain band side what (state_in s self.old) in
             Delivers s (B.value store.new) self.old self.new told.old told.new is.state is.gone 5 }
     {
         let message = make_flush(store, FlushAsked::of(what, band));

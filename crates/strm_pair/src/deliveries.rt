@@ -31,7 +31,7 @@ impl<M: OwnModule> Streams<M> {
         requires alone { IsAlone (B.value store.old) self.old (token message) }
         requires room { let s = B.value store.old in
             MayTake s (spare (state_in s self.old)) (most_of to (message_in s (token message))) }
-        ensures leads { let s = B.value store.old in let is = delivered plain to (message_in s (token message)) (state_in s self.old) in
+        ensures leads { let s = B.value store.old in let is = delivered M.does plain to (message_in s (token message)) (state_in s self.old) in
             Leads s (B.value store.new) self.new told.old told.new is.state is.gone }
         ensures takes { let s = B.value store.old in let t = B.value store.new in
             Takes s t (spare (state_in s self.old)) (spare (state_in t self.new)) (most_of to (message_in s (token message))) 0 }

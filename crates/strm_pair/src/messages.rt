@@ -59,7 +59,7 @@ impl<M: OwnModule> Streams<M> {
             (WRITE_BLOCKS + put_blocks (option_map (λ bytes. bytes.now) control) (option_map (λ bytes. bytes.now) body)) }
         ensures answer { result ≡ Done }
         ensures delivers { let c = option_map (λ bytes. bytes.now) control.entry in let b = option_map (λ bytes. bytes.now) body.entry in
-            let s = B.value store.old in let is = put_at plain side prio c b (state_in s self.old) in
+            let s = B.value store.old in let is = put_at M.does plain side prio c b (state_in s self.old) in
             Delivers s (B.value store.new) self.old self.new told.old told.new is.state is.gone 0 }
     {
         let Some(message) = make_message(store, prio, control, body) else {

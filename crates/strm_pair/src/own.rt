@@ -175,7 +175,7 @@ impl<M: OwnModule> Owned<M> {
     }
 
     /// Puts a message in hand here.
-    fn pass<B: Blocks>(
+    pub(crate) fn pass<B: Blocks>(
         &mut self,
         store: &mut B,
         here: Spot,

@@ -232,8 +232,8 @@ impl<M: OwnModule> Streams<M> {
     // Pushes a module on the stack of a side, as its name makes it: one that may stand there.
     fn put_on<B: Blocks>(&mut self, store: &B, side: Side, name: ModuleName)
         requires held { AreHeld (B.value store.now) self.old }
-        requires may_stand { may_stand (named_by (Some name)) (stream side (state_in (B.value store.now) self.old)).modules ≡ true }
-        ensures state { let s = state_in (B.value store.now) self.old in IfSome (named_by (Some name))
+        requires may_stand { may_stand (named_by M.does (Some name)) (stream side (state_in (B.value store.now) self.old)).modules ≡ true }
+        ensures state { let s = state_in (B.value store.now) self.old in IfSome (named_by M.does (Some name))
             (λ p. state_in (B.value store.now) self.new ≡ with_modules side (p ∷ (stream side s).modules) s) }
         ensures held { AreHeld (B.value store.now) self.new }
     {
@@ -270,10 +270,10 @@ impl<M: OwnModule> Streams<M> {
         told: &mut Fates,
     ) -> Answer<u32>
         requires rests { AreAtRest (B.value store.old) self.old }
-        requires may_stand { may_stand (named_by name) (stream side (state_in (B.value store.old) self.old)).modules ≡ true }
+        requires may_stand { may_stand (named_by M.does name) (stream side (state_in (B.value store.old) self.old)).modules ≡ true }
         requires room { HasRoom (B.value store.old) 1 }
         ensures answer { result ≡ Done }
-        ensures leads { let s = B.value store.old in let is = pushed_named side (named_by name) (state_in s self.old) in
+        ensures leads { let s = B.value store.old in let is = pushed_named side (named_by M.does name) (state_in s self.old) in
             Leads s (B.value store.new) self.new told.old told.new is.state is.gone }
     {
         let Some(name) = name else {

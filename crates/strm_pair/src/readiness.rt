@@ -47,7 +47,7 @@ impl<M: OwnModule> Streams<M> {
     /// What a side is ready for.
     pub fn ready<B: Blocks>(&self, store: &B, side: Side) -> Ready
         requires held { AreHeld (B.value store.now) self.now }
-        ensures { result ≡ readiness side (state_in (B.value store.now) self.now) }
+        ensures { result ≡ readiness M.does side (state_in (B.value store.now) self.now) }
     {
         let end = self.end(side);
         let at_end = self.is_at_end(store, side);

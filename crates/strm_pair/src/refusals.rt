@@ -147,7 +147,7 @@ impl<M: OwnModule> Streams<M> {
 
     // Whether a module of a name may be pushed on a side's stream: there are modules of the name, there is room, and none of its name stands there.
     fn may_push(&self, side: Side, name: Option<ModuleName>) -> bool
-        ensures { (s : StoreValue) → result ≡ may_stand (named_by name) (stream side (state_in s self.now)).modules }
+        ensures { (s : StoreValue) → result ≡ may_stand (named_by M.does name) (stream side (state_in s self.now)).modules }
     {
         let Some(kind) = name else {
             return false;
@@ -179,7 +179,7 @@ impl<M: OwnModule> Streams<M> {
         requires allowed { refused_at_once (state_in (B.value store.now) self.now) caller (request event.now) ≡ None }
         requires access { access ≡ (needs (request event.now)).access }
         ensures { let state = state_in (B.value store.now) self.now in
-            result ≡ judged (refused_by_state state caller (request event.now)) (stop_of state caller (request event.now)) }
+            result ≡ judged (refused_by_state M.does state caller (request event.now)) (stop_of state caller (request event.now)) }
     {
         match self.hold(caller, access) {
             Verdict::Allowed => match self.unfit(store, caller, event) {
@@ -195,7 +195,7 @@ impl<M: OwnModule> Streams<M> {
     fn unfit<B: Blocks>(&self, store: &B, caller: Caller, event: &Event<&[u8]>) -> Option<Refusal>
         requires held { AreHeld (B.value store.now) self.now }
         requires allowed { refused_at_once (state_in (B.value store.now) self.now) caller (request event.now) ≡ None }
-        ensures { result ≡ unfit (state_in (B.value store.now) self.now) caller (request event.now) }
+        ensures { result ≡ unfit M.does (state_in (B.value store.now) self.now) caller (request event.now) }
     {
         match event {
             Event::OpenMaster => self.opened_before(),

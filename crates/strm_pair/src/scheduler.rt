@@ -26,7 +26,7 @@ impl<B: Blocks + Drop, M: OwnModule> Pair<B, M> {
     /// is full. Where one stands there at most, with no `pckt` below it, no queue is enabled in the end, if the journal had an entry for each
     /// move of a message, and 32 blocks of each kind and room in the books are left. No memory is taken.
     pub fn runqueues(&mut self) -> Ran
-        ensures ran { RanTurns result.turns self.old self.new }
+        ensures ran { RanTurns M.does result.turns self.old self.new }
         ensures entries { length self.new.journal ≡ length self.old.journal + result.turns }
         ensures stopped { result.stopped ≡ next_refused self.new }
         ensures rest { IfNone result.stopped (self.new.state.enabled ≡ []) }

@@ -135,7 +135,7 @@ impl<M: OwnModule> Streams<M> {
         requires may { MayCall (B.value store.old) self.old here again }
         requires low { here.at ≤ MODULES }
         requires books { MayBook here again (state_in (B.value store.old) self.old) }
-        ensures { CallsAs (B.value store.old) (B.value store.new) self.old self.new here again result told.old told.new }
+        ensures { CallsAs M.does (B.value store.old) (B.value store.new) self.old self.new here again result told.old told.new }
     {
         let served = self.act(store, here, again, told);
         store.audit();
@@ -161,7 +161,7 @@ impl<M: OwnModule> Streams<M> {
         requires low { here.at ≤ MODULES }
         requires within { here.at ≤ length (stream here.side (state_in (B.value store.old) self.old)).modules }
         requires few { bytes_left here.way false (discipline_of (module_at here (state_in (B.value store.old) self.old))) ≤ 16777216 }
-        ensures treats { TreatsAs here result (state_in (B.value store.old) self.old)
+        ensures treats { TreatsAs M.does here result (state_in (B.value store.old) self.old)
             (state_in (B.value store.new) self.new) told.old told.new }
         ensures few { StopsFew here result (state_in (B.value store.old) self.old) (B.value store.new) }
         ensures beside { AreBeside (B.value store.new) self.new }

@@ -145,13 +145,13 @@ pub(crate) fn push_named<B: Blocks, M: OwnModule>(
     first: usize,
 )
     requires small { first ≤ 4 }
-    requires may_stand { may_stand (named_by (Some name)) (modules_in (B.value store.now) stack.old) ≡ true }
+    requires may_stand { may_stand (named_by M.does (Some name)) (modules_in (B.value store.now) stack.old) ≡ true }
     requires held { IsStackHeld (B.value store.now) stack.old }
     requires owned { (k : ℕ) → 0 < stack_owns stack.old k → (first + 2 ≤ k) × (k < first + 4) }
     requires spare { (k : ℕ) → first + 2 ≤ k → k < first + 4 → stack_owns stack.old k ≡ 0 → list_at (B.value store.now) k ≡ [] }
     requires shelf { stack_owns stack.old (first + 2) ≡ 0 → is_some shelf.old ≡ true }
     ensures shelf { stack_owns stack.new (first + 2) ≡ 0 → is_some shelf.new ≡ true }
-    ensures modules { IfSome (named_by (Some name)) (λ p. modules_in (B.value store.now) stack.new ≡ p ∷ modules_in (B.value store.now) stack.old) }
+    ensures modules { IfSome (named_by M.does (Some name)) (λ p. modules_in (B.value store.now) stack.new ≡ p ∷ modules_in (B.value store.now) stack.old) }
     ensures held { IsStackHeld (B.value store.now) stack.new }
     ensures owned { (k : ℕ) → 0 < stack_owns stack.new k → (first + 2 ≤ k) × (k < first + 4) }
     ensures spare { (k : ℕ) → first + 2 ≤ k → k < first + 4 → stack_owns stack.new k ≡ 0 → list_at (B.value store.now) k ≡ [] }

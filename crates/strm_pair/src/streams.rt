@@ -207,14 +207,14 @@ impl<M: OwnModule> Streams<M> {
     ) -> Answer<u32>
         requires rests { AreAtRest (B.value store.old) self.old }
         requires allowed { refused_at_once (state_in (B.value store.old) self.old) caller (request event.now) ≡ None }
-        requires fits { unfit (state_in (B.value store.old) self.old) caller (request event.now) ≡ None }
+        requires fits { unfit M.does (state_in (B.value store.old) self.old) caller (request event.now) ≡ None }
         requires room { HasRoom (B.value store.old) (blocks_asked (request event.now)) }
         ensures answer { reply_in result out.new.items
-            ≡ (performed plain caller (request event.now) (state_in (B.value store.old) self.old)).answer }
+            ≡ (performed M.does plain caller (request event.now) (state_in (B.value store.old) self.old)).answer }
         ensures filled { answer_len result ≡ length out.new.items }
         ensures content { length out.new.items ≤ content_max (request event.now) }
         ensures parts { longest_part result ≤ READ_MAX }
-        ensures leads { let s = B.value store.old in let is = performed plain caller (request event.now) (state_in s self.old) in
+        ensures leads { let s = B.value store.old in let is = performed M.does plain caller (request event.now) (state_in s self.old) in
             Leads s (B.value store.new) self.new told.old told.new is.state is.gone }
         ensures left { OnTrue (delivers (request event.now))
             (spare (state_in (B.value store.old) self.old) ≤ spare (state_in (B.value store.new) self.new) + 30) }
@@ -257,8 +257,8 @@ impl<M: OwnModule> Streams<M> {
     /// A turn of an enabled queue.
     pub fn turn<B: Blocks>(&mut self, store: &mut B, name: QueueName, told: &mut Fates) -> Turn
         requires { MayDeliver (B.value store.old) self.old (turn_blocks name.place) }
-        ensures turn { result ≡ (turned plain name result (state_in (B.value store.old) self.old)).turn }
-        ensures leads { let s = B.value store.old in let is = turned plain name result (state_in s self.old) in
+        ensures turn { result ≡ (turned M.does plain name result (state_in (B.value store.old) self.old)).turn }
+        ensures leads { let s = B.value store.old in let is = turned M.does plain name result (state_in s self.old) in
             Leads s (B.value store.new) self.new told.old told.new is.state is.gone }
         ensures few { FewBooked (state_in (B.value store.new) self.new) }
         ensures stops { MovesOn (state_in (B.value store.old) self.old) (free_in (B.value store.new)) name result }

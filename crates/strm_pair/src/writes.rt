@@ -47,7 +47,7 @@ impl<M: OwnModule> Streams<M> {
         requires rests { AreAtRest (B.value store.old) self.old }
         requires small { length chunk.now ≤ 256 }
         requires room { HasRoom (B.value store.old) 1 }
-        ensures delivers { let s = B.value store.old in let is = delivered plain (below_head side) (data_message chunk.now) (state_in s self.old) in
+        ensures delivers { let s = B.value store.old in let is = delivered M.does plain (below_head side) (data_message chunk.now) (state_in s self.old) in
             Delivers s (B.value store.new) self.old self.new told.old told.new is.state is.gone 0 }
         ensures spends { Spends (B.value store.old) (B.value store.new) 1 0 }
     {
@@ -73,9 +73,9 @@ impl<M: OwnModule> Streams<M> {
         requires rests { AreAtRest (B.value store.old) self.old }
         requires room { HasRoom (B.value store.old) chunks }
         ensures taken { result
-            ≡ (chunks_sent plain side (chunks_of chunks bytes.now) (state_in (B.value store.old) self.old)).taken }
+            ≡ (chunks_sent M.does plain side (chunks_of chunks bytes.now) (state_in (B.value store.old) self.old)).taken }
         ensures fits { result ≤ length bytes.now }
-        ensures delivers { let s = B.value store.old in let is = chunks_sent plain side (chunks_of chunks bytes.now) (state_in s self.old) in
+        ensures delivers { let s = B.value store.old in let is = chunks_sent M.does plain side (chunks_of chunks bytes.now) (state_in s self.old) in
             Delivers s (B.value store.new) self.old self.new told.old told.new is.state is.gone 0 }
     {
         if chunks == 0 {
@@ -101,8 +101,8 @@ impl<M: OwnModule> Streams<M> {
         told: &mut Fates,
     ) -> u32
         requires { MayDeliver (B.value store.old) self.old (chunk_count (length bytes.now)) }
-        ensures answer { Count result ≡ (wrote plain side bytes.now (state_in (B.value store.old) self.old)).answer }
-        ensures delivers { let s = B.value store.old in let is = wrote plain side bytes.now (state_in s self.old) in
+        ensures answer { Count result ≡ (wrote M.does plain side bytes.now (state_in (B.value store.old) self.old)).answer }
+        ensures delivers { let s = B.value store.old in let is = wrote M.does plain side bytes.now (state_in s self.old) in
             Delivers s (B.value store.new) self.old self.new told.old told.new is.state is.gone 0 }
     {
         store.audit();

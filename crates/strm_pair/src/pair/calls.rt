@@ -23,8 +23,8 @@ impl<B: Blocks + Drop, M: OwnModule> Pair<B, M> {
         signal: StopSignal,
         out: &mut Content,
     ) -> Answer<u32>
-        requires { call_verdict self.old caller (request event.now) ≡ Stopped signal }
-        ensures adds { AddsEntry self.old self.new (Called caller (request event.now) (reply_in result out.new.items)) }
+        requires { call_verdict M.does self.old caller (request event.now) ≡ Stopped signal }
+        ensures adds { AddsEntry M.does self.old self.new (Called caller (request event.now) (reply_in result out.new.items)) }
         ensures filled { answer_len result ≡ length out.new.items }
         ensures parts { longest_part result ≤ READ_MAX }
     {
@@ -38,8 +38,8 @@ impl<B: Blocks + Drop, M: OwnModule> Pair<B, M> {
     // Carries a call out, and enters it with its answer.
     #[inline(always)]
     fn perform(&mut self, caller: Caller, event: &Event<&[u8]>, out: &mut Content) -> Answer<u32>
-        requires { call_verdict self.old caller (request event.now) ≡ Allowed }
-        ensures adds { AddsEntry self.old self.new (Called caller (request event.now) (reply_in result out.new.items)) }
+        requires { call_verdict M.does self.old caller (request event.now) ≡ Allowed }
+        ensures adds { AddsEntry M.does self.old self.new (Called caller (request event.now) (reply_in result out.new.items)) }
         ensures filled { answer_len result ≡ length out.new.items }
         ensures parts { longest_part result ≤ READ_MAX }
     {
@@ -60,10 +60,10 @@ impl<B: Blocks + Drop, M: OwnModule> Pair<B, M> {
         event: &Event<&[u8]>,
         out: &mut Content,
     ) -> Result<Answer<u32>, Refusal>
-        ensures refused { MatchOption (call_refused self.old caller (request event.now)) (IsOk result)
+        ensures refused { MatchOption (call_refused M.does self.old caller (request event.now)) (IsOk result)
             (λ r. (result ≡ Err r) × ((self.new ≡ self.old) × (out.new ≡ out.old))) }
         ensures adds { IfOk result (λ answer.
-            AddsEntry self.old self.new (Called caller (request event.now) (reply_in answer out.new.items))) }
+            AddsEntry M.does self.old self.new (Called caller (request event.now) (reply_in answer out.new.items))) }
         ensures filled { IfOk result (λ answer. answer_len answer ≡ length out.new.items) }
         ensures parts { IfOk result (λ answer. longest_part answer ≤ READ_MAX) }
     {
@@ -82,10 +82,10 @@ impl<B: Blocks + Drop, M: OwnModule> Pair<B, M> {
         event: &Event<&[u8]>,
         out: &mut Content,
     ) -> Result<Answer<u32>, Refusal>
-        ensures refused { MatchOption (call_refused self.old caller (request event.now)) (IsOk result)
+        ensures refused { MatchOption (call_refused M.does self.old caller (request event.now)) (IsOk result)
             (λ r. (result ≡ Err r) × ((self.new ≡ self.old) × (out.new ≡ out.old))) }
         ensures adds { IfOk result (λ answer.
-            AddsEntry self.old self.new (Called caller (request event.now) (reply_in answer out.new.items))) }
+            AddsEntry M.does self.old self.new (Called caller (request event.now) (reply_in answer out.new.items))) }
         ensures filled { IfOk result (λ answer. answer_len answer ≡ length out.new.items) }
         ensures parts { IfOk result (λ answer. longest_part answer ≤ READ_MAX) }
     {

@@ -14,7 +14,7 @@ impl<B: Blocks + Drop, M: OwnModule> Pair<B, M> {
     /// What a side is ready for (poll(2)). The cost is a step for each module, and under RPROTDIS one for each message in front that a read
     /// passes over.
     pub fn ready(&self, side: Side) -> Ready
-        ensures { result ≡ readiness side self.now.state }
+        ensures { result ≡ readiness M.does side self.now.state }
     {
         self.streams.ready(&self.store, side)
     }

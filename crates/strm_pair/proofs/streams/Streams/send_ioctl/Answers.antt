@@ -76,6 +76,6 @@ returns g c =
     let left = made-left s made begun rests i sends.after t q to (ioctl_message c.asking.result c.args.body.now) 30 sends.shows (ioctl-few c.args.side c.asking.result c.args.body.now) e.takes in
     record {
       leads = subst (λ (v : State ℕ). let is = delivered g.M.Behaves.does plain to m v in Leads s t q c.args.told.now c.deliver_alone.new.told is.state is.gone) (c.begin_ioctl.ensures.state s)
-          (made-leads s made begun rests i (sends.after g.M.Behaves.does) t q c.args.told.now c.deliver_alone.new.told to m shown e.leads);
+          (made-leads s made begun rests i sends.after g.M.Behaves.does t q c.args.told.now c.deliver_alone.new.told to m shown e.leads);
       left = omega (arith, left, ap spare (c.begin_ioctl.ensures.state s), begun-spare c.args.side c.args.command (state_in s p));
     }
