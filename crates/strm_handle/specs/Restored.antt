@@ -1,6 +1,7 @@
 -- What making a pair of an image does at a handle.
 use Rattle.std.specs.Prelude.{ℕ, ◌≡◌, ◌≢◌, Bool, true, false, List, Option, None, Some, IsSomeAnd}
 use Rattle.strm_laws.specs.Refusals.{enough}
+use Rattle.strm_laws.proofs.NoOwn as no_own
 use Rattle.strm_image.specs.Image.{Imaged}
 use Rattle.strm_pair.specs.Restored.{IsImageOf, IsNoImage, image_blocks, restored}
 use Rattle.strm_handle.specs.declared.choices.Choices.{Choices}
@@ -10,7 +11,7 @@ use Rattle.strm_handle.specs.Kept.{KeptPair, are_fit, kept_by, sizes_of}
 pub record RestoresOf (c : Choices) (text : List ℕ) (new : Option KeptPair) (n : ℕ) : Type 0 where
   pub done : n ≡ 0 → IsSomeAnd new (λ k. (x : Imaged) × (IsImageOf text x × (k ≡ kept_by c (restored (sizes_of c) x))))
   pub closed : n ≢ 0 → new ≡ None
-  pub einval : n ≡ 1 → IsNoImage text
+  pub einval : n ≡ 1 → IsNoImage no_own.none text
   pub enosr : n ≡ 5 → (x : Imaged) × (IsImageOf text x × (enough (image_blocks x) (record { mblks = c.blocks; dblks = c.blocks }) ≡ false))
   pub others : n ≢ 0 → n ≢ 1 → n ≢ 5 → n ≡ 9
 

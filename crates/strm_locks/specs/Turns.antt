@@ -4,6 +4,7 @@ use Rattle.strm_types.specs.declared.entries.Entry.TheVariants.{Turned}
 use Rattle.strm_types.specs.declared.refusals.NoMemory.{NoMemory}
 use Rattle.strm_types.specs.declared.refusals.Refusal.{Refusal}
 use Rattle.strm_laws.specs.Pair.{PairState, AddsEntry, Stops, queue_refused, restarted}
+use Rattle.strm_laws.proofs.NoOwn as no_own
 use Rattle.strm_image.specs.declared.trace.Trace.{Trace}
 use Rattle.strm_image.specs.Traces.{IsTrace}
 use Rattle.strm_locks.specs.declared.held.Made.{Made}
@@ -15,7 +16,7 @@ use Rattle.strm_locks.specs.Sounds.{IsSoundAt}
 pub record Makes (p : PairState) (m : Made) (q : PairState) : Type 0 where
   pub first : slice_get p.state.enabled 0 ≡ Some m.queue
   pub refused : MatchOption (queue_refused p m.queue) (IsOk m.answer) (λ r. (m.answer ≡ Err r) × (q ≡ p))
-  pub adds : IfOk m.answer (λ t. AddsEntry p q (Turned m.queue t))
+  pub adds : IfOk m.answer (λ t. AddsEntry no_own.none p q (Turned m.queue t))
   pub stops : IfOk m.answer (λ t. Stops p q m.queue t)
 
 -- a visit to the pair p, which becomes q: one turn, or none where no queue is enabled

@@ -1,4 +1,5 @@
 -- Events that aren't short are answered as if all events had the blocks that they ask for.
+use Rattle.strm_laws.proofs.NoOwn as no_own
 use Rattle.strm_script.proofs.Prelude.{◌≡◌, ℕ, zero, suc, ◌-◌, ◌≤◌, Bool, true, false, List, [], ◌∷◌, ◌++◌, take, Option, None, Some, Result, Ok, Err}
 use Rattle.strm_script.proofs.Prelude.{refl, sym, ap, ◌∙◌, slice_get, arith, append_assoc, inl, inr, nat_le, ◌&&◌, ◌||◌, unwrap_or, ◌⊎◌, ◌==◌}
 use Rattle.strm_script.proofs.Prelude.{cases_Bool, false≢true}
@@ -26,10 +27,10 @@ same_refusal_behind : (a b c d e : Option Refusal) → is_want (or_else a (or_el
 same_refusal_behind (Some r) b c d e h = refl
 same_refusal_behind None b c d e h = same_refusal b c d e h
 
-refused-same : (b : Bool) (p : PlainPair) (caller : Caller) (asked : Request) → is_want (refused p.state p.journal p.limits b caller asked) ≡ false
-    → refused p.state p.journal p.limits b caller asked ≡ refused p.state p.journal p.limits true caller asked
+refused-same : (b : Bool) (p : PlainPair) (caller : Caller) (asked : Request) → is_want (refused no_own.none p.state p.journal p.limits b caller asked) ≡ false
+    → refused no_own.none p.state p.journal p.limits b caller asked ≡ refused no_own.none p.state p.journal p.limits true caller asked
 refused-same true p caller asked h = refl
-refused-same false p caller asked h = same_refusal (refused_at_once p.state caller asked) _ (Some Enosr) (refused_by_state p.state caller asked) h
+refused-same false p caller asked h = same_refusal (refused_at_once p.state caller asked) _ (Some Enosr) (refused_by_state no_own.none p.state caller asked) h
 
 call-same : (supply : Supply) (p : PlainPair) (caller : Caller) (asked : Request) → (call_of supply p caller asked).is_short ≡ false
     → call_of supply p caller asked ≡ call_of Enough p caller asked

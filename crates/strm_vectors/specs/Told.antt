@@ -1,6 +1,7 @@
 -- What the lines tell of images, and what holds where the program says so.
 use Rattle.std.specs.Prelude.{◌≡◌, ◌≤◌, ◌-◌, ℕ, List}
 use Rattle.strm_laws.specs.Pair.{PairState}
+use Rattle.strm_laws.proofs.NoOwn as no_own
 use Rattle.strm_image.specs.declared.versions.Version.TheVariants.{Second}
 use Rattle.strm_image.specs.Format.{IsTextOf}
 use Rattle.strm_image.specs.Image.{Imaged, image}
@@ -19,7 +20,7 @@ pub record IsPairOf (x : Imaged) (mblks dblks : ℕ) (p : PairState) : Type 0 wh
 
 -- what holds where a line of the kind does
 abbrev pub Holds : Vector → Type 0
-Holds (vectors.Bad text) = IsNoImage text.items
+Holds (vectors.Bad text) = IsNoImage no_own.none text.items
 Holds (vectors.Image text other blocks) = (x : Imaged) × (IsImageOf text.items x × (IsImageOf other.items x × (image_blocks x ≡ blocks)))
 Holds (vectors.Script script text blocks) = (x : Imaged) × (IsImageOf text.items x × (image_blocks x ≡ blocks))
 Holds (vectors.Untold text) = (x : Imaged) × IsImageOf text.items x

@@ -2,6 +2,7 @@
 
 ghost use Rattle.std.specs.Prelude.{◌≡◌, ◌<◌, ◌≤◌, IfOk, OnOk};
 ghost use Rattle.strm_types.specs.declared.refusals.Refusal.TheVariants.{Einval};
+ghost use Rattle.strm_laws.proofs.NoOwn as no_own;
 ghost use Rattle.strm_image.specs.declared.versions.Version.TheVariants.{Second};
 ghost use Rattle.strm_image.specs.Format.{IsTextOf};
 ghost use Rattle.strm_image.specs.Image.{Imaged, image};
@@ -119,7 +120,7 @@ fn agrees<B: Reserve>(
 
 // No pair is made of a text.
 fn is_bad<B: Reserve>(alloc: Global, text: &[u8]) -> Result<(), Difference>
-    ensures { OnOk result (IsNoImage text.now) }
+    ensures { OnOk result (IsNoImage no_own.none text.now) }
 {
     let Err(why) = restored::<B>(alloc, text, 1, 1) else {
         return Err(Difference::Restored);

@@ -2,6 +2,7 @@
 
 ghost use Rattle.std.specs.Prelude.{◌≡◌, ◌<◌, ◌≤◌, IfOk, Err};
 ghost use Rattle.strm_types.specs.declared.refusals.Refusal.TheVariants.{Einval};
+ghost use Rattle.strm_laws.proofs.NoOwn as no_own;
 ghost use Rattle.strm_image.specs.declared.versions.Version.TheVariants.{Second};
 ghost use Rattle.strm_image.specs.Format.{IsTextOf};
 ghost use Rattle.strm_image.specs.Image.{Imaged, image};
@@ -26,7 +27,7 @@ pub fn restored<B: Reserve>(
     requires few_mblks { mblks ≤ 65536 }
     requires some_dblks { 0 < dblks }
     requires few_dblks { dblks ≤ 65536 }
-    ensures einval { result ≡ Err Einval → IsNoImage text.now }
+    ensures einval { result ≡ Err Einval → IsNoImage no_own.none text.now }
     ensures ok { IfOk result (λ p. (x : Imaged) × (IsImageOf text.now x × IsPairOf x mblks dblks p)) }
 {
     let Ok(store) = B::reserve(alloc, mblks, dblks) else {

@@ -1,5 +1,6 @@
 use Rattle.std.proofs.Common.{sym, subst}
 use Rattle.std.specs.Prelude.{OnOk}
+use Rattle.strm_laws.proofs.NoOwn as no_own
 use Rattle.strm_image.specs.declared.versions.Version.TheVariants.{Second}
 use Rattle.strm_image.specs.Format.{IsTextOf}
 use Rattle.strm_image.specs.Image.{image}
@@ -10,7 +11,7 @@ use Rattle.strm_vectors.proofs.checking.check.Goals as goal
 
 pub returns-in-Bad : goal.returns-in-Bad
 returns-in-Bad g c =
-    subst (λ v. OnOk c.is_bad.result (Holds v)) (sym c.in-Bad.is) (subst (λ t. OnOk c.is_bad.result (IsNoImage t)) c.as_slice.ensures.value c.is_bad.ensures)
+    subst (λ v. OnOk c.is_bad.result (Holds v)) (sym c.in-Bad.is) (subst (λ t. OnOk c.is_bad.result (IsNoImage no_own.none t)) c.as_slice.ensures.value c.is_bad.ensures)
 
 pub returns-in_ok-other-in-Image : goal.returns-in_ok-other-in-Image
 returns-in_ok-other-in-Image g c =
