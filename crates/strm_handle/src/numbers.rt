@@ -48,6 +48,7 @@ pub(crate) fn module_of(number: u32) -> Option<ModuleName>
         1 => Some(ModuleName::Ldterm),
         2 => Some(ModuleName::Ptem),
         3 => Some(ModuleName::Pckt),
+        16..=271 => Some(ModuleName::Own((number - 16) as u8)),
         _ => None,
     }
 }
@@ -61,6 +62,7 @@ pub(crate) fn module_number(name: Option<ModuleName>) -> u32
         Some(ModuleName::Ldterm) => 1,
         Some(ModuleName::Ptem) => 2,
         Some(ModuleName::Pckt) => 3,
+        Some(ModuleName::Own(own)) => 16 + u32::from(own),
     }
 }
 
@@ -113,6 +115,10 @@ pub fn queue_number(name: QueueName) -> u32
         (Side::Master, Place::Module(ModuleName::Pckt), Way::Down) => 21,
         (Side::Slave, Place::Module(ModuleName::Pckt), Way::Up) => 22,
         (Side::Slave, Place::Module(ModuleName::Pckt), Way::Down) => 23,
+        (Side::Master, Place::Module(ModuleName::Own(own)), Way::Up) => 24 + 4 * u32::from(own),
+        (Side::Master, Place::Module(ModuleName::Own(own)), Way::Down) => 25 + 4 * u32::from(own),
+        (Side::Slave, Place::Module(ModuleName::Own(own)), Way::Up) => 26 + 4 * u32::from(own),
+        (Side::Slave, Place::Module(ModuleName::Own(own)), Way::Down) => 27 + 4 * u32::from(own),
     }
 }
 

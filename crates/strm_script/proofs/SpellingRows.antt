@@ -17,7 +17,7 @@ use Rattle.strm_script.specs.declared.ioctls.IoctlName.TheVariants as ioctls
 use Rattle.strm_script.specs.declared.verbs.Verb.{Verb}
 use Rattle.strm_script.specs.declared.verbs.Verb.TheVariants as words
 use Rattle.strm_script.specs.Named.{named}
-use Rattle.strm_script.specs.Script.{Open, Call, Flush, Put, Get, Turn, Run, Show, Ledger, Cut, Group, module_name, IsName, IsUnknown, IsNumber, Itself, Named, Coded, digit_of, hex_of, escaped}
+use Rattle.strm_script.specs.Script.{Open, Call, Flush, Put, Get, Turn, Run, Show, Ledger, Cut, Group, IsModuleWord, IsName, IsUnknown, IsNumber, Itself, Named, Coded, digit_of, hex_of, escaped}
 use Rattle.strm_script.specs.Table.{verbs, ioctl_names, IsSpelled}
 
 twelve : IsNumber (codes "12") 12
@@ -70,10 +70,12 @@ ledgers-are-spelled = (
 pub push-is-spelled : IsSpelled (Call Slave (Push (Some modules.Ptem))) (codes "push s ptem")
 push-is-spelled = (words.Push, codes "push", codes " s ptem", refl, (Slave, codes "s", codes " ptem", refl, (Some modules.Ptem, codes "ptem", refl, refl, refl), refl), refl)
 
-not-foo : (known : ModuleName) → codes "foo" ≢ module_name known
+not-foo : (known : ModuleName) → IsModuleWord known (codes "foo") → ⊥
+unfolding digit_of
 not-foo modules.Ldterm h = cc
 not-foo modules.Ptem h = cc
 not-foo modules.Pckt h = cc
+not-foo (modules.Own n) is = let none : None ≡ Some is.0.value.0 = is.0.value.1 in cc
 
 foo : IsUnknown (codes "foo")
 foo = record { is_name = record { some = lit< tt; most = lit≤ tt; letters = (refl, (refl, (refl, tt))) }; other = not-foo }

@@ -1,7 +1,7 @@
 -- The words of a line: what is read is spelled so, what is spelled so is read, and a word ends where it is spelled to end.
 use Rattle.strm_script.proofs.Prelude.{◌≡◌, ◌≢◌, ℕ, suc, ◌+◌, ◌*◌, ◌<◌, ◌≤◌, Bool, true, false, not, eqb, leb, ◌&&◌, ◌||◌, List, [], ◌∷◌, ◌++◌}
 use Rattle.strm_script.proofs.Prelude.{length, Option, None, Some, refl, arith, sym, ap, ◌∙◌, inl, inr, append_assoc, subst, cond-true, cond-false}
-use Rattle.strm_script.proofs.Prelude.{ne_eqb, eq-eqb, leb-true, le-leb, lt-ltb, ltb-true, cases_Bool, and_parts, leb_tells, take-append-drop}
+use Rattle.strm_script.proofs.Prelude.{ne_eqb, eq-eqb, leb-true, le-leb, lt-ltb, ltb-true, cases_Bool, and_parts, leb_tells, take-append-drop, option_map}
 use Rattle.strm_script.specs.Prelude.{Dir, MasterToSlave, SlaveToMaster, Side, Master, Slave, Way, Place, Up, Down, Head, Driver, ModuleName}
 use Rattle.strm_script.specs.Prelude.{FlushQueues, Mode, ByteStream, MessageKeep, MessageDiscard, Refuse, Data, Discard}
 use Rattle.strm_types.specs.declared.names.Place.TheVariants as places
@@ -10,14 +10,16 @@ use Rattle.std.proofs.lemmas.List.{length-append}
 use Rattle.std.proofs.Math.Seq.{take-append_seam, drop-append_seam}
 use Rattle.std.specs.Prelude.{⊤, is_some}
 use Rattle.std.specs.List.{AllByRecursion, list_all, position_or_len}
+use Rattle.strm_types.specs.Names.{has_queues_at}
 use Rattle.strm_types.specs.declared.names.ModuleName.TheVariants as modules
 use Rattle.strm_types.specs.declared.events.FlushQueues.TheVariants as queues
 use Rattle.strm_types.specs.declared.modes.Mode.TheVariants as modes
+use Rattle.strm_types.proofs.EnabledNames.{queues-ldterm}
 use Rattle.strm_script.specs.declared.commands.NamedPrio.{NamedPrio}
 use Rattle.strm_script.specs.declared.commands.NamedPrio.TheVariants as prios
 use Rattle.strm_script.specs.declared.commands.NamedWanted.{NamedWanted}
 use Rattle.strm_script.specs.declared.commands.NamedWanted.TheVariants as wanteds
-use Rattle.strm_script.specs.Script.{side_name, queue_name, direction_name, flags_name, flush_name, mode_name, module_name, digit_of, hex_of, is_letter, HasValue, IsNumber, IsNumberTo, IsPiece, Itself, Named, Coded, IsText, IsQuoted, IsPrio, IsWanted, IsPart, IsName, IsModule}
+use Rattle.strm_script.specs.Script.{side_name, queue_name, direction_name, flags_name, flush_name, mode_name, byte_max, digit_of, hex_of, is_letter, HasValue, IsNumber, IsNumberTo, IsPiece, Itself, Named, Coded, IsText, IsQuoted, IsPrio, IsWanted, IsPart, IsName, IsModule, IsModuleWord}
 use Rattle.strm_script.specs.Named.{and_then, after, at_end, whole, is_whole, named}
 use Rattle.strm_script.specs.Table.{Kind, AVerb, AnIoctl, ASide, ANumber, AShort, AByte, AText, APart, APrio, AWanted, AQueue, ADirection, AModule, SomeQueues, AMode, Flags, Said, verbs, ioctl_names, IsWord}
 use Rattle.strm_script.specs.ScriptReading.{Front, is_space, within, number_in, number_to, text_in, quoted_len, token_len, token_in, split, prio_in, wanted_in, part_in, is_name, name_in, sides, module_names, flushed, mode_names, directions, flag_names, word_in}
@@ -76,38 +78,67 @@ is_name-only : (line : List ℕ) → IsName line → is_name line ≡ true
 unfolding is_name
 is_name-only line h = rw (lt-ltb 0 (length line) h.some, le-leb (length line) 8 h.most, letters-only line h.letters) refl
 
-module-found : (word : List ℕ) (known : ModuleName) → named module_names word ≡ Some known → word ≡ module_name known
-module-found word known h = named-found module_name module_names word known (refl, (refl, (refl, tt))) h
-
-module-only : (known : ModuleName) → (is_name (module_name known) ≡ true) × (named module_names (module_name known) ≡ Some known)
-unfolding is_name
-module-only modules.Ldterm = (refl, refl)
-module-only modules.Ptem = (refl, refl)
-module-only modules.Pckt = (refl, refl)
-
-module-none : (line : List ℕ) → named module_names line ≡ None → (known : ModuleName) → line ≢ module_name known
-module-none line h known e = let no : None ≡ Some known = sym h ∙ ap (named module_names) e ∙ (module-only known).1 in absurd cc
-
-unknown-at : (line : List ℕ) (o : Option ModuleName) → named module_names line ≡ o → ((known : ModuleName) → line ≢ module_name known) → o ≡ None
-unknown-at line None h other = refl
-unknown-at line (Some known) h other = absurd (other known (module-found line known h))
-
-named_so : (word : List ℕ) (o : Option ModuleName) → named module_names word ≡ o → IsName word → IsModule o word
-named_so word None e is = record { is_name = is; other = module-none word e }
-named_so word (Some known) e is = module-found word known e
-
-name-found : (word : List ℕ) (o : Option ModuleName) → name_in word ≡ Some o → IsModule o word
-name-found word o h = elim (cases_Bool (is_name word)) [
-  | inl e ↦
-      let some : Some (named module_names word) ≡ Some o = sym (cond-true _ _ _ e) ∙ h in
-      let same : named module_names word ≡ o = cc in
-      named_so word o same (is_name-found word e)
-  | inr e ↦ let no : None ≡ Some o = sym (cond-false _ _ _ e) ∙ h in absurd cc
+digit-low : (b d : ℕ) → digit_of b ≡ Some d → (48 ≤ b) × (b ≤ 57)
+unfolding digit_of
+digit-low b d h = elim (cases_Bool (leb 48 b && leb b 57)) [
+  | inl e ↦ let parts = and_parts _ _ e in (leb-true _ _ parts.0, leb-true _ _ parts.1)
+  | inr e ↦ let none : None ≡ Some d = sym (cond-false _ _ _ e) ∙ h in absurd cc
 ]
 
-name-only : (o : Option ModuleName) (word : List ℕ) → IsModule o word → name_in word ≡ Some o
-name-only (Some known) word h = rw (h, (module-only known).0, (module-only known).1) refl
-name-only None word is = rw (is_name-only word is.is_name, unknown-at word (named module_names word) refl is.other) refl
+-- a name, which is of letters, is no number
+no-number : (word : List ℕ) (n limit : ℕ) → IsName word → IsNumberTo limit n word → ⊥
+no-number [] n limit is number = absurd (let some = is.some in omega (arith, some))
+no-number (b ∷ word) n limit is number =
+    let low = leb-true 97 b (and_parts _ _ is.letters.0).0 in
+    let digit = digit-low b number.0.value.0 number.0.value.1 in
+    absurd (omega (arith, low, digit.1))
+
+-- the names in the table
+table_name : ModuleName → List ℕ
+table_name modules.Ldterm = codes "ldterm"
+table_name modules.Ptem = codes "ptem"
+table_name modules.Pckt = codes "pckt"
+table_name (modules.Own n) = []
+
+in-table : (word : List ℕ) (known : ModuleName) → named module_names word ≡ Some known → word ≡ table_name known
+unfolding table_name
+in-table word known h = named-found table_name module_names word known (refl, (refl, (refl, tt))) h
+
+module-found : (word : List ℕ) (known : ModuleName) → IsName word → named module_names word ≡ Some known → IsModuleWord known word
+unfolding table_name
+module-found word modules.Ldterm is h = in-table word modules.Ldterm h
+module-found word modules.Ptem is h = in-table word modules.Ptem h
+module-found word modules.Pckt is h = in-table word modules.Pckt h
+module-found word (modules.Own n) is h = absurd (let none = ap length (in-table word (modules.Own n) h) in let some = is.some in omega (arith, none, some))
+
+ldterm-only : (is_name (codes "ldterm") ≡ true) × (named module_names (codes "ldterm") ≡ Some modules.Ldterm)
+unfolding is_name
+ldterm-only = (refl, refl)
+
+ptem-only : (is_name (codes "ptem") ≡ true) × (named module_names (codes "ptem") ≡ Some modules.Ptem)
+unfolding is_name
+ptem-only = (refl, refl)
+
+pckt-only : (is_name (codes "pckt") ≡ true) × (named module_names (codes "pckt") ≡ Some modules.Pckt)
+unfolding is_name
+pckt-only = (refl, refl)
+
+none-named : (line name : List ℕ) (known : ModuleName) → named module_names line ≡ None → named module_names name ≡ Some known → line ≢ name
+none-named line name known h there e = let no : None ≡ Some known = sym h ∙ ap (named module_names) e ∙ there in absurd cc
+
+module-none : (line : List ℕ) → IsName line → named module_names line ≡ None → (known : ModuleName) → IsModuleWord known line → ⊥
+module-none line is h modules.Ldterm e = none-named line (codes "ldterm") modules.Ldterm h ldterm-only.1 e
+module-none line is h modules.Ptem e = none-named line (codes "ptem") modules.Ptem h ptem-only.1 e
+module-none line is h modules.Pckt e = none-named line (codes "pckt") modules.Pckt h pckt-only.1 e
+module-none line is h (modules.Own n) e = no-number line n byte_max is e
+
+unknown-at : (line : List ℕ) (o : Option ModuleName) → IsName line → named module_names line ≡ o → ((known : ModuleName) → IsModuleWord known line → ⊥) → o ≡ None
+unknown-at line None is h other = refl
+unknown-at line (Some known) is h other = absurd (other known (module-found line known is h))
+
+named_so : (word : List ℕ) (o : Option ModuleName) → named module_names word ≡ o → IsName word → IsModule o word
+named_so word None e is = record { is_name = is; other = module-none word is e }
+named_so word (Some known) e is = module-found word known is e
 
 -- numbers up to a limit
 within-found : (limit m n : ℕ) → within limit m ≡ Some n → (m ≡ n) × (n ≤ limit)
@@ -130,6 +161,32 @@ number_to-only : (limit : ℕ) (digits : List ℕ) (n : ℕ) → IsNumberTo limi
 unfolding number_to
 number_to-only limit digits n (is, small) = ap (and_then (within limit)) (number-only digits n is) ∙ cond-true _ _ _ (le-leb n limit small)
 
+name-found : (word : List ℕ) (o : Option ModuleName) → name_in word ≡ Some o → IsModule o word
+name-found word o h = elim (cases_Bool (is_name word)) [
+  | inl e ↦
+      let some : Some (named module_names word) ≡ Some o = sym (cond-true _ _ _ e) ∙ h in
+      let same : named module_names word ≡ o = cc in
+      named_so word o same (is_name-found word e)
+  | inr e ↦
+      let n = option_map-found (λ k. Some (modules.Own k)) (number_to byte_max word) o (sym (cond-false _ _ _ e) ∙ h) in
+      subst (λ p. IsModule p word) n.second (number_to-found byte_max word n.value n.first)
+]
+
+-- a number is no name
+number-only-word : (word : List ℕ) (n : ℕ) → IsNumberTo byte_max n word → is_name word ≡ false
+number-only-word word n is = elim (cases_Bool (is_name word)) [
+  | inl e ↦ absurd (no-number word n byte_max (is_name-found word e) is)
+  | inr e ↦ e
+]
+
+name-only : (o : Option ModuleName) (word : List ℕ) → IsModule o word → name_in word ≡ Some o
+name-only (Some modules.Ldterm) word h = rw (h, ldterm-only.0, ldterm-only.1) refl
+name-only (Some modules.Ptem) word h = rw (h, ptem-only.0, ptem-only.1) refl
+name-only (Some modules.Pckt) word h = rw (h, pckt-only.0, pckt-only.1) refl
+name-only (Some (modules.Own n)) word is =
+    cond-false _ _ _ (number-only-word word n is) ∙ ap (option_map (λ k. Some (modules.Own k))) (number_to-only byte_max word n is)
+name-only None word is = rw (is_name-only word is.is_name, unknown-at word (named module_names word) is.is_name refl is.other) refl
+
 -- texts and parts
 quoted-found : (word text : List ℕ) → text_in word ≡ Some text → IsQuoted text word
 quoted-found word text h = text-found word text h
@@ -150,13 +207,6 @@ part-only : (part : Option (List ℕ)) (word : List ℕ) → IsPart part word �
 unfolding part_in
 part-only None word h = rw (h) refl
 part-only (Some text) word (spelled, spells, e) = rw (e, text-only spelled text spells) refl
-
-digit-low : (b d : ℕ) → digit_of b ≡ Some d → (48 ≤ b) × (b ≤ 57)
-unfolding digit_of
-digit-low b d h = elim (cases_Bool (leb 48 b && leb b 57)) [
-  | inl e ↦ let parts = and_parts _ _ e in (leb-true _ _ parts.0, leb-true _ _ parts.1)
-  | inr e ↦ let none : None ≡ Some d = sym (cond-false _ _ _ e) ∙ h in absurd cc
-]
 
 -- a number begins with no letter
 no_letter : {A : Type 0} (w : ℕ) (word digits : List ℕ) (n : ℕ) (x : A) → 57 < w → IsNumber digits n → whole (w ∷ word) x digits ≡ None
@@ -268,42 +318,31 @@ letters-plain (b ∷ word) h =
     let low = leb-true 97 b (and_parts _ _ h.0).0 in
     rw (ne_eqb b 32 (λ e. omega (arith, e)), ne_eqb b 34 (λ e. omega (arith, e)), letters-plain word h.1) refl
 
-known-plain : (known : ModuleName) → list_all is_plain (module_name known) ≡ true
-known-plain modules.Ldterm = refl
-known-plain modules.Ptem = refl
-known-plain modules.Pckt = refl
-
 name-plain : (o : Option ModuleName) (word : List ℕ) → IsModule o word → list_all is_plain word ≡ true
-name-plain (Some known) word h = ap (list_all is_plain) h ∙ known-plain known
+name-plain (Some modules.Ldterm) word h = ap (list_all is_plain) h
+name-plain (Some modules.Ptem) word h = ap (list_all is_plain) h
+name-plain (Some modules.Pckt) word h = ap (list_all is_plain) h
+name-plain (Some (modules.Own n)) word is = digits-plain 0 n word is.0.value
 name-plain None word is = letters-plain word is.is_name.letters
 
-module-plain : (side : Side) (name : ModuleName) (way : Way) → list_all is_plain (queue_name (record { side = side; place = places.Module name; way = way })) ≡ true
-module-plain Master modules.Ldterm Up = refl
-module-plain Master modules.Ldterm Down = refl
-module-plain Master modules.Ptem Up = refl
-module-plain Master modules.Ptem Down = refl
-module-plain Master modules.Pckt Up = refl
-module-plain Master modules.Pckt Down = refl
-module-plain Slave modules.Ldterm Up = refl
-module-plain Slave modules.Ldterm Down = refl
-module-plain Slave modules.Ptem Up = refl
-module-plain Slave modules.Ptem Down = refl
-module-plain Slave modules.Pckt Up = refl
-module-plain Slave modules.Pckt Down = refl
+-- of modules ldterm alone has queues
+module-plain : (side : Side) (way : Way) → list_all is_plain (queue_name (record { side = side; place = places.Module modules.Ldterm; way = way })) ≡ true
+module-plain Master Up = refl
+module-plain Master Down = refl
+module-plain Slave Up = refl
+module-plain Slave Down = refl
 
-place-plain : (side : Side) (place : Place) (way : Way) → list_all is_plain (queue_name (record { side = side; place = place; way = way })) ≡ true
-place-plain Master Head Up = refl
-place-plain Master Head Down = refl
-place-plain Master (places.Module name) Up = module-plain Master name Up
-place-plain Master (places.Module name) Down = module-plain Master name Down
-place-plain Master Driver Up = refl
-place-plain Master Driver Down = refl
-place-plain Slave Head Up = refl
-place-plain Slave Head Down = refl
-place-plain Slave (places.Module name) Up = module-plain Slave name Up
-place-plain Slave (places.Module name) Down = module-plain Slave name Down
-place-plain Slave Driver Up = refl
-place-plain Slave Driver Down = refl
+place-plain : (side : Side) (place : Place) (way : Way) → has_queues_at place ≡ true → list_all is_plain (queue_name (record { side = side; place = place; way = way })) ≡ true
+place-plain Master Head Up has = refl
+place-plain Master Head Down has = refl
+place-plain Master Driver Up has = refl
+place-plain Master Driver Down has = refl
+place-plain Slave Head Up has = refl
+place-plain Slave Head Down has = refl
+place-plain Slave Driver Up has = refl
+place-plain Slave Driver Down has = refl
+place-plain side (places.Module name) way has =
+    subst (λ n. list_all is_plain (queue_name (record { side = side; place = places.Module n; way = way })) ≡ true) (sym (queues-ldterm name has)) (module-plain side way)
 
 prio-plain : (prio : NamedPrio) (word : List ℕ) → IsPrio prio word → list_all is_plain word ≡ true
 prio-plain prios.High word h = ap (list_all is_plain) h
@@ -403,7 +442,7 @@ word-only AText text word is = record { read = quoted-only text word is; ends = 
 word-only APart part word is = record { read = part-only part word is; ends = λ more e. part-ends part word more is e }
 word-only APrio prio word is = plain APrio prio word (prio-only prio word is) (prio-plain prio word is)
 word-only AWanted wanted word is = plain AWanted wanted word (wanted-only wanted word is) (wanted-plain wanted word is)
-word-only AQueue name word is = plainly AQueue name (queue_name name) word is.0 (queue-only name is.1, place-plain name.side name.place name.way)
+word-only AQueue name word is = plainly AQueue name (queue_name name) word is.0 (queue-only name is.1, place-plain name.side name.place name.way is.1)
 word-only ADirection direction word e = plainly ADirection direction (direction_name direction) word e (direction-only direction)
 word-only AModule known word is = plain AModule known word (name-only known word is) (name-plain known word is)
 word-only SomeQueues what word e = plainly SomeQueues what (flush_name what) word e (queues-only what)

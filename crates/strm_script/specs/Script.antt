@@ -1,5 +1,6 @@
 -- The commands of a script, and how each is spelled: one command a line, words parted by one space.
 use Rattle.std.specs.Prelude.{◌≡◌, ◌≢◌, ℕ, ◌≤◌, ◌<◌, ◌+◌, ◌-◌, ◌*◌, nat_le, ◌==◌, ◌&&◌, Bool, true, false, if◌then◌else◌, List, [], ◌∷◌, ◌++◌, length, codes, Option, None, Some}
+use Rattle.std.specs.Fmt.{decimal}
 use Rattle.std.specs.Int.{w16, w32, to_be_bytes}
 use Rattle.std.specs.List.{AllByRecursion}
 use Rattle.strm_script.specs.Prelude.{Caller, Dir, MasterToSlave, SlaveToMaster, Side, Master, Slave, Way, Up, Down, Place, Head, Driver}
@@ -41,11 +42,12 @@ abbrev pub side_name : Side → List ℕ
 side_name Master = codes "m"
 side_name Slave = codes "s"
 
--- the name of a module
+-- the name of a module, and the number of one of a user's own
 abbrev pub module_name : ModuleName → List ℕ
 module_name modules.Ldterm = codes "ldterm"
 module_name modules.Ptem = codes "ptem"
 module_name modules.Pckt = codes "pckt"
+module_name (modules.Own n) = decimal n
 
 abbrev pub place_name : Place → List ℕ
 place_name Head = codes "head"
@@ -111,6 +113,17 @@ pub record IsNumber (digits : List ℕ) (n : ℕ) : Type 0 where
   pub value : HasValue 0 digits n
   pub fits : n ≤ number_max
 
+-- a number up to a limit
+abbrev pub IsNumberTo : ℕ → ℕ → List ℕ → Type 0
+IsNumberTo limit n digits = IsNumber digits n × (n ≤ limit)
+
+-- the largest number of one byte, and of two
+abbrev pub byte_max : ℕ
+byte_max = 255
+
+abbrev pub short_max : ℕ
+short_max = 65535
+
 -- a letter from a to z
 abbrev pub is_letter : ℕ → Bool
 is_letter b = nat_le 97 b && nat_le b 122
@@ -121,10 +134,17 @@ pub record IsName (name : List ℕ) : Type 0 where
   pub most : length name ≤ 8
   pub letters : AllByRecursion (λ b. is_letter b ≡ true) name
 
+-- the word for a module: its name, or the number of one of a user's own
+abbrev pub IsModuleWord : ModuleName → List ℕ → Type 0
+IsModuleWord modules.Ldterm word = word ≡ codes "ldterm"
+IsModuleWord modules.Ptem word = word ≡ codes "ptem"
+IsModuleWord modules.Pckt word = word ≡ codes "pckt"
+IsModuleWord (modules.Own n) word = IsNumberTo byte_max n word
+
 -- a name that no module has
 pub record IsUnknown (name : List ℕ) : Type 0 where
   pub is_name : IsName name
-  pub other : (known : ModuleName) → name ≢ module_name known
+  pub other : (known : ModuleName) → IsModuleWord known name → ⊥
 
 -- the value of a hexadecimal digit, in either case
 unfoldable pub hex_of : ℕ → Option ℕ
@@ -174,21 +194,10 @@ abbrev pub IsPart : Option (List ℕ) → List ℕ → Type 0
 IsPart None word = word ≡ codes "-"
 IsPart (Some text) word = IsQuoted text word
 
--- the name of a module, or a name that no module has
+-- the word for a module, or a name that no module has
 abbrev pub IsModule : Option ModuleName → List ℕ → Type 0
-IsModule (Some known) word = word ≡ module_name known
+IsModule (Some known) word = IsModuleWord known word
 IsModule None word = IsUnknown word
-
--- a number up to a limit
-abbrev pub IsNumberTo : ℕ → ℕ → List ℕ → Type 0
-IsNumberTo limit n digits = IsNumber digits n × (n ≤ limit)
-
--- the largest number of one byte, and of two
-abbrev pub byte_max : ℕ
-byte_max = 255
-
-abbrev pub short_max : ℕ
-short_max = 65535
 
 -- what TIOCSWINSZ sends (termio(7I): struct winsize): each number in two bytes, the most significant first
 abbrev pub window_bytes : WindowSize → List ℕ

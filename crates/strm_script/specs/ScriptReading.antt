@@ -205,9 +205,9 @@ wanted_in word =
     (either_of (whole (codes "hi") wanteds.High word)
     (option_map (λ n. wanteds.Band n) (number_in word)))
 
--- a name of a module, or one that no module has
+-- a name of a module, or one that no module has; or the number of one of a user's own
 abbrev pub name_in : List ℕ → Option (Option ModuleName)
-name_in word = if is_name word then Some (named module_names word) else None
+name_in word = if is_name word then Some (named module_names word) else option_map (λ n. Some (modules.Own n)) (number_to byte_max word)
 
 -- what a word of a kind says
 abbrev pub word_in : (kind : Kind) → List ℕ → Option (Said kind)

@@ -180,14 +180,20 @@ fn name(refusal: Refusal) -> &'static str
     }
 }
 
-/// The name of a module.
-fn module_name(known: ModuleName) -> &'static str
-    ensures { result.now ≡ module_name known }
-{
-    match known {
-        ModuleName::Ldterm => "ldterm",
-        ModuleName::Ptem => "ptem",
-        ModuleName::Pckt => "pckt",
+/// The name of a module, as it is printed: of one of a user's own it is its number.
+#[derive(Clone, Copy)]
+struct ShownModule(ModuleName);
+
+impl fmt::Display for ShownModule {
+    ghost output = { λ shown. Some (module_name shown.0) };
+
+    fn fmt<W: fmt::Write>(&self, f: &mut fmt::Formatter<W>) -> fmt::Result {
+        match self.0 {
+            ModuleName::Ldterm => write!(f, "ldterm"),
+            ModuleName::Ptem => write!(f, "ptem"),
+            ModuleName::Pckt => write!(f, "pckt"),
+            ModuleName::Own(number) => write!(f, "{number}"),
+        }
     }
 }
 
@@ -201,14 +207,22 @@ fn side_name(side: Side) -> &'static str
     }
 }
 
-/// The name of what a queue belongs to.
-fn place_name(place: Place) -> &'static str
-    ensures { result.now ≡ place_name place }
-{
-    match place {
-        Place::Head => "head",
-        Place::Module(name) => module_name(name),
-        Place::Driver => "drv",
+/// The name of what a queue belongs to, as it is printed.
+#[derive(Clone, Copy)]
+struct ShownPlace(Place);
+
+impl fmt::Display for ShownPlace {
+    ghost output = { λ shown. Some (place_name shown.0) };
+
+    fn fmt<W: fmt::Write>(&self, f: &mut fmt::Formatter<W>) -> fmt::Result {
+        match self.0 {
+            Place::Head => write!(f, "head"),
+            Place::Module(name) => {
+                let module = ShownModule(name);
+                write!(f, "{module}")
+            }
+            Place::Driver => write!(f, "drv"),
+        }
     }
 }
 
@@ -226,7 +240,7 @@ impl fmt::Display for QueueSize {
     ghost output = { λ size. Some (size_text size) };
 
     fn fmt<W: fmt::Write>(&self, f: &mut fmt::Formatter<W>) -> fmt::Result {
-        let place = place_name(self.name.place);
+        let place = ShownPlace(self.name.place);
         let way = way_name(self.name.way);
         let messages = self.messages;
         let bytes = self.bytes;
@@ -394,7 +408,7 @@ impl fmt::Display for ShownAnswer<'_> {
         match self.answer {
             Answer::Done => write!(f, "ok"),
             Answer::Name(module) => {
-                let module = module_name(*module);
+                let module = ShownModule(*module);
                 write!(f, "name {module}")
             }
             Answer::Count(n) => write!(f, "ok {n}"),

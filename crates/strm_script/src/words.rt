@@ -13,7 +13,7 @@ ghost use Rattle.strm_script.specs.Views.{front_of, words_of};
 
 use crate::commands::{NamedPrio, NamedWanted};
 use crate::named::{after, named};
-use crate::numbers::{number, word_len};
+use crate::numbers::{byte, number, word_len};
 use crate::texts::quoted_len;
 use strm_types::{
     ControlMode, Dir, FlushQueues, Mode, ModuleName, Place, QueueName, ReadMode, Side, Way,
@@ -208,14 +208,14 @@ fn is_name(word: &[u8]) -> bool
     are_letters(word)
 }
 
-/// The name of a module, or one that no module has.
+/// The name of a module, or one that no module has; or the number of one of a user's own.
 pub fn name(word: &[u8]) -> Option<Option<ModuleName>>
     ensures { result ≡ name_in word.now }
 {
-    if !is_name(word) {
-        return None;
+    if is_name(word) {
+        return Some(module(word));
     }
-    Some(module(word))
+    Some(Some(ModuleName::Own(byte(word)?)))
 }
 
 /// Which queues a word of a flush is for.
