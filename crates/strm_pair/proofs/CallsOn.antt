@@ -8,7 +8,7 @@ use Rattle.strm_pair.specs.Prelude.{is_data, passes, stages, stages_done, treats
 use Rattle.strm_pair.specs.Prelude.{unchanged, first_size, left_with, Serving, opost, AreIdle, disciplined, Discipline, module_turn_ended}
 use Rattle.strm_pair.specs.Prelude.{module_turned, moved_on, IsKeptAhead, in_range, spare, IsAtRest, KindRests, Module, OfLdterm, Standing}
 use Rattle.strm_pair.specs.Prelude.{module_serves, State, stream, Begins, Ends, bytes_left, stood, asks_on, discipline_of, led, module_at, treated}
-use Rattle.strm_pair.specs.Prelude.{none_there, TurnOutcome, StoreValue, least_free, stop_at, Behaviour}
+use Rattle.strm_pair.specs.Prelude.{none_there, TurnOutcome, StoreValue, least_free, stop_at, stands_of, Behaviour}
 use Rattle.std.proofs.Common.{◌*◌}
 use Rattle.std.specs.Bool.{OnTrue}
 use Rattle.std.specs.List.{AllByRecursion}
@@ -21,7 +21,7 @@ use Rattle.strm_pair.specs.AnyModules.{HasAsNamed, turn_cost}
 use Rattle.strm_pair.specs.declared.service_calls.Call.{Call}
 use Rattle.strm_pair.specs.ModuleServed.{LeavesFew, MayBook, StopsFew, TellsAs, TreatsAs, call_cost, call_units, stop_in}
 use Rattle.strm_pair.specs.ModuleTurned.{MayMove}
-use Rattle.strm_pair.proofs.StopsFew.{led-same}
+use Rattle.strm_pair.proofs.StopsFew.{led-same, led-stands}
 
 -- What calls that go on have led to so far: so many bytes were treated, by so many calls, each of which came a stage further.
 pub record GoOn (K : Behaviour) (here : Spot) (bytes : ℕ) (s0 st : State ℕ) (f f' : Fates) : Type 0 where
@@ -34,6 +34,7 @@ pub record GoOn (K : Behaviour) (here : Spot) (bytes : ℕ) (s0 st : State ℕ) 
   pub left : spare s0 ≤ spare st + (3 * bytes + 33 * count)
   pub all : bytes_left here.way false (discipline_of (module_at here s0)) ≤ bytes + bytes_left here.way true (discipline_of (module_at here st))
   pub opened : (side : Side) → (stream side st).opened ≡ (stream side s0).opened
+  pub stands : stands_of st ≡ stands_of s0
 
 -- They go on, or the turn is at its end.
 abbrev pub Along : (K : Behaviour) → Bool → Spot → ℕ → State ℕ → State ℕ → Fates → Fates → Type 0
@@ -59,11 +60,13 @@ begun-few (Answered echo) l = omega arith
 abbrev pub Full : Standing ℕ → Type 0
 Full p = FullFirst (discipline_of p).read_queue.messages × FullFirst (discipline_of p).write_queue.messages × HasAsNamed p
 
--- What holds of the calls so far: what they treated and what is left are the message, as it was, and no side was opened or closed.
+-- What holds of the calls so far: what they treated and what is left are the message, as it was, no side was opened or closed, and the same modules stand
+-- there.
 pub record Since (here : Spot) (again : Bool) (bytes : ℕ) (s0 s : State ℕ) : Type 0 where
   pub all : bytes_left here.way false (discipline_of (module_at here s0)) ≤ bytes + bytes_left here.way again (discipline_of (module_at here s))
   pub full : again ≡ false → Full (module_at here s)
   pub opened : (side : Side) → (stream side s).opened ≡ (stream side s0).opened
+  pub stands : stands_of s ≡ stands_of s0
 
 module _ (here : Spot) where
   none-in : (call : Call) → call.stopped ≡ false → stop_in call ≡ None
@@ -135,6 +138,7 @@ module _ (here : Spot) where
           left = omega (arith, held, falls);
           all = omega (arith, since.all, on.all since.full);
           opened = λ side. ap (λ v. (stream side v).opened) state ∙ (led-same K here again (stop_in call) s).opened side ∙ since.opened side;
+          stands = ap stands_of state ∙ led-stands K here again (stop_in call) s ∙ since.stands;
         }
 
     -- or it is at its end
@@ -244,7 +248,7 @@ module _ (here : Spot) where
       where
         at : (stopped : Bool) → call.stopped ≡ stopped → OnTrue stopped (call.bytes < bytes_left here.way again (discipline_of (module_at here s)) → IsKeptAhead here.way here.side s → least_free t < STOP_BLOCKS)
             → StopsFew here (bytes + call.bytes) s0 t
-        at true is few = λ less ahead. few (omega (arith, since.all, less)) (kept-ahead here.way here.side s0 s since.opened ahead)
+        at true is few = λ less ahead. few (omega (arith, since.all, less)) (kept-ahead here.way here.side s0 s since.opened since.stands ahead)
         at false is few = λ less ahead. absurd (let all = went-all is in omega (arith, all, since.all, less))
 
   -- a first call that is the last one

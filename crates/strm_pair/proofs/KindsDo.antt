@@ -1,15 +1,17 @@
 -- What a module of one kind did, one of any kind did: of each kind it stands for the same, fits the same, and keeps the same.
 use Rattle.strm_pair.proofs.Prelude.{ℕ, ◌≡◌, Bool, true, false, List, refl, sym, ap, subst, ◌∙◌, Option, None}
-use Rattle.strm_pair.specs.Prelude.{Fates, Acted, Parcel, Serving, stood, Module, OfLdterm, OfPtem, OfPckt, Standing, StoreValue, Acts, QueuePair}
+use Rattle.strm_pair.specs.Prelude.{Fates, Acted, Parcel, Serving, stood, Module, OfLdterm, OfOwn, OfPtem, OfPckt, Standing, StoreValue, Acts, QueuePair}
 use Rattle.strm_pair.specs.Prelude.{Served, Puts, Handles, Hands, HasRoom, parcels_in, sent_of, times_sent, later_cost, Fits, keeps_of, owns}
 use Rattle.strm_pair.specs.Prelude.{queues_in, standing, standing_in, ptem_in, pckt_in}
 use Rattle.std.proofs.lemmas.Bool.{OnTrue_at, OnTrue_from}
+use Rattle.strm_types.specs.Owns.{Own}
 use Rattle.strm_types.specs.Service.{done_by, served_by}
 use Rattle.strm_types.specs.Standings as plain
 use Rattle.strm_types.specs.Standings.{of_part}
 use Rattle.strm_laws.specs.Stacked.{of_kind}
 use Rattle.strm_frame.specs.Does.{Serves}
 use Rattle.strm_ldterm.specs.Stands as stands
+use Rattle.strm_ldterm.specs.declared.ldterm.Ldterm.{Ldterm}
 use Rattle.strm_pty.specs.declared.pckt.Pckt.{Pckt}
 use Rattle.strm_pty.specs.declared.ptem.Ptem.{Ptem}
 use Rattle.strm_pair.specs.declared.modules.AnyModule.{AnyModule}
@@ -21,7 +23,7 @@ later-same : (again : Bool) (m n : ℕ) (sent : List (Parcel ℕ)) → (again �
 later-same true m n sent same = ap (λ k. later_cost true k sent) (same refl)
 later-same false m n sent same = refl
 
-module _ {M : Type 0} {X P : Type 0} (wrap : X → AnyModule M) (made : P → Module ℕ) (in_itself : StoreValue → X → P) (IsHeld : StoreValue → X → Option QueuePair → Type 0) (keeps : X → ℕ → ℕ) where
+module _ {M X P : Type 0} (wrap : X → AnyModule M) (made : P → Module ℕ) (in_itself : StoreValue → X → P) (IsHeld : StoreValue → X → Option QueuePair → Type 0) (keeps : X → ℕ → ℕ) where
   pub record IsKind : Type 0 where
     pub shows : (s : StoreValue) (x : X) → kind_in s (wrap x) ≡ made (in_itself s x)
     pub fits : (s : StoreValue) (x : X) (queues : Option QueuePair) → IsHeld s x queues → IsKindHeld s (wrap x) queues
@@ -94,11 +96,14 @@ module _ {M : Type 0} {X P : Type 0} (wrap : X → AnyModule M) (made : P → Mo
             }
 
 -- the kinds
-pub ldterm-kind : IsKind kinds.Ldterm OfLdterm stands.own_in stands.HasInHand stands.keeps_itself
+pub ldterm-kind : {M : Type 0} → let wrap : Ldterm → AnyModule M = kinds.Ldterm in IsKind wrap OfLdterm stands.own_in stands.HasInHand stands.keeps_itself
 ldterm-kind = record { shows = λ s x. refl; fits = λ s x queues held. held; back = λ s x queues held. held; keeps_same = λ x. refl }
 
-pub ptem-kind : IsKind kinds.Ptem OfPtem (λ (s : StoreValue) (x : Ptem). ptem_in x) (λ s x queues. queues ≡ None) (λ x i. 0)
+pub ptem-kind : {M : Type 0} → let wrap : Ptem → AnyModule M = kinds.Ptem in IsKind wrap OfPtem (λ (s : StoreValue) (x : Ptem). ptem_in x) (λ s x queues. queues ≡ None) (λ x i. 0)
 ptem-kind = record { shows = λ s x. refl; fits = λ s x queues held. held; back = λ s x queues held. held; keeps_same = λ x. refl }
 
-pub pckt-kind : IsKind kinds.Pckt OfPckt (λ (s : StoreValue) (x : Pckt). pckt_in) (λ s x queues. queues ≡ None) (λ x i. 0)
+pub pckt-kind : {M : Type 0} → let wrap : Pckt → AnyModule M = kinds.Pckt in IsKind wrap OfPckt (λ (s : StoreValue) (x : Pckt). pckt_in) (λ s x queues. queues ≡ None) (λ x i. 0)
 pckt-kind = record { shows = λ s x. refl; fits = λ s x queues held. held; back = λ s x queues held. held; keeps_same = λ x. refl }
+
+pub own-kind : {M : Type 0} → let wrap : Own → AnyModule M = kinds.Own in IsKind wrap OfOwn (λ (s : StoreValue) (x : Own). x) (λ s x queues. queues ≡ None) (λ x i. 0)
+own-kind = record { shows = λ s x. refl; fits = λ s x queues held. held; back = λ s x queues held. held; keeps_same = λ x. refl }

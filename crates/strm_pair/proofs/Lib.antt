@@ -61,3 +61,4 @@ mod TextsTold
 mod PairsMade
 mod RestoredPairs
 mod ImagesBack
+pub mod Holding

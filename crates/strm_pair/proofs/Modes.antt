@@ -3,7 +3,7 @@ use Rattle.strm_pair.proofs.Prelude.{ℕ, suc, ◌≡◌, Bool, true, false, con
 use Rattle.strm_pair.proofs.Prelude.{◌&&◌, ◌||◌, not, nat_le, nat_lt, min, get-set-same}
 use Rattle.strm_pair.specs.Prelude.{MODULES, ReadMode, ModuleName, Side, Master, Slave, Up, EndClosed, plain, Carried, Fate, Goes, Took, before_among}
 use Rattle.strm_pair.specs.Prelude.{before_by, places_of, cells_of, first_place, stands, direction_at, driver_of, enable_if, have_queues, is_open}
-use Rattle.strm_pair.specs.Prelude.{other}
+use Rattle.strm_pair.specs.Prelude.{kind_name, other}
 use Rattle.strm_pair.specs.Prelude.{same_module, mode_message, head_above, may_stand, mode_put, module_named, named_by, with_modules, delivered}
 use Rattle.strm_pair.specs.Prelude.{is_none_left, Standing, module_name, State, Stream, stream, with_stream, Behaviour}
 use Rattle.std.specs.Prelude.{length}
@@ -11,7 +11,7 @@ use Rattle.std.specs.List.{AllByRecursion}
 use Rattle.strm_types.specs.declared.names.ModuleName.TheVariants as names
 use Rattle.strm_types.specs.Heads.{with_options}
 use Rattle.strm_types.specs.Options.{options_in, mode_number}
-use Rattle.strm_laws.specs.Pushes.{enable_waiting, let_come, mode_on_push, pushed_named}
+use Rattle.strm_laws.specs.Pushes.{enable_waiting, is_known, kind_named, let_come, mode_on_push, pushed_named}
 use Rattle.strm_laws.proofs.FlushDelivered.{carries, went_on}
 use Rattle.strm_pair.specs.AnyModules.{HasAsNamed}
 
@@ -85,11 +85,32 @@ mode-among side (Some mode) ms s =
     ∙ told-among (is_open (stream side s).opened) side mode ms s
     ∙ ap (among side ms) (sym (puts-mode side mode s))
 
--- the module that a name makes may stand where there is room and none of its name stands
-pub may-known : (K : Behaviour) (name : ModuleName) (ms : List (Standing ℕ)) → (nat_lt (length ms) MODULES && not (stands module_name name ms)) ≡ may_stand (named_by K (Some name)) ms
-may-known K names.Ldterm ms = refl
-may-known K names.Ptem ms = refl
-may-known K names.Pckt ms = refl
+-- a module has the name by which it was made
+pub kind-is : (K : Behaviour) (name : ModuleName) → kind_name (kind_named {C = ℕ} K name) ≡ name
+kind-is K names.Ldterm = refl
+kind-is K names.Ptem = refl
+kind-is K names.Pckt = refl
+kind-is K (names.Own n) = refl
+
+-- A known name makes a module, and one that makes a module that may stand is known.
+pub named-known : (K : Behaviour) (name : ModuleName) → is_known K name ≡ true → named_by {C = ℕ} K (Some name) ≡ Some (module_named K name)
+named-known K name known = ap (λ (b : Bool). cond b (Some (module_named K name)) None) known
+
+pub stands-known : (K : Behaviour) (name : ModuleName) (ms : List (Standing ℕ)) → may_stand (named_by K (Some name)) ms ≡ true → is_known K name ≡ true
+stands-known K name ms may = by (is_known K name) may
+  where
+    by : (known : Bool) → may_stand (cond known (Some (module_named K name)) None) ms ≡ true → known ≡ true
+    by true may = refl
+    by false may = absurd (cc)
+
+-- the module that a name makes may stand where the name is known, there is room and none of its name stands
+pub may-known : (K : Behaviour) (name : ModuleName) (ms : List (Standing ℕ))
+    → (is_known K name && (nat_lt (length ms) MODULES && not (stands module_name name ms))) ≡ may_stand (named_by K (Some name)) ms
+may-known K name ms = by (is_known K name)
+  where
+    by : (known : Bool) → (known && (nat_lt (length ms) MODULES && not (stands module_name name ms))) ≡ may_stand (cond known (Some (module_named K name)) None) ms
+    by true = ap (λ name. nat_lt (length ms) MODULES && not (stands module_name name ms)) (sym (kind-is K name))
+    by false = refl
 
 -- what may come to the read queue of a module that is pushed, where it has one, is what the other side's driver has
 abbrev pub driver_comes : Bool → Side → State ℕ → State ℕ
@@ -145,6 +166,13 @@ pushed-is K side names.Pckt p s is has may =
     ap (led []) (stays-there side (module_named K names.Pckt) s) ∙ ap (λ q. led [] (driver_comes false side (with_modules side (q ∷ (stream side s).modules) s))) (ap (or_new K) is)
 pushed-is K side names.Ptem p s is has may =
     ap (led []) (stays-there side (module_named K names.Ptem) s) ∙ ap (λ q. led [] (driver_comes false side (with_modules side (q ∷ (stream side s).modules) s))) (ap (or_new K) is)
+pushed-is K side (names.Own n) p s is has may =
+    let ms = (stream side s).modules in
+    let o = module_named K (names.Own n) in
+    let known = named-known K (names.Own n) (stands-known K (names.Own n) ms may) in
+    ap (λ q. pushed_named side q s) known
+    ∙ ap (led []) (stays-there side o s)
+    ∙ ap (λ q. led [] (driver_comes false side (with_modules side (q ∷ ms) s))) (ap (or_new K) (sym known ∙ is))
 pushed-is K side names.Ldterm p s is has may =
     let ms = (stream side s).modules in
     let t = mode_put side (mode_on_push names.Ldterm) s in

@@ -137,7 +137,7 @@ serves-moves K name here old begun t bytes may within some few owner place = at 
 pub moves-taken : (names : List QueueName) (s : State ℕ) (free : Free) (name : QueueName) (turn : Turn) → MovesOn (record s { enabled = names }) free name turn → MovesOn s free name turn
 moves-taken names s free name (Moved bytes) moves = elim moves [
   | inl whole ↦ inl whole
-  | inr within ↦ inr (record { place = within.place; some = within.some; few = λ kept. within.few (kept-ahead name.way name.side s (record s { enabled = names }) (λ side. refl) kept) })
+  | inr within ↦ inr (record { place = within.place; some = within.some; few = λ kept. within.few (kept-ahead name.way name.side s (record s { enabled = names }) (λ side. refl) refl kept) })
 ]
 moves-taken names s free name Blocked moves = tt
 moves-taken names s free name Idle moves = tt

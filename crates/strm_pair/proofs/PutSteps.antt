@@ -192,7 +192,7 @@ pub head-open : (to : Spot) (m : Message ℕ) (s : State ℕ) → to.at ≡ 0 �
 head-open to m s top is = at to.way is.below is.kept
   where
     at : (way : Way) → (way ≡ Down → 0 < to.at) → IsKeptAhead way to.side s → is_open (stream to.side s).opened ≡ true
-    at Up below kept = kept
+    at Up below kept = kept.opened
     at Down below kept = let some = below refl in absurd (omega (arith, some, top))
 
 -- a put at a driver, by what the driver does at its place

@@ -12,7 +12,8 @@ use Rattle.strm_pair.specs.declared.journal.Journal.{Journal}
 use Rattle.strm_pair.specs.BaseTexts.{image_room}
 use Rattle.strm_pair.specs.Pairs.{state_in, AreHeld, free_in, journal_of}
 use Rattle.strm_pair.specs.PairViews.{pair_of, sizes_over, IsKept}
-use Rattle.strm_pair.specs.Restored.{IsImageOf, IsNoImage, fates_in, image_blocks, restored}
+use Rattle.strm_pair.specs.Known.{all_known}
+use Rattle.strm_pair.specs.Restored.{IsImageFor, IsImageOf, IsNoImage, fates_in, image_blocks, restored}
 use Rattle.strm_pair.specs.Runs.{Spent}
 use Rattle.strm_pair.specs.Starts.{Start}
 use Rattle.strm_pair.proofs.Fresh.{all-free}
@@ -28,9 +29,9 @@ module _ (bytes : List ℕ) (i : ImageText) (found : IsTextOf image bytes (image
   one-state x is = (same_images is.0 i.version x (imaged_now i.state) is.1.0 found.0 (sym is.1.1 ∙ found.1)).1
 
   -- and where its blocks are free, no other one asks for more
-  pub has-blocks : (free : Free) (n : ℕ) → n ≡ image_blocks (imaged_now i.state) → n ≤ free.mblks → n ≤ free.dblks → (x : Imaged) × (IsImageOf bytes x × (enough (image_blocks x) free ≡ false)) → ⊥
-  has-blocks free n is m d few =
-      let here : enough (image_blocks few.0) free ≡ true = rw (one-state few.0 few.1.0, ← is) (and_from _ _ (le-leb n free.mblks m) (le-leb n free.dblks d)) in
+  pub has-blocks : (free : Free) (n : ℕ) → n ≡ image_blocks (imaged_now i.state) → n ≤ free.mblks → n ≤ free.dblks → (K : Behaviour) → (x : Imaged) × (IsImageFor K bytes x × (enough (image_blocks x) free ≡ false)) → ⊥
+  has-blocks free n is m d K few =
+      let here : enough (image_blocks few.0) free ≡ true = rw (one-state few.0 few.1.0.image, ← is) (and_from _ _ (le-leb n free.mblks m) (le-leb n free.dblks d)) in
       let never = few.1.1 in cc
 
 -- ---- what it is
@@ -88,11 +89,27 @@ free-of s limits same lists hand = all-free s lists hand ∙ sym (ap (λ (l : Co
 -- ---- which refusal
 
 module _ (bytes : List ℕ) (i : ImageText) (found : IsTextOf image bytes (image_now i)) (o : Option Refusal) where
-  pub not-einval : (K : Behaviour) → (o ≡ Some Einval → ⊥) → (o ≡ Some Einval) ↔ IsNoImage K bytes
-  not-einval K other = (λ e. absurd (other e), λ none. absurd (none (imaged_now i.state) (i.version, found)))
+  module _ (K : Behaviour) (known : all_known K (imaged_now i.state).state ≡ true) where
+    -- that state is one of which there are all modules
+    pub is-for : IsImageFor K bytes (imaged_now i.state)
+    is-for = record { image = (i.version, found); known = known }
 
-  pub not-enosr : (free : Free) (n : ℕ) → n ≡ image_blocks (imaged_now i.state) → n ≤ free.mblks → n ≤ free.dblks → (o ≡ Some Enosr → ⊥) → (o ≡ Some Enosr) ↔ ((x : Imaged) × (IsImageOf bytes x × (enough (image_blocks x) free ≡ false)))
-  not-enosr free n is m d other = (λ e. absurd (other e), λ few. absurd (has-blocks bytes i found free n is m d few))
+    pub not-einval : (o ≡ Some Einval → ⊥) → (o ≡ Some Einval) ↔ IsNoImage K bytes
+    not-einval other = (λ e. absurd (other e), λ none. absurd (none (imaged_now i.state) is-for))
+
+  pub not-enosr : (free : Free) (n : ℕ) → n ≡ image_blocks (imaged_now i.state) → n ≤ free.mblks → n ≤ free.dblks → (K : Behaviour) → (o ≡ Some Enosr → ⊥) → (o ≡ Some Enosr) ↔ ((x : Imaged) × (IsImageFor K bytes x × (enough (image_blocks x) free ≡ false)))
+  not-enosr free n is m d K other = (λ e. absurd (other e), λ few. absurd (has-blocks bytes i found free n is m d K few))
+
+-- where modules stand there of which there are none, the text is the image of no other state
+module _ (bytes : List ℕ) (i : ImageText) (found : IsTextOf image bytes (image_now i)) (K : Behaviour) (unknown : all_known K (imaged_now i.state).state ≡ false) where
+  pub none-for : IsNoImage K bytes
+  none-for x is = absurd (let never = sym (ap (λ (y : Imaged). all_known K y.state) (one-state bytes i found x is.image) ∙ unknown) ∙ is.known in cc)
+
+  pub is-einval : (Some Einval ≡ Some Einval) ↔ IsNoImage K bytes
+  is-einval = (λ e. none-for, λ none. refl)
+
+  pub never-enosr : (free : Free) → (Some Einval ≡ Some Enosr) ↔ ((x : Imaged) × (IsImageFor K bytes x × (enough (image_blocks x) free ≡ false)))
+  never-enosr free = (λ e. absurd (cc), λ few. absurd (none-for few.0 few.1.0))
 
 -- ---- the sizes of a pair over such a store
 

@@ -2,8 +2,9 @@
 use Rattle.std.specs.Prelude.{ℕ, ◌≡◌, ◌-◌, true, List}
 use Rattle.strm_pair.specs.Prelude.{Fates, Spot, plain, Acted, Parcel, Took, tallied, Message, is_held, at_place, module_takes, Standing, module_puts}
 use Rattle.strm_pair.specs.Prelude.{State, StoreValue, FreesNone, Sent, Acts, Puts, once, Handles, SamePool, Shifts, Spends, message_in, times_sent}
-use Rattle.strm_pair.specs.Prelude.{parcels_in, AreChains, all_of, AreHeld, owns, Behaviour}
+use Rattle.strm_pair.specs.Prelude.{parcels_in, AreChains, all_of, AreHeld, owns, module_name, Behaviour}
 use Rattle.strm_types.specs.Modules.{put_among}
+use Rattle.strm_types.specs.Tables.{name_holds}
 use Rattle.strm_frame.specs.Stacks.{all_in}
 use Rattle.strm_pair.specs.declared.streams.Streams.{Streams}
 use Rattle.strm_pair.specs.AnyModules.{IsHeld, keeps, module_in}
@@ -42,5 +43,6 @@ abbrev pub StackTakes : {M : Type 0} (K : Behaviour) (old new : StoreValue) → 
 StackTakes K old new x y message to acts told told' =
     let m = message_in old message in
     let ms = modules_in old x in
-    Puts (all_in module_in) (AreHeld IsHeld owns) (all_of owns) (all_of keeps) old new x.modules.items y.modules.items message (at_place (module_takes to m) 0 to.at ms)
+    Puts (all_in module_in) (AreHeld IsHeld owns) (all_of owns) (all_of keeps) old new x.modules.items y.modules.items
+    (at_place (λ p. name_holds (module_name p)) true to.at ms) message (at_place (module_takes to m) 0 to.at ms)
     acts told told' (taken_at K to m ms)

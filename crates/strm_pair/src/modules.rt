@@ -1,7 +1,7 @@
 //! The modules that may stand on a side's stream: ldterm (ldterm(7M)), ptem (ptem(7M)), pckt (pckt(7M)) and those of a user's own, each as it is by
 //! itself.
 
-ghost use Rattle.std.specs.Prelude.{ℕ, ◌≡◌, false, true, MatchOption};
+ghost use Rattle.std.specs.Prelude.{ℕ, ◌≡◌, false, MatchOption};
 ghost use Rattle.strm_types.specs.Ptems.{new_ptem};
 ghost use Rattle.strm_laws.specs.Pushes.{is_known};
 ghost use Rattle.strm_laws.specs.Stacked.{OfPtem, without_kind_line};

@@ -153,7 +153,7 @@ impl<M: OwnModule> Streams<M> {
             return false;
         };
         let stack = &self.end(side).stack;
-        is_known::<M>(kind) && module_count(stack) < MODULES && !stack.has(kind)
+        is_known::<M>(kind) && (module_count(stack) < MODULES && !stack.has(kind))
     }
 
     // What job control makes of a caller's call that does this at the terminal.

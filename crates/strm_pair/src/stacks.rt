@@ -63,7 +63,7 @@ fn queues_of<M: OwnModule>(standing: Standing<AnyModule<M>>) -> Option<QueuePair
 /// Takes the module on top off its stack, if there is one, and puts the tables of its queues onto the shelf. Its unfinished line is let go where
 /// it stands.
 pub(crate) fn pop_top<M: OwnModule>(stack: &mut Stack<M>, shelf: &mut Option<Tables>)
-    ensures rest { (x : AnyStanding) (xs : List AnyStanding) → stack.old.modules.items ≡ x ∷ xs → stack.new.modules.items ≡ xs }
+    ensures rest { (x : AnyStanding _) (xs : List (AnyStanding _)) → stack.old.modules.items ≡ x ∷ xs → stack.new.modules.items ≡ xs }
     ensures shelf { (k : ℕ) → (stack_owns stack.old k ≡ 0 → is_some shelf.old ≡ true) → stack_owns stack.new k ≡ 0 → is_some shelf.new ≡ true }
 {
     if let Some(top) = stack.modules.as_mut_slice().first_mut() {

@@ -2,16 +2,15 @@
 
 ghost use Rattle.std.specs.Prelude.{◌≡◌, map};
 ghost use Rattle.std.specs.List.{AllByRecursion, flat_map};
-ghost use Rattle.strm_laws.specs.Stacked.{OfOwn, OfPtem, OfPckt};
+ghost use Rattle.strm_laws.specs.Stacked.{OfLdterm, OfOwn, OfPtem, OfPckt, of_kind};
 ghost use Rattle.strm_blocks.specs.Blocks.{StoreValue};
 ghost use Rattle.strm_image.specs.Modules.{alone, module_format, modules};
 ghost use Rattle.strm_image.specs.Sinks.{put};
 ghost use Rattle.strm_image.specs.declared.versions.Version.TheVariants.{Second};
-ghost use Rattle.strm_frame.specs.Standings.{standing};
-ghost use Rattle.strm_ldterm.specs.Stands.{own_in};
+ghost use Rattle.strm_frame.specs.Standings.{Fits, standing, standing_in};
+ghost use Rattle.strm_ldterm.specs.Stands.{HasInHand, own_in};
 ghost use Rattle.strm_pty.specs.Beside.{ptem_in};
 ghost use Rattle.strm_pty.specs.Packs.{pckt_in};
-ghost use Rattle.strm_pair.specs.declared.modules.AnyModule.TheVariants as kinds;
 ghost use Rattle.strm_pair.specs.AnyModules.{IsHeld, module_in};
 ghost use Rattle.strm_pair.specs.Imaging.{settings_text};
 ghost use Rattle.strm_pair.specs.Stacks.{IsStackHeld, modules_in};
@@ -50,8 +49,8 @@ fn put_ldterm<'a, B: Blocks>(
     queues: &Option<QueuePair>,
     out: Sink<'a>,
 ) -> Sink<'a>
-    requires held { IsHeld (B.value store.now) (standing (kinds.Ldterm ldterm.now) queues.now) }
-    ensures { result ≡ put ((module_format Second).text (module_in (B.value store.now) (standing (kinds.Ldterm ldterm.now) queues.now)))
+    requires held { Fits HasInHand (B.value store.now) (standing ldterm.now queues.now) }
+    ensures { result ≡ put ((module_format Second).text (of_kind OfLdterm (standing_in own_in (B.value store.now) (standing ldterm.now queues.now))))
         out.entry }
 {
     let Some(pair) = queues else { unreachable!() };

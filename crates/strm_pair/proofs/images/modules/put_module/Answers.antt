@@ -34,3 +34,9 @@ returns-in-Pckt g c =
     let s = g.B.Blocks.value c.args.store.now in
     let none = subst (λ m. IsKindHeld s m c.args.any.now.queues) c.in-Pckt.is c.requires.held.itself in
     c.put_pckt.ensures ∙ ap (λ p. put ((module_format Second).text p) c.args.out) (stands-alone s c.args.any.now _ c.in-Pckt.is none)
+
+pub returns-in-Own : goal.returns-in-Own
+returns-in-Own g c =
+    let s = g.B.Blocks.value c.args.store.now in
+    let none = subst (λ m. IsKindHeld s m c.args.any.now.queues) c.in-Own.is c.requires.held.itself in
+    c.put_own.ensures ∙ ap (λ p. put ((module_format Second).text p) c.args.out) (stands-alone s c.args.any.now _ c.in-Own.is none)

@@ -12,13 +12,13 @@ pub write-requires-clause-has : goal.write-requires-clause-has
 write-requires-clause-has g c =
     let p = c.self.inside in
     let s = g.B.Blocks.value p.store in
-    has-image g.M.Behaves.does s p.streams p.journal (start_in p.base) p.limits p.fates c.self.invariant.kept c.audit.ensures c.know_fates.ensures (c.know_streams.ensures s)
+    has-image g.M.Behaves.does s p.streams p.journal (start_in p.base) p.limits p.fates c.self.invariant.kept c.audit.ensures c.know_fates.ensures (c.know_streams.ensures.numbers s)
 
 pub write-requires-clause-room : goal.write-requires-clause-room
 write-requires-clause-room g c =
     let p = c.self.inside in
     let s = g.B.Blocks.value p.store in
-    let room = image-room g.M.Behaves.does s p.streams p.journal (start_in p.base) p.limits p.fates c.self.invariant.kept c.audit.ensures c.know_fates.ensures (c.know_streams.ensures s) in
+    let room = image-room g.M.Behaves.does s p.streams p.journal (start_in p.base) p.limits p.fates c.self.invariant.kept c.audit.ensures c.know_fates.ensures (c.know_streams.ensures.numbers s) in
     omega (arith, room, c.self.invariant.written.room)
 
 pub invariant_of-self : goal.invariant_of-self

@@ -20,7 +20,7 @@ loop-call-init g c =
     let low : here.at - 1 < length (stream here.side st0).modules = let inside = c.requires.inside in let within = c.requires.within in omega arith in
     let begins = first-begins here st0 c.requires.may.rests.idle low in
     let full = full-at here (g.B.Blocks.value c.args.store.now) c.args.self.now (c.requires.may.rests.held.beside here.side).stack in
-    let since : Since here false 0 st0 st0 = record { all = omega arith; full = λ first. full; opened = λ side. refl } in
+    let since : Since here false 0 st0 st0 = record { all = omega arith; full = λ first. full; opened = λ side. refl; stands = refl } in
     let first = along here g.M.Behaves.does st0 false 0 [] st0 st (reached-first here st0 g.M.Behaves.does low begins) m.result e.itself e.state f f m.new.told refl e.tells e.left 0 (omega arith) (omega arith) since
     (λ over none. first-went here m.result st0 e.itself low full over (omega (arith, none)) (HasRoom (g.B.Blocks.value c.args.store.now) STOP_BLOCKS) c.requires.may.room e.some) m.result.again refl in
     record {
@@ -83,7 +83,7 @@ loop-call-preserved g c =
     let behind = state_in (g.B.Blocks.value m.new.store) m.new.self in
     let f = c.args.told.now in
     let on : GoOn g.M.Behaves.does here l.bytes st0 st f l.told = subst (λ more. Along g.M.Behaves.does more here l.bytes st0 st f l.told) c.loop-call-test.true l.invariant.along in
-    let since : Since here true l.bytes st0 st = record { all = on.all; full = λ first. absurd (false≢true (sym first)); opened = on.opened } in
+    let since : Since here true l.bytes st0 st = record { all = on.all; full = λ first. absurd (false≢true (sym first)); opened = on.opened; stands = on.stands } in
     record {
       few = few-along here true m.result st e.itself on.reached.inside (full-at here (g.B.Blocks.value l.store) l.self (l.invariant.beside here.side).stack) l.bytes st0 (g.B.Blocks.value m.new.store) since e.few m.result.again refl;
       along = along here g.M.Behaves.does st0 true l.bytes on.gone st behind on.reached m.result e.itself e.state f l.told m.new.told on.tells e.tells e.left on.count on.few on.left since

@@ -42,4 +42,4 @@ returns-clause-does g c =
 pub returns-clause-blocks : goal.returns-clause-blocks
 returns-clause-blocks g c = λ way is.
     let st = state_in (g.B.Blocks.value c.args.store.now) c.args.self.now in
-    c.put-acts.ensures.blocks is.held (ap (λ (x : Across). x.ended) (c.across-across.ensures (g.B.Blocks.value c.args.store.now)) ∙ subst (λ w. IsKeptAhead w c.args.to.side st) way is.kept)
+    c.put-acts.ensures.blocks is.held (ap (λ (x : Across). x.ended) (c.across-across.ensures (g.B.Blocks.value c.args.store.now)) ∙ (subst (λ w. IsKeptAhead w c.args.to.side st) way is.kept).opened)

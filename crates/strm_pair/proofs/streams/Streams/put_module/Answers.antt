@@ -1,6 +1,8 @@
 -- The module takes the message, what it says of its queues is done by how the stream was before, and what it made is told, and fits the books.
 use Rattle.strm_pair.proofs.Prelude.{◌-◌, map, sym, ap, ◌∙◌, arith, slice_index_or, None, keep-names}
 use Rattle.strm_pair.specs.Prelude.{MasterToSlave, SlaveToMaster, tallied, places_of, plain, earlier_at, noted, module_name, message_in, token}
+use Rattle.std.specs.List.{list_all}
+use Rattle.strm_types.specs.Tables.{name_holds}
 use Rattle.strm_laws.specs.State as state
 use Rattle.strm_pair.specs.declared.service_calls.Made.{Made}
 use Rattle.strm_pair.specs.declared.streams.Streams.{Streams}
@@ -8,6 +10,7 @@ use Rattle.strm_pair.specs.ModuleServed.{between, with_more}
 use Rattle.strm_pair.specs.Pairs.{end_at, state_in}
 use Rattle.strm_pair.specs.PutBy.{taken_at}
 use Rattle.strm_pair.specs.Stacks.{modules_in}
+use Rattle.strm_pair.proofs.Holding.{place-holds, stands-kept}
 use Rattle.strm_pair.proofs.ModuleSteps.{module-by, put-between, put-fits}
 use Rattle.strm_pair.proofs.NearestStays.{before-stays}
 use Rattle.strm_pair.proofs.PlaceCosts.{plain-few}
@@ -90,4 +93,9 @@ returns-clause-does g c =
     ∙ ap at e.streams)
 
 pub returns-clause-blocks : goal.returns-clause-blocks
-returns-clause-blocks g c = λ is. c.put_on_stack-acts.ensures.takes.blocks is.held
+returns-clause-blocks g c = λ is.
+    let s = g.B.Blocks.value c.args.store.now in
+    let to = c.args.to in
+    let ms = modules_in s (end_at to.side c.args.self.now).stack in
+    let kept = ap (λ ps. list_all name_holds (map module_name ps)) (sym (modules-are s c.args.self.now to.side)) ∙ stands-kept to.side (state_in s c.args.self.now) is.kept.kept in
+    c.put_on_stack-acts.ensures.takes.blocks (place-holds (to.at - 1) ms kept) is.held
