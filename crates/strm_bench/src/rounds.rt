@@ -8,9 +8,7 @@ use crate::plans::{Act, Round};
 use std::alloc::Global;
 use strm_blocks::{Blocks, Reserve};
 use strm_pair::Pair;
-use strm_types::{
-    Answer, Band, Caller, Config, Content, Event, Prio, Refusal, TIOCGWINSZ, Wanted,
-};
+use strm_types::{Answer, Band, Caller, Config, Content, Event, Prio, Refusal, TIOCGWINSZ, Wanted};
 
 // How often a round writes, and reads behind each write, at most.
 const OFTEN: u32 = 4096;

@@ -35,7 +35,7 @@ use Rattle.strm_laws.specs.Puts.{across_of, delivered, made_above, passed_up, pu
 use Rattle.strm_types.specs.Queue.{Queue}
 use Rattle.strm_types.specs.Rules.{number_of}
 use Rattle.strm_types.specs.Service.{line_gone}
-use Rattle.strm_laws.specs.Stacked.{Module, OfLdterm, OfPtem, OfPckt, Standing, module_puts}
+use Rattle.strm_laws.specs.Stacked.{Module, OfLdterm, OfPtem, OfPckt, OfOwn, Standing, module_puts}
 use Rattle.strm_laws.specs.State.{State, stream}
 use Rattle.strm_types.specs.TakenUp.{input_flushed, taken_up, termios_taken}
 use Rattle.strm_types.specs.Typing.{up_alone}
@@ -167,6 +167,7 @@ module _ {C : Type 0} (dir : Dir) where
         by (OfLdterm l) = ldterm-unread here m (disciplined l q.queues)
         by (OfPtem p) = ap (λ told. reads dir told) (of_ptem.puts-gone here m p)
         by (OfPckt p) = of_pckt.puts-each cells made here m (λ t. reads dir t.gone ≡ 0) refl (λ up is. refl)
+        by (OfOwn o) = refl
 
     among-unread : (made i : ℕ) (here : Spot) (m : Message C) (ps : List (Standing C)) → Unread (put_among (module_puts no_own cells made) i here m ps)
     among-unread made i here m [] = refl
