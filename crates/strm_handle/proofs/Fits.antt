@@ -73,8 +73,8 @@ answered caller asked reply answer content before out old new bytes replies fill
     let rest : List ℕ = drop (length content) before in
     let told : answer_in reply out ≡ Some (reply_in answer content) = ap (λ b. answer_in reply b) is ∙ told-over reply answer content rest bytes replies filled in
     record {
-      adds = subst (λ o. IsSomeAnd o (λ a. AddsEntry no_own old.pair new.pair (Called caller asked a) × (reply.bytes ≡ length (content_of a)))) (sym told)
-          (adds, bytes ∙ filled ∙ sym (content-length caller answer content filled));
+      adds = subst (λ o. IsSomeAnd o (λ a. AddsEntry no_own old.pair new.pair (Called caller asked a) × (reply.bytes ≡ length (content_of a))))
+          (sym told) (adds, bytes ∙ filled ∙ sym (content-length caller answer content filled));
       choices = choices;
       fits = omega (arith, bytes, filled, few);
       others = ap (λ b. drop reply.bytes b) is ∙ ap (λ n. drop n (content ++ rest)) (bytes ∙ filled) ∙ drop-append_seam content rest ∙ ap (λ n. drop n before) (sym (bytes ∙ filled));

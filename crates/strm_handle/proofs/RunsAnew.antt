@@ -18,7 +18,8 @@ pub made-plain : (k : KeptPair) → k.anew ≡ false → made_at run_refused k �
 made-plain k plain =
     ap (λ b. record k { pair = begun b (run_refused k) k.pair }) plain ∙ ap (λ p. record k { pair = p }) (plain-stays (run_refused k) k.pair)
 
-pub ran-plain : (n : ℕ) (old : KeptPair) (new : PairState) → old.anew ≡ false → RanTurns no_own n old.pair new → RanAt n old (record old { pair = new })
+pub ran-plain : (n : ℕ) (old : KeptPair) (new : PairState) → old.anew ≡ false → RanTurns no_own n old.pair new
+    → RanAt n old (record old { pair = new })
 ran-plain zero old new plain ran = ap (λ p. record old { pair = p }) ran
 ran-plain (suc n) old new plain ran =
     let mid : KeptPair = record old { pair = ran.0 } in (
@@ -42,7 +43,8 @@ turned-first old new name turn first choices adds stops =
     let state = (begun-keeps old.anew (queue_refused old.pair name) old.pair).0 in
     let here : slice_get at.state.enabled 0 ≡ Some name = ap (λ (s : State ℕ). slice_get s.enabled 0) state ∙ first in
     record {
-      turn = subst (λ (p : PairState). TurnOfFirst no_own p new.pair) same (record { name = name; turn = turn; first = here; adds = adds; stops = stops });
+      turn = subst (λ (p : PairState). TurnOfFirst no_own p new.pair) same
+          (record { name = name; turn = turn; first = here; adds = adds; stops = stops });
       choices = choices;
     }
 

@@ -108,7 +108,8 @@ abbrev pub turn_refused : ℕ → KeptPair → Option Refusal
 turn_refused queue k = turn_of (queue_at queue) k
 
 pub record Turns (queue : ℕ) (went : Went) (old new : KeptPair) : Type 0 where
-  pub adds : IsSomeAnd (queue_at queue) (λ name. IsSomeAnd (turn_at went.kind went.moved) (λ turn. AddsEntry no_own old.pair new.pair (Turned name turn)))
+  pub adds : IsSomeAnd (queue_at queue) (λ name. IsSomeAnd (turn_at went.kind went.moved)
+      (λ turn. AddsEntry no_own old.pair new.pair (Turned name turn)))
   pub choices : SameChoices old new
 
 -- Turns were made, each of the queue that was enabled first, at the pair or at the pair begun anew.

@@ -50,7 +50,8 @@ pub(crate) fn turn_at(
 ) -> Result<Turn, Refusal>
     ensures refused { let at = begun anew (queue_refused pair.old name) pair.old in
         MatchOption (queue_refused at name) (IsOk result) (λ r. (result ≡ Err r) × (pair.new ≡ at)) }
-    ensures adds { let at = begun anew (queue_refused pair.old name) pair.old in IfOk result (λ turn. AddsEntry no_own at pair.new (Turned name turn)) }
+    ensures adds { let at = begun anew (queue_refused pair.old name) pair.old in
+        IfOk result (λ turn. AddsEntry no_own at pair.new (Turned name turn)) }
     ensures stops { let at = begun anew (queue_refused pair.old name) pair.old in IfOk result (λ turn. Stops at pair.new name turn) }
 {
     let told = pair.turn(name);

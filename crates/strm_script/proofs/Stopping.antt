@@ -98,20 +98,23 @@ module _ (name : QueueName) (turn another : Turn) (s : State ℕ) (none : moved_
       stays _ (ap (λ (n : ℕ). (moved_on no_own plain here name n s).turn) least ∙ moves-none name.side at name.way name s)
 
   asked-same : (at : ℕ) (asks : Asks) → Stays (asked_turn no_own plain (there name.side at name.way) asks name turn s)
-      → asked_turn no_own plain (there name.side at name.way) asks name turn s ≡ asked_turn no_own plain (there name.side at name.way) asks name another s
+      → asked_turn no_own plain (there name.side at name.way) asks name turn s
+      ≡ asked_turn no_own plain (there name.side at name.way) asks name another s
   asked-same at asked.Empty stays = refl
   asked-same at asked.Held stays = refl
   asked-same at asked.Free stays = absurd (not-within at stays)
   asked-same at (asked.Room band) stays =
       stays-where (has_room_past name.side name.way at band.0 s) _ _ _ (λ stays. absurd (not-within at stays)) stays
 
-  named-same : (place : Option ℕ) → Stays (turned_named no_own plain name turn s place) → turned_named no_own plain name turn s place ≡ turned_named no_own plain name another s place
+  named-same : (place : Option ℕ) → Stays (turned_named no_own plain name turn s place)
+      → turned_named no_own plain name turn s place ≡ turned_named no_own plain name another s place
   named-same None stays = refl
   named-same (Some at) stays =
       let ps = (stream name.side s).modules in
       stays-where (at_place module_rests false at ps) _ _ _ (asked-same at (at_place (module_asks name.way) asked.Empty at ps)) stays
 
-  stays-same : (place : Place) → Stays (turned_at no_own plain place name turn s) → turned_at no_own plain place name turn s ≡ turned_at no_own plain place name another s
+  stays-same : (place : Place) → Stays (turned_at no_own plain place name turn s)
+      → turned_at no_own plain place name turn s ≡ turned_at no_own plain place name another s
   stays-same Head stays = refl
   stays-same Driver stays = refl
   stays-same (places.Module owner) stays = named-same (place_named name.place (stream name.side s).modules) stays

@@ -59,8 +59,8 @@ named-passes test (row ∷ rows) word x all h =
     ]
 
 -- and what rows name passes one, if all that they name does
-named-holds : {A : Type 0} (test : A → Bool) (rows : List (List ℕ × A)) (word : List ℕ) (x : A) → list_all (λ (row : List ℕ × A). test row.1) rows ≡ true
-    → named rows word ≡ Some x → test x ≡ true
+named-holds : {A : Type 0} (test : A → Bool) (rows : List (List ℕ × A)) (word : List ℕ) (x : A)
+    → list_all (λ (row : List ℕ × A). test row.1) rows ≡ true → named rows word ≡ Some x → test x ≡ true
 named-holds test [] word x all h = absurd cc
 named-holds test (row ∷ rows) word x all h =
     let parts = and_parts _ _ all in
@@ -299,7 +299,8 @@ name-plain : (o : Option ModuleName) (word : List ℕ) → IsModule o word → l
 name-plain (Some known) word h = ap (list_all is_plain) h.0 ∙ known-plain known h.1
 name-plain None word is = letters-plain word is.is_name.letters
 
-ldterm-plain : (side : Side) (way : Way) → list_all is_plain (queue_name (record { side = side; place = places.Module modules.Ldterm; way = way })) ≡ true
+ldterm-plain : (side : Side) (way : Way)
+    → list_all is_plain (queue_name (record { side = side; place = places.Module modules.Ldterm; way = way })) ≡ true
 ldterm-plain Master Up = refl
 ldterm-plain Master Down = refl
 ldterm-plain Slave Up = refl

@@ -68,7 +68,8 @@ module _ (caller : Caller) (answer : Reply) (s t : State ℕ) (f : Fates) where
   d = direction_of (head_of caller.side)
 
   -- who is stopped takes nothing
-  stopped-or : (asked : Request) → Takes caller.side s (performed no_own plain caller asked s) → Takes caller.side s (called no_own plain caller asked s)
+  stopped-or : (asked : Request) → Takes caller.side s (performed no_own plain caller asked s)
+      → Takes caller.side s (called no_own plain caller asked s)
   stopped-or asked = of-called no_own plain caller asked s (Takes caller.side s) (λ signal. (refl, omega arith))
 
   -- a call that takes from the queues of the direction that its side reads

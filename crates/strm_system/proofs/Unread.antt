@@ -169,7 +169,8 @@ module _ {C : Type 0} (dir : Dir) where
         by (OfPckt p) = of_pckt.puts-each cells made here m (λ t. reads dir t.gone ≡ 0) refl (λ up is. refl)
         by (OfOwn o) = refl
 
-    among-unread : (made i : ℕ) (here : Spot) (m : Message C) (ps : List (Standing C)) → Unread (put_among (module_puts no_own cells made) i here m ps)
+    among-unread : (made i : ℕ) (here : Spot) (m : Message C) (ps : List (Standing C))
+        → Unread (put_among (module_puts no_own cells made) i here m ps)
     among-unread made i here m [] = refl
     among-unread made zero here m (q ∷ ps) = module-unread made here m q
     among-unread made (suc i) here m (q ∷ ps) = among-unread made i here m ps
@@ -211,7 +212,8 @@ module _ {C : Type 0} (dir : Dir) where
     carried-unread (suc hops) q s =
         let t = put_in no_own cells q.to q.message s in
         let u = in_turn (carried (put_in no_own cells) hops) t.sent t.state in
-        none-both t.gone u.gone (puts-unread q.to q.message s) (in_turn-unread (carried (put_in no_own cells) hops) (carried-unread hops) t.sent t.state)
+        none-both t.gone u.gone (puts-unread q.to q.message s)
+        (in_turn-unread (carried (put_in no_own cells) hops) (carried-unread hops) t.sent t.state)
 
     pub delivered-unread : (to : Spot) (m : Message C) (s : State C) → reads dir (delivered no_own cells to m s).gone ≡ 0
     delivered-unread to m s = carried-unread HOPS (record { to = to; message = m }) s

@@ -21,7 +21,8 @@ pub record IsPairOf (x : Imaged) (mblks dblks : ℕ) (p : PairState) : Type 0 wh
 -- what holds where a line of the kind does
 abbrev pub Holds : Vector → Type 0
 Holds (vectors.Bad text) = IsNoImage no_own text.items
-Holds (vectors.Image text other blocks) = (x : Imaged) × (IsImageFor no_own text.items x × (IsImageFor no_own other.items x × (image_blocks x ≡ blocks)))
+Holds (vectors.Image text other blocks) =
+    (x : Imaged) × (IsImageFor no_own text.items x × (IsImageFor no_own other.items x × (image_blocks x ≡ blocks)))
 Holds (vectors.Script script text blocks) = (x : Imaged) × (IsImageFor no_own text.items x × (image_blocks x ≡ blocks))
 Holds (vectors.Untold text) = (x : Imaged) × IsImageFor no_own text.items x
 
