@@ -187,8 +187,7 @@ fn restores<B: Reserve>(alloc: Global, pair: &Pair<B>, round: &Round) -> Option<
     let Ok(store) = B::reserve(alloc, sizes.mblks, sizes.dblks) else {
         return None;
     };
-    let made: Result<Pair<B>, _> = Pair::restore(alloc, sizes, text.as_slice(), store);
-    if made.is_err() {
+    if Pair::restore(alloc, sizes, text.as_slice(), store).is_err() {
         return None;
     }
     counted(round, text.len())

@@ -6,7 +6,7 @@ use Rattle.strm_image.specs.declared.versions.Version.TheVariants.{Second}
 use Rattle.strm_image.specs.Format.{IsTextOf}
 use Rattle.strm_image.specs.Image.{Imaged, image}
 use Rattle.strm_image.specs.HasImage.{imaged}
-use Rattle.strm_pair.specs.Restored.{IsImageFor, IsNoImage, image_blocks}
+use Rattle.strm_pair.specs.Restored.{IsImageOf, IsNoImage, image_blocks}
 use Rattle.strm_vectors.specs.declared.vectors.Vector.{Vector}
 use Rattle.strm_vectors.specs.declared.vectors.Vector.TheVariants as vectors
 
@@ -21,9 +21,9 @@ pub record IsPairOf (x : Imaged) (mblks dblks : ℕ) (p : PairState) : Type 0 wh
 -- what holds where a line of the kind does
 abbrev pub Holds : Vector → Type 0
 Holds (vectors.Bad text) = IsNoImage no_own.none text.items
-Holds (vectors.Image text other blocks) = (x : Imaged) × (IsImageFor no_own.none text.items x × (IsImageFor no_own.none other.items x × (image_blocks x ≡ blocks)))
-Holds (vectors.Script script text blocks) = (x : Imaged) × (IsImageFor no_own.none text.items x × (image_blocks x ≡ blocks))
-Holds (vectors.Untold text) = (x : Imaged) × IsImageFor no_own.none text.items x
+Holds (vectors.Image text other blocks) = (x : Imaged) × (IsImageOf text.items x × (IsImageOf other.items x × (image_blocks x ≡ blocks)))
+Holds (vectors.Script script text blocks) = (x : Imaged) × (IsImageOf text.items x × (image_blocks x ≡ blocks))
+Holds (vectors.Untold text) = (x : Imaged) × IsImageOf text.items x
 
 -- what a text of an image gives: the image of its pair, and how many blocks its messages take
 pub record IsFound (x : Imaged) (text : List ℕ) (mblks dblks : ℕ) : Type 0 where

@@ -6,7 +6,7 @@ ghost use Rattle.strm_laws.proofs.NoOwn as no_own;
 ghost use Rattle.strm_image.specs.declared.versions.Version.TheVariants.{Second};
 ghost use Rattle.strm_image.specs.Format.{IsTextOf};
 ghost use Rattle.strm_image.specs.Image.{Imaged, image};
-ghost use Rattle.strm_pair.specs.Restored.{IsImageFor, IsNoImage, image_blocks};
+ghost use Rattle.strm_pair.specs.Restored.{IsImageOf, IsNoImage, image_blocks};
 ghost use Rattle.strm_vectors.specs.Told.{Holds, IsFound};
 
 use crate::differences::Difference;
@@ -30,7 +30,7 @@ struct Found {
 // What a text gives over a store that has room for every text of its length: a message of 12 bytes takes at most two blocks. A text of version 2
 // is its pair's image.
 fn found_in<B: Reserve>(alloc: Global, text: &[u8]) -> Result<Found, Difference>
-    ensures { IfOk result (λ f. (x : Imaged) × (IsImageFor no_own.none text.now x × IsFound x f.image.items f.mblks f.dblks)) }
+    ensures { IfOk result (λ f. (x : Imaged) × (IsImageOf text.now x × IsFound x f.image.items f.mblks f.dblks)) }
 {
     let room = (text.len() / 6 + 1).min(BLOCKS_MAX);
     let pair = restored::<B>(alloc, text, room, room)?;
@@ -109,7 +109,7 @@ fn agrees<B: Reserve>(
     same: &[u8],
     blocks: u16,
 ) -> Result<(), Difference>
-    ensures { OnOk result ((x : Imaged) × (IsImageFor no_own.none text.now x × (IsTextOf image same.now (Second, x) × (image_blocks x ≡ blocks)))) }
+    ensures { OnOk result ((x : Imaged) × (IsImageOf text.now x × (IsTextOf image same.now (Second, x) × (image_blocks x ≡ blocks)))) }
 {
     let found = found_in::<B>(alloc, text)?;
     if found.image.as_slice() != same {
