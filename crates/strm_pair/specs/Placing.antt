@@ -2,9 +2,8 @@
 use Rattle.std.specs.Prelude.{ℕ, ◌≡◌, ◌≤◌, ◌+◌, true, List, [], Option, is_some, length, map, sum_by}
 use Rattle.std.specs.List.{AllByRecursion}
 use Rattle.strm_pair.specs.Prelude.{MODULES, EachOnce, StoreValue, list_at, once, all_of, AreHeld, ModuleText, module_now, modules_now, names_now}
-use Rattle.strm_pair.specs.Prelude.{Tables, owns}
+use Rattle.strm_pair.specs.Prelude.{Tables, owns, Behaviour}
 use Rattle.strm_image.specs.declared.modules.ModuleText.TheVariants as texts
-use Rattle.strm_laws.specs.Behaviours.{Behaviour}
 use Rattle.strm_pair.specs.AnyModules.{AnyStanding, IsHeld, keeps, module_in}
 use Rattle.strm_pair.specs.Runs.{Spent}
 use Rattle.strm_pair.specs.Standing.{FillsTwo, IsLdtermText, IsOwnText, ldterm_blocks}
