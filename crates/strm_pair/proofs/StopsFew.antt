@@ -164,6 +164,6 @@ stopped-stays here again call s tells low begins is less ahead =
     let on = among-on here again call.bytes (here.at - 1) ps low begins ends (omega (arith, bytes, less)) in
     let behind = (module_acted here (called here again (Some call.bytes) ps) s).state in
     let kept = kept-ahead here.way here.side s behind (acted-same here again (Some call.bytes) s).opened
-        (acted-stands here again (Some call.bytes) s) ahead in
+    (acted-stands here again (Some call.bytes) s) ahead in
     subst (λ o. StaysAlone ComesToStand (module_acted here (called here again o ps) s).state (module_acted here (called here again o ps) s).sent) (sym some)
     (sent-stays here behind (called here again (Some call.bytes) ps).sent on kept)
