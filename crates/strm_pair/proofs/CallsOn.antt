@@ -155,7 +155,8 @@ module _ (here : Spot) where
           gone = all;
           within = omega (arith, (last any_name).0, same);
           some = went;
-          stands = subst (λ v. here.at - 1 < length (stream here.side v).modules) (sym state) (omega (arith, r.inside, led-length here K again stop s));
+          stands =
+              subst (λ v. here.at - 1 < length (stream here.side v).modules) (sym state) (omega (arith, r.inside, led-length here K again stop s));
           moves = λ name. ap (λ n. moved_on K plain here name n s0) (sym same) ∙ (last name).1 ∙ ap (λ n. to name n (led K here again stop s).state) same ∙ ap (to name (bytes + call.bytes)) (sym state);
           tells = told-on;
           left = omega (arith, held, falls, few, done-few (discipline_of (module_at here s)).stage);

@@ -1,8 +1,8 @@
 -- What a module of one kind did, one of any kind did: of each kind it stands for the same, fits the same, and keeps the same.
 use Rattle.strm_pair.proofs.Prelude.{ℕ, ◌≡◌, Bool, true, false, List, refl, sym, ap, subst, ◌∙◌, Option, None}
-use Rattle.strm_pair.specs.Prelude.{Fates, Acted, Parcel, Serving, stood, Module, OfLdterm, OfOwn, OfPtem, OfPckt, Standing, StoreValue, Acts, QueuePair}
+use Rattle.strm_pair.specs.Prelude.{Fates, Acted, Parcel, Serving, stood, Module, OfLdterm, OfOwn, OfPtem, OfPckt, Standing, StoreValue, Acts}
 use Rattle.strm_pair.specs.Prelude.{Served, Puts, Handles, Hands, HasRoom, parcels_in, sent_of, times_sent, later_cost, Fits, keeps_of, owns}
-use Rattle.strm_pair.specs.Prelude.{queues_in, standing, standing_in, ptem_in, pckt_in}
+use Rattle.strm_pair.specs.Prelude.{queues_in, standing, standing_in, ptem_in, pckt_in, QueuePair}
 use Rattle.std.proofs.lemmas.Bool.{OnTrue_at, OnTrue_from}
 use Rattle.strm_types.specs.Owns.{Own}
 use Rattle.strm_types.specs.Service.{done_by, served_by}
@@ -32,11 +32,13 @@ module _ {M X P : Type 0} (wrap : X → AnyModule M) (made : P → Module ℕ) (
 
   module _ (kind : IsKind) where
     -- where it stands, it is what it is there by itself
-    kind-stands : (s : StoreValue) (x : X) (q : Option QueuePair) → standing_in kind_in s (standing (wrap x) q) ≡ of_kind made (standing_in in_itself s (standing x q))
+    kind-stands : (s : StoreValue) (x : X) (q : Option QueuePair) → standing_in kind_in s (standing (wrap x) q)
+        ≡ of_kind made (standing_in in_itself s (standing x q))
     kind-stands s x q = ap (λ (p : Module ℕ). stood p (queues_in s q)) (kind.shows s x)
 
     -- it fits where one of any kind does
-    pub kind-fits : (s : StoreValue) (any : AnyModule M) (x : X) (q : Option QueuePair) → any ≡ wrap x → Fits IsKindHeld s (standing any q) → Fits IsHeld s (standing x q)
+    pub kind-fits : (s : StoreValue) (any : AnyModule M) (x : X) (q : Option QueuePair) → any ≡ wrap x → Fits IsKindHeld s (standing any q)
+        → Fits IsHeld s (standing x q)
     kind-fits s any x q is held = record { queues = held.queues; itself = kind.back s x q (subst (λ m. IsKindHeld s m q) is held.itself) }
 
     -- its put
@@ -96,14 +98,18 @@ module _ {M X P : Type 0} (wrap : X → AnyModule M) (made : P → Module ℕ) (
             }
 
 -- the kinds
-pub ldterm-kind : {M : Type 0} → let wrap : Ldterm → AnyModule M = kinds.Ldterm in IsKind wrap OfLdterm stands.own_in stands.HasInHand stands.keeps_itself
+pub ldterm-kind : {M : Type 0} → let wrap : Ldterm
+    → AnyModule M = kinds.Ldterm in IsKind wrap OfLdterm stands.own_in stands.HasInHand stands.keeps_itself
 ldterm-kind = record { shows = λ s x. refl; fits = λ s x queues held. held; back = λ s x queues held. held; keeps_same = λ x. refl }
 
-pub ptem-kind : {M : Type 0} → let wrap : Ptem → AnyModule M = kinds.Ptem in IsKind wrap OfPtem (λ (s : StoreValue) (x : Ptem). ptem_in x) (λ s x queues. queues ≡ None) (λ x i. 0)
+pub ptem-kind : {M : Type 0} → let wrap : Ptem
+    → AnyModule M = kinds.Ptem in IsKind wrap OfPtem (λ (s : StoreValue) (x : Ptem). ptem_in x) (λ s x queues. queues ≡ None) (λ x i. 0)
 ptem-kind = record { shows = λ s x. refl; fits = λ s x queues held. held; back = λ s x queues held. held; keeps_same = λ x. refl }
 
-pub pckt-kind : {M : Type 0} → let wrap : Pckt → AnyModule M = kinds.Pckt in IsKind wrap OfPckt (λ (s : StoreValue) (x : Pckt). pckt_in) (λ s x queues. queues ≡ None) (λ x i. 0)
+pub pckt-kind : {M : Type 0} → let wrap : Pckt
+    → AnyModule M = kinds.Pckt in IsKind wrap OfPckt (λ (s : StoreValue) (x : Pckt). pckt_in) (λ s x queues. queues ≡ None) (λ x i. 0)
 pckt-kind = record { shows = λ s x. refl; fits = λ s x queues held. held; back = λ s x queues held. held; keeps_same = λ x. refl }
 
-pub own-kind : {M : Type 0} → let wrap : Own → AnyModule M = kinds.Own in IsKind wrap OfOwn (λ (s : StoreValue) (x : Own). x) (λ s x queues. queues ≡ None) (λ x i. 0)
+pub own-kind : {M : Type 0} → let wrap : Own
+    → AnyModule M = kinds.Own in IsKind wrap OfOwn (λ (s : StoreValue) (x : Own). x) (λ s x queues. queues ≡ None) (λ x i. 0)
 own-kind = record { shows = λ s x. refl; fits = λ s x queues held. held; back = λ s x queues held. held; keeps_same = λ x. refl }

@@ -78,7 +78,8 @@ module _ (s : StoreValue) where
     empty k some = let own = within k some in spare k own.0 (omega (arith, own.1)) (others-none k some)
 
     state : module_in s x ≡ module_named K kind
-    state = ap (λ part. stood part (queues_in s x.queues)) (made.made s) ∙ ap (λ queues. stood (kind_named K kind) queues) (given-are kind (first + 2) s x.queues given empty)
+    state =
+        ap (λ part. stood part (queues_in s x.queues)) (made.made s) ∙ ap (λ queues. stood (kind_named K kind) queues) (given-are kind (first + 2) s x.queues given empty)
 
     fits : IsHeld s x
     fits = record { queues = given-ready kind (first + 2) s x.queues given empty; itself = made.fresh.held s x.queues given.has }

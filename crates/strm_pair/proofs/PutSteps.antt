@@ -120,10 +120,12 @@ can-alone : (s : StoreValue) (m : ℕ) (keeps : ℕ → ℕ) → CanPut s m keep
 can-alone s m keeps can = record { apart = λ i. omega (arith, can.apart i) }
 
 -- the stacks stay where a head changes, or a driver
-kept-head : {M : Type 0} (p : Streams M) (side : Side) (h : heads.Head) (i : ℕ) → kept_by (with_end side (record (end_at side p) { head = h }) p) i ≡ kept_by p i
+kept-head : {M : Type 0} (p : Streams M) (side : Side) (h : heads.Head) (i : ℕ) → kept_by (with_end side (record (end_at side p) { head = h }) p) i
+    ≡ kept_by p i
 kept-head p side h i = kept-with side (record (end_at side p) { head = h }) p i ∙ sym (kept-parts side p i)
 
-kept-driver : {M : Type 0} (p : Streams M) (side : Side) (d : Queue) (i : ℕ) → kept_by (with_end side (record (end_at side p) { driver = d }) p) i ≡ kept_by p i
+kept-driver : {M : Type 0} (p : Streams M) (side : Side) (d : Queue) (i : ℕ) → kept_by (with_end side (record (end_at side p) { driver = d }) p) i
+    ≡ kept_by p i
 kept-driver p side d i = kept-with side (record (end_at side p) { driver = d }) p i ∙ sym (kept-parts side p i)
 
 -- a waiting writer is let go where the head says so
@@ -325,7 +327,8 @@ passed-put s p x sent_on f to beside chain on one = record {
 }
 
 -- what takes no more than so much takes no more than what is more
-put-more : {M : Type 0} (s t : StoreValue) (p q : Streams M) (m takes all : ℕ) (sent_on : List Sent) (f f' : Fates) (is : Took ℕ (State ℕ)) → takes ≤ all
+put-more : {M : Type 0} (s t : StoreValue) (p q : Streams M) (m takes all : ℕ) (sent_on : List Sent) (f f' : Fates) (is : Took ℕ (State ℕ)) → takes
+    ≤ all
     → PutBy s t p q m takes sent_on f f' is → PutBy s t p q m all sent_on f f' is
 put-more s t p q m takes all sent_on f f' is low put = record {
   state = put.state;

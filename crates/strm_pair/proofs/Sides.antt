@@ -215,7 +215,8 @@ never-both Slave k low high above below = omega (arith, low, below)
 pub stream-is : {M : Type 0} (s : StoreValue) (p : Streams M) (side : Side) → stream side (state_in s p) ≡ stream_in s (end_at side p)
 stream-is s p side = get-map (stream_in s) side p.ends
 
-pub modules-are : {M : Type 0} (s : StoreValue) (p : Streams M) (side : Side) → (stream side (state_in s p)).modules ≡ modules_in s (end_at side p).stack
+pub modules-are : {M : Type 0} (s : StoreValue) (p : Streams M) (side : Side) → (stream side (state_in s p)).modules
+    ≡ modules_in s (end_at side p).stack
 modules-are s p side = ap (λ (x : streams.Stream ℕ). x.modules) (stream-is s p side)
 
 -- behind another stream of a side with the same stack the same modules stand there
@@ -340,7 +341,8 @@ driver-held s t p side q held only hand mblks dblks = record {
 }
 
 -- the queue of a side's driver, as the state has it
-pub driver-is : {M : Type 0} (s : StoreValue) (p : Streams M) (side : Side) → (stream side (state_in s p)).driver.queue ≡ queue_in s (end_at side p).driver
+pub driver-is : {M : Type 0} (s : StoreValue) (p : Streams M) (side : Side) → (stream side (state_in s p)).driver.queue
+    ≡ queue_in s (end_at side p).driver
 driver-is s p side = ap (λ (x : streams.Stream ℕ). x.driver.queue) (stream-is s p side)
 
 -- and its head

@@ -25,7 +25,8 @@ led-on K s p j k b limits fates entry kept added =
     ap (λ js. replay K plain b.state js) added ∙ replay-append K plain b.state (journal_of j) (entry ∷ []) ∙ ap (λ t. after K plain t entry) (sym kept.replayed)
 
 -- a step to the state behind an entry is one to what the blocks stand for
-pub step-shown : {M : Type 0} (K : Behaviour) (s new : StoreValue) (p q : Streams M) (entry : PlainEntry) → state_in new q ≡ after K plain (state_in s p) entry
+pub step-shown : {M : Type 0} (K : Behaviour) (s new : StoreValue) (p q : Streams M) (entry : PlainEntry) → state_in new q
+    ≡ after K plain (state_in s p) entry
     → Step K plain (state_in s p) entry (after K plain (state_in s p) entry) → Step K plain (state_in s p) entry (state_in new q)
 step-shown K s new p q entry stands step = subst (λ t. Step K plain (state_in s p) entry t) (sym stands) step
 

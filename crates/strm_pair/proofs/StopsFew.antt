@@ -141,7 +141,8 @@ acted-stands here again stop s =
     acted-holds (Stand (stands_of s)) (λ names v adds is. is) (λ dir n v is. is) here t s
     (same-names here.side (record (stream here.side s) { modules = t.state }) s (serve-names plain here 0 again stop (here.at - 1) (stream here.side s).modules))
 
-pub led-stands : (K : Behaviour) (here : Spot) (again : Bool) (stop : Option ℕ) (s : State ℕ) → stands_of (led K here again stop s).state ≡ stands_of s
+pub led-stands : (K : Behaviour) (here : Spot) (again : Bool) (stop : Option ℕ) (s : State ℕ) → stands_of (led K here again stop s).state
+    ≡ stands_of s
 led-stands K here again stop s =
     let w = module_acted here (called here again stop (stream here.side s).modules) s in
     let put = put_in K plain in

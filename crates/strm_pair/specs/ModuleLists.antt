@@ -50,7 +50,8 @@ module _ (s : StoreValue) (first : ℕ) where
       ap (λ queues. queues_of_modules (map (module_in s) (standing x.module queues ∷ xs))) (first-none x xs none)
       ∙ none-queue xs (λ k. omega (arith, none k, sum_by-cons (λ y. owns y k) x xs))
 
-  none-queued : {M : Type 0} (way : Way) (xs : List (AnyStanding M)) → ((k : ℕ) → all_of owns xs k ≡ 0) → messages_queued way (map (module_in s) xs) ≡ []
+  none-queued : {M : Type 0} (way : Way) (xs : List (AnyStanding M)) → ((k : ℕ) → all_of owns xs k ≡ 0) → messages_queued way (map (module_in s) xs)
+      ≡ []
   none-queued way [] none = refl
   none-queued way (x ∷ xs) none =
       ap (λ queues. messages_queued way (map (module_in s) (standing x.module queues ∷ xs))) (first-none x xs none)
@@ -131,7 +132,8 @@ module _ (s : StoreValue) (first : ℕ) where
       spare = λ k low high none. are.spare k low high (omega (arith, none, same-below k));
     }
 
-  pub stack-shown : {M : Type 0} (xs : List (AnyStanding M)) → AreHeld IsHeld owns s xs → AreFor s first (all_of owns xs) → AreShown s first (map (module_in s) xs)
+  pub stack-shown : {M : Type 0} (xs : List (AnyStanding M)) → AreHeld IsHeld owns s xs → AreFor s first (all_of owns xs)
+      → AreShown s first (map (module_in s) xs)
   stack-shown [] held are =
       let none = are.spare first (omega arith) (omega arith) refl in
       let last = are.spare (first + 1) (omega arith) (omega arith) refl in

@@ -29,7 +29,8 @@ returns-in-Ptem g c = rw c.in-Ptem.is (record {
 })
 
 pub returns-in-Pckt : goal.returns-in-Pckt
-returns-in-Pckt g c = rw c.in-Pckt.is (record { known = refl; made = λ s. refl; fresh = record { held = λ s queues has. none-are queues has; rests = λ i. refl } })
+returns-in-Pckt g c =
+    rw c.in-Pckt.is (record { known = refl; made = λ s. refl; fresh = record { held = λ s queues has. none-are queues has; rests = λ i. refl } })
 
 -- one of a user's own, where there are some of its number
 pub returns-in-Some : goal.returns-in-Some
