@@ -23,7 +23,8 @@ later-same : (again : Bool) (m n : ℕ) (sent : List (Parcel ℕ)) → (again �
 later-same true m n sent same = ap (λ k. later_cost true k sent) (same refl)
 later-same false m n sent same = refl
 
-module _ {M X P : Type 0} (wrap : X → AnyModule M) (made : P → Module ℕ) (in_itself : StoreValue → X → P) (IsHeld : StoreValue → X → Option QueuePair → Type 0) (keeps : X → ℕ → ℕ) where
+module _ {M X P : Type 0} (wrap : X → AnyModule M) (made : P → Module ℕ) (in_itself : StoreValue → X → P)
+    (IsHeld : StoreValue → X → Option QueuePair → Type 0) (keeps : X → ℕ → ℕ) where
   pub record IsKind : Type 0 where
     pub shows : (s : StoreValue) (x : X) → kind_in s (wrap x) ≡ made (in_itself s x)
     pub fits : (s : StoreValue) (x : X) (queues : Option QueuePair) → IsHeld s x queues → IsKindHeld s (wrap x) queues
@@ -42,7 +43,8 @@ module _ {M X P : Type 0} (wrap : X → AnyModule M) (made : P → Module ℕ) (
     kind-fits s any x q is held = record { queues = held.queues; itself = kind.back s x q (subst (λ m. IsKindHeld s m q) is held.itself) }
 
     -- its put
-    pub kind-puts : (s t : StoreValue) (x y : X) (q r : Option QueuePair) (holds : Bool) (message most : ℕ) (acts : Acts) (f f' : Fates) (is : Acted ℕ (plain.Standing P ℕ))
+    pub kind-puts : (s t : StoreValue) (x y : X) (q r : Option QueuePair) (holds : Bool) (message most : ℕ) (acts : Acts) (f f' : Fates)
+    (is : Acted ℕ (plain.Standing P ℕ))
         → Puts (standing_in in_itself) (Fits IsHeld) owns (keeps_of keeps) s t (standing x q) (standing y r) holds message most acts f f' is
         → Puts (standing_in kind_in) (Fits IsKindHeld) owns (keeps_of kind_keeps) s t (standing (wrap x) q) (standing (wrap y) r) holds message most acts f f'
         (done_by (of_kind made) is)

@@ -251,8 +251,11 @@ head-held s p side r h is same held =
 pub stack-there : {M : Type 0} (p : Streams M) (side : Side) (r : StreamEnd M) (y : Stack M) → r ≡ end_at side p
     → let q = with_end side (record r { stack = y }) p in ((end_at side q).stack ≡ y) × (q ≡ with_end side (record (end_at side p) { stack = (end_at side q).stack }) p)
 stack-there p side r y is =
-    let there = ap (λ (e : StreamEnd _). e.stack) (get-set-same side (record r { stack = y }) p.ends) in
-    (there, ap (λ (e : StreamEnd _). with_end side (record e { stack = y }) p) is ∙ ap (λ z. with_end side (record (end_at side p) { stack = z }) p) (sym there))
+    let there = ap (λ (e : StreamEnd _). e.stack) (get-set-same side (record r { stack = y }) p.ends) in (
+      there,
+      ap (λ (e : StreamEnd _). with_end side (record e { stack = y }) p) is ∙ ap (λ z. with_end side (record (end_at side p) { stack = z }) p)
+          (sym there),
+    )
 
 -- a stream that is put where it stands
 pub same-end : {M : Type 0} (side : Side) (p : Streams M) → with_end side (end_at side p) p ≡ p

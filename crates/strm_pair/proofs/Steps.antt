@@ -82,7 +82,8 @@ on-told K s p j b limits fates past kept is =
     ap (λ t. begun_at t fates past) kept.replayed ∙ ap (λ f. begun_at (led_to K b j) f past) kept.told ∙ ap (λ es. begun_at (led_to K b j) (told_by K plain b.state (journal_of j) b.fates) es) is
 
 -- a base that has gone on to where the journal led, and an empty journal
-module _ {M : Type 0} (K : Behaviour) (s : StoreValue) (p : Streams M) (j k : Journal) (b c : Start) (limits : Config) (fates : Fates) (kept : IsKept K s p j b limits fates)
+module _ {M : Type 0} (K : Behaviour) (s : StoreValue) (p : Streams M) (j k : Journal) (b c : Start) (limits : Config) (fates : Fates)
+    (kept : IsKept K s p j b limits fates)
     (on : c ≡ led_on K (journal_of j) b) (empty : journal_of k ≡ []) where
   here : c.state ≡ state_in s p
   here = ap (λ (t : Start). t.state) on ∙ sym kept.replayed

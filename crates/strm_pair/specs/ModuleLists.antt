@@ -58,7 +58,8 @@ module _ (s : StoreValue) (first : ℕ) where
       ∙ none-queued way xs (λ k. omega (arith, none k, sum_by-cons (λ y. owns y k) x xs))
 
   -- where the lists of a pair of queues stand
-  module _ {M : Type 0} (x : AnyModule M) (pair : QueuePair) (xs : List (AnyStanding M)) (are : AreFor s first (all_of owns (standing x (Some pair) ∷ xs))) where
+  module _ {M : Type 0} (x : AnyModule M) (pair : QueuePair) (xs : List (AnyStanding M))
+      (are : AreFor s first (all_of owns (standing x (Some pair) ∷ xs))) where
     abbrev reads : ℕ
     reads = pair.read.list
 

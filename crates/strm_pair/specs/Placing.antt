@@ -53,7 +53,8 @@ pub record AreModuleTexts (K : Behaviour) (ms : List ModuleText) : Type 0 where
   pub names : EachOnce (names_now ms)
 
 -- Modules stand as a text has them, the one on top first. While none has queues, the lists for these are empty, and their tables are on the shelf.
-pub record AreStacked {M : Type 0} (old new : StoreValue) (first : ℕ) (ms : List ModuleText) (xs : List (AnyStanding M)) (shelf : Option Tables) : Type 0 where
+pub record AreStacked {M : Type 0} (old new : StoreValue) (first : ℕ) (ms : List ModuleText) (xs : List (AnyStanding M))
+    (shelf : Option Tables) : Type 0 where
   pub state : map (module_in new) xs ≡ modules_now ms
   pub held : AreHeld IsHeld owns new xs
   pub rests : (i : ℕ) → all_of keeps xs i ≡ 0

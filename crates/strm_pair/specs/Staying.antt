@@ -32,4 +32,5 @@ pub comes-on : (K : Behaviour) (to : Spot) (m : Message ℕ) (s : State ℕ) →
     → let t = put_in K plain to m s in StaysAlone ComesToStand t.state t.sent
 comes-on K to m s is =
     let t = put_in K plain to m s in
-    sent-stays to t.state t.sent (puts-go to m is.held K s) (kept-ahead to.way to.side s t.state (puts-same K to m s) (puts-stand-there K to m s) is.kept)
+    sent-stays to t.state t.sent (puts-go to m is.held K s)
+    (kept-ahead to.way to.side s t.state (puts-same K to m s) (puts-stand-there K to m s) is.kept)

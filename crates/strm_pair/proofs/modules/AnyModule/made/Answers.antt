@@ -36,7 +36,8 @@ returns-in-Pckt g c =
 pub returns-in-Some : goal.returns-in-Some
 returns-in-Some g c =
     let K = g.M.Behaves.does in
-    let made = subst (λ (o : Option Own). MatchOption o (K.knows c.in-Own.number ≡ false) (λ x. (K.knows c.in-Own.number ≡ true) × (x ≡ fresh_own K c.in-Own.number))) c.in-Some.is c.made.ensures in
+    let made = subst (λ (o : Option Own). MatchOption o (K.knows c.in-Own.number ≡ false)
+    (λ x. (K.knows c.in-Own.number ≡ true) × (x ≡ fresh_own K c.in-Own.number))) c.in-Some.is c.made.ensures in
     rw c.in-Own.is (record {
       known = made.0;
       made = λ s. ap OfOwn made.1;
@@ -47,4 +48,5 @@ pub returns-in-None : goal.returns-in-None
 returns-in-None g c =
     let K = g.M.Behaves.does in
     rw c.in-Own.is
-    (subst (λ (o : Option Own). MatchOption o (K.knows c.in-Own.number ≡ false) (λ x. (K.knows c.in-Own.number ≡ true) × (x ≡ fresh_own K c.in-Own.number))) c.in-None.is c.made.ensures)
+    (subst (λ (o : Option Own). MatchOption o (K.knows c.in-Own.number ≡ false)
+    (λ x. (K.knows c.in-Own.number ≡ true) × (x ≡ fresh_own K c.in-Own.number))) c.in-None.is c.made.ensures)

@@ -31,7 +31,8 @@ new-requires g c =
 pub returns-in_default-new-clause-einval : goal.returns-in_default-new-clause-einval
 returns-in_default-new-clause-einval g c =
     let K = g.M.Behaves.does in
-    not-einval c.args.text.now c.in-Some.found c.in-Some.ensures.found (Some NoMemory) K (sym c.all_known.ensures ∙ c.if-not-all_known.false) (λ e. cc)
+    not-einval c.args.text.now c.in-Some.found c.in-Some.ensures.found (Some NoMemory) K (sym c.all_known.ensures ∙ c.if-not-all_known.false)
+    (λ e. cc)
 
 pub returns-in_default-new-clause-enosr : goal.returns-in_default-new-clause-enosr
 returns-in_default-new-clause-enosr g c =

@@ -72,7 +72,8 @@ loop-call-smaller g c =
     let st = state_in (g.B.Blocks.value l.store) l.self in
     let behind = state_in (g.B.Blocks.value m.new.store) m.new.self in
     let f = c.args.told.now in
-    let on : GoOn K here l.bytes st0 st f l.told = subst (λ more. Along K more here l.bytes st0 st f l.told) c.loop-call-test.true l.invariant.along in
+    let on : GoOn K here l.bytes st0 st f l.told = subst (λ more. Along K more here l.bytes st0 st f l.told) c.loop-call-test.true
+    l.invariant.along in
     let closer = comes-closer here K st0 true l.bytes on.gone st behind on.reached m.result e.itself e.state f l.told m.new.told on.tells e.tells e.left m.result.again refl in
     subst (λ n. still_to_come m.result.again here behind < n) (sym (ap (λ more. still_to_come more here st) c.loop-call-test.true)) closer
 
@@ -87,8 +88,10 @@ loop-call-preserved g c =
     let st = state_in (g.B.Blocks.value l.store) l.self in
     let behind = state_in (g.B.Blocks.value m.new.store) m.new.self in
     let f = c.args.told.now in
-    let on : GoOn K here l.bytes st0 st f l.told = subst (λ more. Along K more here l.bytes st0 st f l.told) c.loop-call-test.true l.invariant.along in
-    let since : Since here true l.bytes st0 st = record { all = on.all; full = λ first. absurd (false≢true (sym first)); opened = on.opened; stands = on.stands } in
+    let on : GoOn K here l.bytes st0 st f l.told = subst (λ more. Along K more here l.bytes st0 st f l.told) c.loop-call-test.true
+    l.invariant.along in
+    let since : Since here true l.bytes st0 st = record
+    { all = on.all; full = λ first. absurd (false≢true (sym first)); opened = on.opened; stands = on.stands } in
     record {
       few = few-along here true m.result st e.itself on.reached.inside (full-at here (g.B.Blocks.value l.store) l.self (l.invariant.beside here.side).stack) l.bytes st0 (g.B.Blocks.value m.new.store) since e.few m.result.again refl;
       along = along here K st0 true l.bytes on.gone st behind on.reached m.result e.itself e.state f l.told m.new.told on.tells e.tells e.left on.count on.few on.left since

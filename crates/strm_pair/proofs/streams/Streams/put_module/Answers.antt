@@ -88,11 +88,13 @@ returns-clause-does g c =
     let b = between c.of-before.result.from_slave f'.made_from_slave in
     let a_is = ap (λ k. between k f'.made_from_master) first ∙ put-between to m st small K MasterToSlave f f' (omega (arith, few.0, first)) (omega (arith, few.1, second)) tells in
     let b_is = ap (λ k. between k f'.made_from_slave) second ∙ put-between to m st small K SlaveToMaster f f' (omega (arith, few.0, first)) (omega (arith, few.1, second)) tells in
-    let at : Streams _ → Streams _ = λ z. record z { enabled = noted to.side place earlier acts.notes.items z.enabled; books = with_more a b z.books } in
+    let at : Streams _ → Streams _ = λ z. record z
+    { enabled = noted to.side place earlier acts.notes.items z.enabled; books = with_more a b z.books } in
     module-by K s t p c.book_made.new.self x i to place earlier acts f f' a b
     c.audit.ensures c.requires.may.can_put place_is (λ way. before-stays s t p y to.side way to.at (c.requires.may.beside to.side).stack e.takes.held names) c.requires.may.beside e.takes a_is b_is
     (c.book_made.ensures
-    ∙ ap (λ (z : Streams _). record z { books = with_more a b z.books }) (c.note.ensures t ∙ ap (λ ns. record y { enabled = noted to.side place earlier ns y.enabled }) c.as_slice.ensures.value)
+    ∙ ap (λ (z : Streams _). record z { books = with_more a b z.books })
+    (c.note.ensures t ∙ ap (λ ns. record y { enabled = noted to.side place earlier ns y.enabled }) c.as_slice.ensures.value)
     ∙ ap at e.streams)
 
 pub returns-clause-blocks : goal.returns-clause-blocks
@@ -100,5 +102,6 @@ returns-clause-blocks g c = λ is.
     let s = g.B.Blocks.value c.args.store.now in
     let to = c.args.to in
     let ms = modules_in s (end_at to.side c.args.self.now).stack in
-    let kept = ap (λ ps. list_all name_holds (map module_name ps)) (sym (modules-are s c.args.self.now to.side)) ∙ stands-kept to.side (state_in s c.args.self.now) is.kept.kept in
+    let kept = ap (λ ps. list_all name_holds (map module_name ps)) (sym (modules-are s c.args.self.now to.side)) ∙ stands-kept to.side
+    (state_in s c.args.self.now) is.kept.kept in
     c.put_on_stack-acts.ensures.takes.blocks (place-holds (to.at - 1) ms kept) is.held

@@ -12,7 +12,9 @@ pub push_named-requires-clause-may_stand : goal.push_named-requires-clause-may_s
 push_named-requires-clause-may_stand g c =
     let K = g.M.Behaves.does in
     let s = g.B.Blocks.value c.args.store.now in
-    ap (λ ms. may_stand (named_by K (Some c.args.name)) ms) (ap (λ (e : StreamEnd _). modules_in s e.stack) c.get_mut-end.ensures.value ∙ sym (modules-are s c.args.self.now c.args.side)) ∙ c.requires.may_stand
+    ap (λ ms. may_stand (named_by K (Some c.args.name)) ms)
+    (ap (λ (e : StreamEnd _). modules_in s e.stack) c.get_mut-end.ensures.value ∙ sym (modules-are s c.args.self.now c.args.side)) ∙
+    c.requires.may_stand
 
 pub push_named-requires-clause-held : goal.push_named-requires-clause-held
 push_named-requires-clause-held g c = rw c.get_mut-end.ensures.value (c.requires.held.beside c.args.side).stack

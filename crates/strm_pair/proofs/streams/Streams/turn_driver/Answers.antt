@@ -113,5 +113,6 @@ returns-then-not-is_open-clause-delivers g c =
     let q = c.keep-then-not-is_open.new.self in
     let x_is = c.end-across.ensures.end ∙ ap (λ sd. end_at sd p) c.other-above.ensures in
     let closed = sym c.is_open.ensures ∙ c.if-not-is_open.true in
-    let is = turned-closed K s p c.args.side c.end.result.now c.end-across.result.now c.end.ensures.end x_is closed c.in-Some.first c.in-Some.ensures in
+    let is = turned-closed K s p c.args.side c.end.result.now c.end-across.result.now c.end.ensures.end x_is closed c.in-Some.first
+    c.in-Some.ensures in
     subst (λ (o : TurnOutcome ℕ). Delivers s s p q f f o.state o.gone 8) (sym is) (stays-put c.args.side false s p q f c.requires.rests.held c.keep-then-not-is_open.ensures)

@@ -87,7 +87,8 @@ returns-in-Serves-clause-few g c =
     let begun = state_in s c.begin_module_turn.new.self in
     let st = state_in (g.B.Blocks.value on.new.store) on.new.self in
     let new = state_in (g.B.Blocks.value on.new.store) c.end_module_turn.new.self in
-    let is = turned-by K c.args.name c.in-Serves.here on.result old begun st c.args.told.now on.new.told c.in-Serves.ensures.begins on.ensures.treats in
+    let is = turned-by K c.args.name c.in-Serves.here on.result old begun st c.args.told.now on.new.told c.in-Serves.ensures.begins
+    on.ensures.treats in
     let shows : new ≡ (module_turned K plain c.args.name (Moved on.result) old).state =
     c.end_module_turn.ensures.state ∙ ap (λ took. module_turn_ended c.args.name c.in-Serves.here took st) (some-taken on.result) ∙ sym (ap (λ (t : TurnOutcome ℕ). t.state) is) in
     let ended = ended-books plain c.in-Serves.here c.args.name (not (on.result == 0)) st in
