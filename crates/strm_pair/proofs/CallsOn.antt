@@ -60,8 +60,8 @@ begun-few (Answered echo) l = omega arith
 abbrev pub Full : Standing ℕ → Type 0
 Full p = FullFirst (discipline_of p).read_queue.messages × FullFirst (discipline_of p).write_queue.messages × HasAsNamed p
 
--- What holds of the calls so far: what they treated and what is left are the message, as it was, no side was opened or closed, and the same modules stand
--- there.
+-- What holds of the calls so far: what they treated and what is left are the message, as it was, no side was opened or closed, and the same
+-- modules stand there.
 pub record Since (here : Spot) (again : Bool) (bytes : ℕ) (s0 s : State ℕ) : Type 0 where
   pub all : bytes_left here.way false (discipline_of (module_at here s0)) ≤ bytes + bytes_left here.way again (discipline_of (module_at here s))
   pub full : again ≡ false → Full (module_at here s)
@@ -126,7 +126,8 @@ module _ (here : Spot) where
         let same = tells.bytes ∙ ap (λ o. treated here again o ps) on.stop in
         let gone_is : gone ++ (led K here again None s).gone ≡ gone ++ (led K here again (stop_in call) s).gone = ap (λ o. gone ++ (led K here again o s).gone) (sym on.stop) in
         let state_is : (led K here again None s).state ≡ st = ap (λ o. (led K here again o s).state) (sym on.stop) ∙ sym state in
-        let at = subst (λ n. Reached here s0 K true (bytes + n) (gone ++ (led K here again None s).gone) (led K here again None s).state) (sym same) next in
+        let at = subst (λ n. Reached here s0 K true (bytes + n) (gone ++ (led K here again None s).gone) (led K here again None s).state) (sym same)
+        next in
         let there = subst (λ v. Reached here s0 K true (bytes + call.bytes) (gone ++ (led K here again None s).gone) v) state_is at in
         record {
           gone = gone ++ (led K here again (stop_in call) s).gone;
@@ -155,7 +156,8 @@ module _ (here : Spot) where
           gone = all;
           within = omega (arith, (last any_name).0, same);
           some = went;
-          stands = subst (λ v. here.at - 1 < length (stream here.side v).modules) (sym state) (omega (arith, r.inside, led-length here K again stop s));
+          stands =
+              subst (λ v. here.at - 1 < length (stream here.side v).modules) (sym state) (omega (arith, r.inside, led-length here K again stop s));
           moves = λ name. ap (λ n. moved_on K plain here name n s0) (sym same) ∙ (last name).1 ∙ ap (λ n. to name n (led K here again stop s).state) same ∙ ap (to name (bytes + call.bytes)) (sym state);
           tells = told-on;
           left = omega (arith, held, falls, few, done-few (discipline_of (module_at here s)).stage);

@@ -19,7 +19,8 @@ module _ (K : Behaviour) (bytes : List ℕ) (limits : Config) where
     state-back (Err e) was = tt
 
     pub gone-back : {E : Type 0} (r : Result PairState E) → IfOk r Was → IfOk r (λ p. counts_of p.fates ≡ x.fates)
-    gone-back (Ok p) was = ap (λ (q : PairState). counts_of q.fates) was.1.1 ∙ ap (λ (y : Imaged). y.fates) (same-image bytes was.0 x was.1.0.image is)
+    gone-back (Ok p) was =
+        ap (λ (q : PairState). counts_of q.fates) was.1.1 ∙ ap (λ (y : Imaged). y.fates) (same-image bytes was.0 x was.1.0.image is)
     gone-back (Err e) was = tt
 
   pub image-back : (x : Imaged) (p : PairState) → IsTextOf image bytes (Second, x) → Was p → image.text (Second, imaged p.state p.fates) ≡ bytes

@@ -34,7 +34,8 @@ module _ {M : Type 0} (s t : StoreValue) (p : Streams M) (at_rest : AreAtRest s 
       → (let is = delivered K plain to (message_of (in_hand t i)) (state_in t p) in Leads t u q f f' is.state is.gone)
       → (let is = delivered K plain to m (state_in s p) in Leads s u q f f' is.state is.gone)
   made-leads K u q f f' to m shows leads =
-      let same = ap (delivered K plain to (message_of (in_hand t i))) made-state ∙ ap (λ (x : Message ℕ). delivered K plain to x (state_in s p)) shows in
+      let same = ap (delivered K plain to (message_of (in_hand t i))) made-state ∙ ap (λ (x : Message ℕ). delivered K plain to x (state_in s p))
+      shows in
       record {
         state = leads.state ∙ ap (λ (o : Carried ℕ (State ℕ)). o.state) same;
         tells = leads.tells ∙ ap (λ (o : Carried ℕ (State ℕ)). tallied o.gone f) same;

@@ -96,7 +96,8 @@ kind-is K (names.Own n) = refl
 pub named-known : (K : Behaviour) (name : ModuleName) → is_known K name ≡ true → named_by {C = ℕ} K (Some name) ≡ Some (module_named K name)
 named-known K name known = ap (λ (b : Bool). cond b (Some (module_named K name)) None) known
 
-pub stands-known : (K : Behaviour) (name : ModuleName) (ms : List (Standing ℕ)) → may_stand (named_by K (Some name)) ms ≡ true → is_known K name ≡ true
+pub stands-known : (K : Behaviour) (name : ModuleName) (ms : List (Standing ℕ)) → may_stand (named_by K (Some name)) ms ≡ true → is_known K name
+    ≡ true
 stands-known K name ms may = by (is_known K name) may
   where
     by : (known : Bool) → may_stand (cond known (Some (module_named K name)) None) ms ≡ true → known ≡ true
@@ -108,7 +109,8 @@ pub may-known : (K : Behaviour) (name : ModuleName) (ms : List (Standing ℕ))
     → (is_known K name && (nat_lt (length ms) MODULES && not (stands module_name name ms))) ≡ may_stand (named_by K (Some name)) ms
 may-known K name ms = by (is_known K name)
   where
-    by : (known : Bool) → (known && (nat_lt (length ms) MODULES && not (stands module_name name ms))) ≡ may_stand (cond known (Some (module_named K name)) None) ms
+    by : (known : Bool) → (known && (nat_lt (length ms) MODULES && not (stands module_name name ms)))
+        ≡ may_stand (cond known (Some (module_named K name)) None) ms
     by true = ap (λ name. nat_lt (length ms) MODULES && not (stands module_name name ms)) (sym (kind-is K name))
     by false = refl
 

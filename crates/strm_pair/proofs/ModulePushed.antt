@@ -58,7 +58,8 @@ module _ (s : StoreValue) where
   queues-alone K names.Pckt xs held may is k = absurd (cc)
   queues-alone K (names.Own n) xs held may is k = absurd (cc)
 
-  module _ {M : Type 0} (K : Behaviour) (first : ℕ) (kind : ModuleName) (a b : Stack (AnyModule M)) (x : AnyStanding M) (before : AreHeld IsHeld owns s a.modules.items)
+  module _ {M : Type 0} (K : Behaviour) (first : ℕ) (kind : ModuleName) (a b : Stack (AnyModule M)) (x : AnyStanding M)
+      (before : AreHeld IsHeld owns s a.modules.items)
       (may : may_stand (named_by K (Some kind)) (map (module_in s) a.modules.items) ≡ true)
       (spare : (k : ℕ) → first + 2 ≤ k → k < first + 4 → all_of owns a.modules.items k ≡ 0 → list_at s k ≡ [])
       (made : IsMade K kind x.module) (given : GivenFor kind (first + 2) x.queues)
@@ -78,7 +79,9 @@ module _ (s : StoreValue) where
     empty k some = let own = within k some in spare k own.0 (omega (arith, own.1)) (others-none k some)
 
     state : module_in s x ≡ module_named K kind
-    state = ap (λ part. stood part (queues_in s x.queues)) (made.made s) ∙ ap (λ queues. stood (kind_named K kind) queues) (given-are kind (first + 2) s x.queues given empty)
+    state =
+        ap (λ part. stood part (queues_in s x.queues)) (made.made s) ∙ ap (λ queues. stood (kind_named K kind) queues)
+        (given-are kind (first + 2) s x.queues given empty)
 
     fits : IsHeld s x
     fits = record { queues = given-ready kind (first + 2) s x.queues given empty; itself = made.fresh.held s x.queues given.has }

@@ -169,7 +169,8 @@ module-by K s t p q x i to place earlier acts f f' a b store can place_is earlie
     let same = sym (modules-are s p to.side) in
     let did = taken_at K to m ms in
     let r = stack-acts s t p q x to (once i) (λ j. times_sent j (sent_of acts.sent)) did place earlier acts.notes.items a b store can beside place_is earlier_is
-    (e.state ∙ ap (λ ls. (taken_at K to m ls).state) same) (e.notes ∙ ap (λ ls. (taken_at K to m ls).notes) same) (keep-names K plain 0 (to.at - 1) to m ms)
+    (e.state ∙ ap (λ ls. (taken_at K to m ls).state) same) (e.notes ∙ ap (λ ls. (taken_at K to m ls).notes) same)
+    (keep-names K plain 0 (to.at - 1) to m ms)
     e.held e.own e.hands e.pool a_is b_is q_is in
     let books : (Acted ℕ (List (Standing ℕ))) → Took ℕ (State ℕ) = λ t. module_acted to t st in
     subst (λ w. PutBy s t p q i (at_place (module_takes to m) 0 to.at ms) (sent_of acts.sent) f f' w)

@@ -52,11 +52,13 @@ turned-asks K name at asks turn s idle found is =
     ∙ ap (λ b. cond {A = TurnOutcome ℕ} b (asked_turn K plain (spot_of name at) (at_place (module_asks name.way) asked.Empty at ps) name turn s) (stayed_put Blocked s)) rested
     ∙ ap (λ a. asked_turn K plain (spot_of name at) a name turn s) (sym is)
 
-pub turned-waits : (K : Behaviour) (name : QueueName) (at : ℕ) (band : Band) (turn : Turn) (s : State ℕ) → has_room_past name.side name.way at band.0 s ≡ false
+pub turned-waits : (K : Behaviour) (name : QueueName) (at : ℕ) (band : Band) (turn : Turn) (s : State ℕ)
+    → has_room_past name.side name.way at band.0 s ≡ false
     → asked_turn K plain (spot_of name at) (asked.Room band) name turn s ≡ stayed_at Blocked (spot_of name at) (writer_waits name.side name.way at band.0 s)
 turned-waits K name at band turn s none = ap (λ b. cond {A = TurnOutcome ℕ} b (moved_within K plain (spot_of name at) name turn s) (stayed_at Blocked (spot_of name at) (writer_waits name.side name.way at band.0 s))) none
 
-pub turned-room : (K : Behaviour) (name : QueueName) (at : ℕ) (band : Band) (turn : Turn) (s : State ℕ) → has_room_past name.side name.way at band.0 s ≡ true
+pub turned-room : (K : Behaviour) (name : QueueName) (at : ℕ) (band : Band) (turn : Turn) (s : State ℕ)
+    → has_room_past name.side name.way at band.0 s ≡ true
     → asked_turn K plain (spot_of name at) (asked.Room band) name turn s ≡ moved_within K plain (spot_of name at) name turn s
 turned-room K name at band turn s room = ap (λ b. cond {A = TurnOutcome ℕ} b (moved_within K plain (spot_of name at) name turn s) (stayed_at Blocked (spot_of name at) (writer_waits name.side name.way at band.0 s))) room
 

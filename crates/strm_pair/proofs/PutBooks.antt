@@ -68,7 +68,8 @@ module _ (K : Behaviour) (side : Side) (prio : Prio) (control body : Option (Lis
         ∙ sym (ap (λ (x : Carried ℕ (State ℕ)). tallied x.gone old) put-is)
 
 -- what was written before stays in a delivery, and more is written than made
-pub sent-written : (K : Behaviour) (to : Spot) (m : Message ℕ) (dir : Dir) (s : State ℕ) → (book dir (delivered K plain to m s).state).written ≡ (book dir s).written
+pub sent-written : (K : Behaviour) (to : Spot) (m : Message ℕ) (dir : Dir) (s : State ℕ) → (book dir (delivered K plain to m s).state).written
+    ≡ (book dir s).written
 sent-written K to m dir s = (delivered-books plain K to m s).written dir
 
 pub written-spare : (dir : Dir) (n : ℕ) (s : State ℕ) → spare (with_book dir (with_written n (book dir s)) s) ≡ spare s

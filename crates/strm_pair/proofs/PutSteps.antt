@@ -120,10 +120,12 @@ can-alone : (s : StoreValue) (m : ℕ) (keeps : ℕ → ℕ) → CanPut s m keep
 can-alone s m keeps can = record { apart = λ i. omega (arith, can.apart i) }
 
 -- the stacks stay where a head changes, or a driver
-kept-head : {M : Type 0} (p : Streams M) (side : Side) (h : heads.Head) (i : ℕ) → kept_by (with_end side (record (end_at side p) { head = h }) p) i ≡ kept_by p i
+kept-head : {M : Type 0} (p : Streams M) (side : Side) (h : heads.Head) (i : ℕ) → kept_by (with_end side (record (end_at side p) { head = h }) p) i
+    ≡ kept_by p i
 kept-head p side h i = kept-with side (record (end_at side p) { head = h }) p i ∙ sym (kept-parts side p i)
 
-kept-driver : {M : Type 0} (p : Streams M) (side : Side) (d : Queue) (i : ℕ) → kept_by (with_end side (record (end_at side p) { driver = d }) p) i ≡ kept_by p i
+kept-driver : {M : Type 0} (p : Streams M) (side : Side) (d : Queue) (i : ℕ) → kept_by (with_end side (record (end_at side p) { driver = d }) p) i
+    ≡ kept_by p i
 kept-driver p side d i = kept-with side (record (end_at side p) { driver = d }) p i ∙ sym (kept-parts side p i)
 
 -- a waiting writer is let go where the head says so
@@ -295,7 +297,8 @@ driver-by side s t p q d i to at across acts f f' store can chain is at_is acros
     })
 
 -- a message goes, and the streams stay
-pub swaps-put : {M : Type 0} (s t : StoreValue) (p : Streams M) (m n k : ℕ) (made : List Sent) (ps : List (Parcel ℕ)) (f f' : Fates) (is : Took ℕ (State ℕ))
+pub swaps-put : {M : Type 0} (s t : StoreValue) (p : Streams M) (m n k : ℕ) (made : List Sent) (ps : List (Parcel ℕ)) (f f' : Fates)
+    (is : Took ℕ (State ℕ))
     → IsStore s → CanPut s m (kept_by p) → AreBeside s p → Swaps s t m n made ps → n ≤ k → state_in s p ≡ is.state → ps ≡ is.sent → f' ≡ tallied is.gone f → PutBy s t p p m k made f f' is
 swaps-put s t p m n k made ps f f' is store can beside swaps le stays sends tells =
     let kept = put-stays s t m n (λ i. times_sent i made) (kept_by p) store can swaps.hands in
@@ -325,7 +328,8 @@ passed-put s p x sent_on f to beside chain on one = record {
 }
 
 -- what takes no more than so much takes no more than what is more
-put-more : {M : Type 0} (s t : StoreValue) (p q : Streams M) (m takes all : ℕ) (sent_on : List Sent) (f f' : Fates) (is : Took ℕ (State ℕ)) → takes ≤ all
+put-more : {M : Type 0} (s t : StoreValue) (p q : Streams M) (m takes all : ℕ) (sent_on : List Sent) (f f' : Fates) (is : Took ℕ (State ℕ)) → takes
+    ≤ all
     → PutBy s t p q m takes sent_on f f' is → PutBy s t p q m all sent_on f f' is
 put-more s t p q m takes all sent_on f f' is low put = record {
   state = put.state;
@@ -413,7 +417,8 @@ behind-put K way s t p q i to sent_on f f' is inside past put =
     (subst (λ w. PutBy s t p q i (behind_takes way to m) sent_on f f' (put_behind w to m st)) (sym is) put))
 
 -- what a head sends down is made
-pub came-put : {M : Type 0} (s t u : StoreValue) (p q : Streams M) (m n k : ℕ) (down : List (Parcel ℕ)) (made : List Sent) (f f' : Fates) (is : Took ℕ (State ℕ))
+pub came-put : {M : Type 0} (s t u : StoreValue) (p q : Streams M) (m n k : ℕ) (down : List (Parcel ℕ)) (made : List Sent) (f f' : Fates)
+    (is : Took ℕ (State ℕ))
     → CanPut s m (kept_by p) → CameBy s t p q m down f f' is → Makes t u n made down → n ≤ k → PutBy s u p q m k made f f' is
 came-put s t u p q m n k down made f f' is can came makes le =
     let can' : CanPut s m (kept_by q) = record { apart = λ i. omega (arith, can.apart i, came.keeps i) } in

@@ -101,7 +101,8 @@ module _ (bytes : List ℕ) (i : ImageText) (found : IsTextOf image bytes (image
   not-enosr free n is m d K other = (λ e. absurd (other e), λ few. absurd (has-blocks bytes i found free n is m d K few))
 
 -- where modules stand there of which there are none, the text is the image of no other state
-module _ (bytes : List ℕ) (i : ImageText) (found : IsTextOf image bytes (image_now i)) (K : Behaviour) (unknown : all_known K (imaged_now i.state).state ≡ false) where
+module _ (bytes : List ℕ) (i : ImageText) (found : IsTextOf image bytes (image_now i)) (K : Behaviour)
+    (unknown : all_known K (imaged_now i.state).state ≡ false) where
   pub none-for : IsNoImage K bytes
   none-for x is = absurd (let never = sym (ap (λ (y : Imaged). all_known K y.state) (one-state bytes i found x is.image) ∙ unknown) ∙ is.known in cc)
 

@@ -20,7 +20,8 @@ all-joined P [] ys all more = more
 all-joined P (x ∷ xs) ys all more = (all.0, all-joined P xs ys all.1 more)
 
 -- what a side's lists show of its stream, while nothing of a turn is under way
-module _ {M : Type 0} (s : StoreValue) (first : ℕ) (e : StreamEnd M) (is : IsSide s first e) (idle : AllByRecursion (λ p. IsAtRest p) (modules_in s e.stack)) where
+module _ {M : Type 0} (s : StoreValue) (first : ℕ) (e : StreamEnd M) (is : IsSide s first e)
+    (idle : AllByRecursion (λ p. IsAtRest p) (modules_in s e.stack)) where
   lists-for : AreFor s (first + 2) (stack_owns e.stack)
   lists-for = record {
     owned = λ k some. let own = is.owned k some in (own.0, omega (arith, own.1));

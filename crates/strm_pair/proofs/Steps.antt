@@ -25,7 +25,8 @@ led-on K s p j k b limits fates entry kept added =
     ap (λ js. replay K plain b.state js) added ∙ replay-append K plain b.state (journal_of j) (entry ∷ []) ∙ ap (λ t. after K plain t entry) (sym kept.replayed)
 
 -- a step to the state behind an entry is one to what the blocks stand for
-pub step-shown : {M : Type 0} (K : Behaviour) (s new : StoreValue) (p q : Streams M) (entry : PlainEntry) → state_in new q ≡ after K plain (state_in s p) entry
+pub step-shown : {M : Type 0} (K : Behaviour) (s new : StoreValue) (p q : Streams M) (entry : PlainEntry) → state_in new q
+    ≡ after K plain (state_in s p) entry
     → Step K plain (state_in s p) entry (after K plain (state_in s p) entry) → Step K plain (state_in s p) entry (state_in new q)
 step-shown K s new p q entry stands step = subst (λ t. Step K plain (state_in s p) entry t) (sym stands) step
 
@@ -81,7 +82,8 @@ on-told K s p j b limits fates past kept is =
     ap (λ t. begun_at t fates past) kept.replayed ∙ ap (λ f. begun_at (led_to K b j) f past) kept.told ∙ ap (λ es. begun_at (led_to K b j) (told_by K plain b.state (journal_of j) b.fates) es) is
 
 -- a base that has gone on to where the journal led, and an empty journal
-module _ {M : Type 0} (K : Behaviour) (s : StoreValue) (p : Streams M) (j k : Journal) (b c : Start) (limits : Config) (fates : Fates) (kept : IsKept K s p j b limits fates)
+module _ {M : Type 0} (K : Behaviour) (s : StoreValue) (p : Streams M) (j k : Journal) (b c : Start) (limits : Config) (fates : Fates)
+    (kept : IsKept K s p j b limits fates)
     (on : c ≡ led_on K (journal_of j) b) (empty : journal_of k ≡ []) where
   here : c.state ≡ state_in s p
   here = ap (λ (t : Start). t.state) on ∙ sym kept.replayed

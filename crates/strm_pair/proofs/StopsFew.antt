@@ -139,13 +139,16 @@ pub acted-stands : (here : Spot) (again : Bool) (stop : Option ℕ) (s : State �
 acted-stands here again stop s =
     let t = called here again stop (stream here.side s).modules in
     acted-holds (Stand (stands_of s)) (λ names v adds is. is) (λ dir n v is. is) here t s
-    (same-names here.side (record (stream here.side s) { modules = t.state }) s (serve-names plain here 0 again stop (here.at - 1) (stream here.side s).modules))
+    (same-names here.side (record (stream here.side s) { modules = t.state }) s
+    (serve-names plain here 0 again stop (here.at - 1) (stream here.side s).modules))
 
-pub led-stands : (K : Behaviour) (here : Spot) (again : Bool) (stop : Option ℕ) (s : State ℕ) → stands_of (led K here again stop s).state ≡ stands_of s
+pub led-stands : (K : Behaviour) (here : Spot) (again : Bool) (stop : Option ℕ) (s : State ℕ) → stands_of (led K here again stop s).state
+    ≡ stands_of s
 led-stands K here again stop s =
     let w = module_acted here (called here again stop (stream here.side s).modules) s in
     let put = put_in K plain in
-    in_turn-holds (Stand (stands_of s)) (carried put HOPS) (carried-holds (Stand (stands_of s)) put (puts-stand (stands_of s) K plain) HOPS) w.sent w.state
+    in_turn-holds (Stand (stands_of s)) (carried put HOPS) (carried-holds (Stand (stands_of s)) put (puts-stand (stands_of s) K plain) HOPS) w.sent
+    w.state
     (acted-stands here again stop s)
 
 pub led-same : (K : Behaviour) (here : Spot) (again : Bool) (stop : Option ℕ) (s : State ℕ) → SameButMade s (led K here again stop s).state
@@ -164,6 +167,6 @@ stopped-stays here again call s tells low begins is less ahead =
     let on = among-on here again call.bytes (here.at - 1) ps low begins ends (omega (arith, bytes, less)) in
     let behind = (module_acted here (called here again (Some call.bytes) ps) s).state in
     let kept = kept-ahead here.way here.side s behind (acted-same here again (Some call.bytes) s).opened
-        (acted-stands here again (Some call.bytes) s) ahead in
+    (acted-stands here again (Some call.bytes) s) ahead in
     subst (λ o. StaysAlone ComesToStand (module_acted here (called here again o ps) s).state (module_acted here (called here again o ps) s).sent) (sym some)
     (sent-stays here behind (called here again (Some call.bytes) ps).sent on kept)

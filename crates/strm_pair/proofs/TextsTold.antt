@@ -23,7 +23,8 @@ module-told K (texts.Ptem p) good known = tt
 module-told K texts.Pckt good known = tt
 module-told K (texts.Own o) good known = record { known = known; few = good.kind.few }
 
-each-told : (K : Behaviour) (ms : List ModuleText) → AllByRecursion GoodModule (map module_now ms) → are_known K (names_now ms) ≡ true → AllByRecursion (IsModuleText K) ms
+each-told : (K : Behaviour) (ms : List ModuleText) → AllByRecursion GoodModule (map module_now ms) → are_known K (names_now ms) ≡ true
+    → AllByRecursion (IsModuleText K) ms
 each-told K [] good known = tt
 each-told K (m ∷ ms) good known =
     let both = and_parts (is_known K (module_name (module_now m))) (are_known K (names_now ms)) known in

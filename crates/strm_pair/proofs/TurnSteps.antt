@@ -106,7 +106,8 @@ serves-moved : (K : Behaviour) (side : Side) (m : Message ℕ) (rest : List (Mes
     → driver_serves K cells.plain side (m ∷ rest) st ≡ moved_across K cells.plain side m rest st
 serves-moved K side m rest st opened goes = rw (opened, goes) refl
 
-serves-closed : (K : Behaviour) (side : Side) (m : Message ℕ) (rest : List (Message ℕ)) (st : State ℕ) → is_open (stream (other side) st).opened ≡ false
+serves-closed : (K : Behaviour) (side : Side) (m : Message ℕ) (rest : List (Message ℕ)) (st : State ℕ) → is_open (stream (other side) st).opened
+    ≡ false
     → driver_serves K cells.plain side (m ∷ rest) st ≡ stayed_put Blocked (with_driver side (held_back (stream side st).driver.queue) st)
 serves-closed K side m rest st closed = rw closed refl
 
@@ -118,7 +119,8 @@ stands-on : {M : Type 0} (s : StoreValue) (p : Streams M) (side : Side) (e : Str
 stands-on s p side e is = ap (λ (q : plain.Queue ℕ). q.messages) (driver-is s p side) ∙ ap (λ (y : StreamEnd _). messages_on s y.driver.list) (sym is)
 
 -- nothing stands there, or the other side isn't open
-pub turned-none : {M : Type 0} (K : Behaviour) (s : StoreValue) (p : Streams M) (side : Side) (e : StreamEnd M) → e ≡ end_at side p → list_at s e.driver.list ≡ []
+pub turned-none : {M : Type 0} (K : Behaviour) (s : StoreValue) (p : Streams M) (side : Side) (e : StreamEnd M) → e ≡ end_at side p
+    → list_at s e.driver.list ≡ []
     → driver_turned K cells.plain side (state_in s p) ≡ stayed_put Idle (with_driver side (record (stream side (state_in s p)).driver.queue { want_read = true }) (state_in s p))
 turned-none K s p side e is none = ap (λ ms. driver_serves K cells.plain side ms (state_in s p)) (stands-on s p side e is ∙ ap (map message_of) none)
 
@@ -143,7 +145,8 @@ module _ {M : Type 0} (s : StoreValue) (p : Streams M) (side : Side) (e x : Stre
   stopped-is : is_stopped_across side (message_of seen.message) (state_in s p) ≡ stops
   stopped-is = sym (seen-stopped s e.driver.list peek seen (full_above side (state_in s p))) ∙ sym asked
 
-  pub turned-stopped : (K : Behaviour) → stops ≡ true → driver_turned K cells.plain side (state_in s p) ≡ stayed_put Blocked (kept_back side peek.band.0 (state_in s p))
+  pub turned-stopped : (K : Behaviour) → stops ≡ true → driver_turned K cells.plain side (state_in s p)
+      ≡ stayed_put Blocked (kept_back side peek.band.0 (state_in s p))
   turned-stopped K stop =
       let held = seen-held s e.driver.list peek seen (full_above side (state_in s p)) (sym asked ∙ stop) in
       ap (λ ms. driver_serves K cells.plain side ms (state_in s p)) stands

@@ -51,7 +51,8 @@ module _ (s : StoreValue) (is : IsStore s) where
     bytes = omega (arith, few-bytes s is q.list 0, bytes-same (list_at s q.list) ready.messages.chains);
   }
 
-  modules-wide : {M : Type 0} (xs : List (AnyStanding M)) → AllByRecursion (IsHeld s) xs → AllByRecursion IsWide (queues_of_modules (map (module_in s) xs))
+  modules-wide : {M : Type 0} (xs : List (AnyStanding M)) → AllByRecursion (IsHeld s) xs
+      → AllByRecursion IsWide (queues_of_modules (map (module_in s) xs))
   modules-wide [] held = tt
   modules-wide (x ∷ xs) held = by x.queues held.0.queues (modules-wide xs held.1)
     where

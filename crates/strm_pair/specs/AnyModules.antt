@@ -104,7 +104,8 @@ module-rested s t (kinds.Ptem x) queues others lists none held = (refl, none-sam
 module-rested s t (kinds.Pckt x) queues others lists none held = (refl, none-same queues others lists held)
 module-rested s t (kinds.Own o) queues others lists none held = (refl, none-same queues others lists held)
 
-pub any-frame : {M : Type 0} (s t : StoreValue) (x : AnyStanding M) → SameOwn s t (owns x) (keeps x) → IsHeld s x → (module_in t x ≡ module_in s x) × IsHeld t x
+pub any-frame : {M : Type 0} (s t : StoreValue) (x : AnyStanding M) → SameOwn s t (owns x) (keeps x) → IsHeld s x
+    → (module_in t x ≡ module_in s x) × IsHeld t x
 any-frame s t x same held = standing-frame kind_in IsKindHeld kind_keeps module-frame s t x same held
 
 -- It has queues where those of its name have.
@@ -121,7 +122,8 @@ kind-has s (kinds.Own x) queues held = ap (λ o. is_some (queues_in s o)) held
 pub any-has : {M : Type 0} (s : StoreValue) (x : AnyStanding M) → IsHeld s x → HasAsNamed (module_in s x)
 any-has s x held = kind-has s x.module x.queues held.itself
 
-pub all-have : {M : Type 0} (s : StoreValue) (xs : List (AnyStanding M)) → AllByRecursion (IsHeld s) xs → AllByRecursion HasAsNamed (map (module_in s) xs)
+pub all-have : {M : Type 0} (s : StoreValue) (xs : List (AnyStanding M)) → AllByRecursion (IsHeld s) xs
+    → AllByRecursion HasAsNamed (map (module_in s) xs)
 all-have s [] held = tt
 all-have s (x ∷ xs) held = (any-has s x held.0, all-have s xs held.1)
 
@@ -143,7 +145,8 @@ pub serves-on : (here : Spot) (again : Bool) (stop : Option ℕ) (p : Module ℕ
 serves-on here again stop (OfLdterm l) queues may = serves-served plain here 0 again stop (disciplined l queues) may
 serves-on here again stop other queues may = tt
 
-pub puts-serve : (K : Behaviour) (here : Spot) (m : Message ℕ) (way : Way) (again : Bool) (p : Module ℕ) (queues : Option (QueuePair ℕ)) → MayServe way again p
+pub puts-serve : (K : Behaviour) (here : Spot) (m : Message ℕ) (way : Way) (again : Bool) (p : Module ℕ) (queues : Option (QueuePair ℕ))
+    → MayServe way again p
     → MayServe way again (module_puts K plain 0 here m (stood p queues)).state.part
 puts-serve K here m way again (OfLdterm l) queues may = puts-served here m way again (disciplined l queues) may
 puts-serve K here m way again other queues may = may

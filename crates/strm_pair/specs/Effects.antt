@@ -31,7 +31,8 @@ pub record Leads {M : Type 0} (old new : StoreValue) (q : Streams M) (told told'
   pub pool : SamePool old new
 
 -- The same where messages were delivered: as many packets as before may be made until a book is full, but for so many.
-pub record Delivers {M : Type 0} (old new : StoreValue) (p q : Streams M) (told told' : Fates) (led : State ℕ) (gone : List (Fate ℕ)) (packets : ℕ) : Type 0 where
+pub record Delivers {M : Type 0} (old new : StoreValue) (p q : Streams M) (told told' : Fates) (led : State ℕ) (gone : List (Fate ℕ))
+    (packets : ℕ) : Type 0 where
   pub leads : Leads old new q told told' led gone
   pub left : spare (state_in old p) ≤ spare (state_in new q) + packets
 

@@ -49,7 +49,8 @@ pub rests : {M : Type 0} (s : StoreValue) (p : Streams M) → AreBeside s p → 
 rests s p beside idle i = omega (arith, none-kept s 0 p.ends.master (beside Master) (idle Master) i, none-kept s 4 p.ends.slave (beside Slave) (idle Slave) i)
 
 -- what the stack of a side keeps, and the other one's
-pub kept-parts : {M : Type 0} (side : Side) (p : Streams M) (i : ℕ) → kept_by p i ≡ stack_keeps (end_at side p).stack i + stack_keeps (end_at (other side) p).stack i
+pub kept-parts : {M : Type 0} (side : Side) (p : Streams M) (i : ℕ) → kept_by p i
+    ≡ stack_keeps (end_at side p).stack i + stack_keeps (end_at (other side) p).stack i
 kept-parts Master p i = refl
 kept-parts Slave p i = omega arith
 
@@ -99,7 +100,8 @@ module _ (s t : StoreValue) where
     pub same-beside : {M : Type 0} (p : Streams M) → AreBeside s p → Stays s t (kept_by p) → AreBeside t p
     same-beside p beside stays = λ side. side-fits (first_list side) (end_at side p) (beside side) (stays-at side p stays)
 
-pub streams-frame : {M : Type 0} (s t : StoreValue) (p : Streams M) → SameFor s t (kept_by p) → AreBeside s p → (state_in t p ≡ state_in s p) × AreBeside t p
+pub streams-frame : {M : Type 0} (s t : StoreValue) (p : Streams M) → SameFor s t (kept_by p) → AreBeside s p
+    → (state_in t p ≡ state_in s p) × AreBeside t p
 streams-frame s t p same beside =
     let stays : Stays s t (kept_by p) = record { mblks = same.mblks; dblks = same.dblks; kept = same.kept } in
     (same-state s t same.lists p beside stays, same-beside s t same.lists p beside stays)

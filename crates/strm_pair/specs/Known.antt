@@ -1,8 +1,7 @@
 -- Whether there are modules of all names on the streams of a state: of those of a user's own there are some of the numbers that the behaviour knows.
 use Rattle.std.specs.Prelude.{ℕ, Bool, ◌&&◌, List, map}
 use Rattle.std.specs.List.{list_all}
-use Rattle.strm_pair.specs.Prelude.{Master, Slave, ModuleName, State, module_name, stream}
-use Rattle.strm_laws.specs.Behaviours.{Behaviour}
+use Rattle.strm_pair.specs.Prelude.{Master, Slave, ModuleName, State, module_name, stream, Behaviour}
 use Rattle.strm_laws.specs.Pushes.{is_known}
 
 abbrev pub are_known : Behaviour → List ModuleName → Bool

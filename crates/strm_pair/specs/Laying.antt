@@ -1,8 +1,8 @@
 -- Streams of a text in a store.
 use Rattle.std.specs.Prelude.{ℕ, ◌≡◌, ◌≤◌, ◌<◌, ◌+◌, length}
 use Rattle.strm_pair.specs.Prelude.{IOCTL_MAX, Openness, AreSignals, is_part_kind, Stream, StoreValue, list_at, StreamText, queue_now, laid_now}
+use Rattle.strm_pair.specs.Prelude.{Behaviour}
 use Rattle.strm_types.specs.Slots.{answer_bytes, map_slot}
-use Rattle.strm_laws.specs.Behaviours.{Behaviour}
 use Rattle.strm_laws.specs.Restorable.{GoodQueue}
 use Rattle.strm_image.specs.Image.{stream_of}
 use Rattle.strm_pair.specs.declared.ends.StreamEnd.{StreamEnd}

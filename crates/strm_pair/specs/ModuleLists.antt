@@ -50,14 +50,16 @@ module _ (s : StoreValue) (first : ℕ) where
       ap (λ queues. queues_of_modules (map (module_in s) (standing x.module queues ∷ xs))) (first-none x xs none)
       ∙ none-queue xs (λ k. omega (arith, none k, sum_by-cons (λ y. owns y k) x xs))
 
-  none-queued : {M : Type 0} (way : Way) (xs : List (AnyStanding M)) → ((k : ℕ) → all_of owns xs k ≡ 0) → messages_queued way (map (module_in s) xs) ≡ []
+  none-queued : {M : Type 0} (way : Way) (xs : List (AnyStanding M)) → ((k : ℕ) → all_of owns xs k ≡ 0) → messages_queued way (map (module_in s) xs)
+      ≡ []
   none-queued way [] none = refl
   none-queued way (x ∷ xs) none =
       ap (λ queues. messages_queued way (map (module_in s) (standing x.module queues ∷ xs))) (first-none x xs none)
       ∙ none-queued way xs (λ k. omega (arith, none k, sum_by-cons (λ y. owns y k) x xs))
 
   -- where the lists of a pair of queues stand
-  module _ {M : Type 0} (x : AnyModule M) (pair : QueuePair) (xs : List (AnyStanding M)) (are : AreFor s first (all_of owns (standing x (Some pair) ∷ xs))) where
+  module _ {M : Type 0} (x : AnyModule M) (pair : QueuePair) (xs : List (AnyStanding M))
+      (are : AreFor s first (all_of owns (standing x (Some pair) ∷ xs))) where
     abbrev reads : ℕ
     reads = pair.read.list
 
@@ -131,7 +133,8 @@ module _ (s : StoreValue) (first : ℕ) where
       spare = λ k low high none. are.spare k low high (omega (arith, none, same-below k));
     }
 
-  pub stack-shown : {M : Type 0} (xs : List (AnyStanding M)) → AreHeld IsHeld owns s xs → AreFor s first (all_of owns xs) → AreShown s first (map (module_in s) xs)
+  pub stack-shown : {M : Type 0} (xs : List (AnyStanding M)) → AreHeld IsHeld owns s xs → AreFor s first (all_of owns xs)
+      → AreShown s first (map (module_in s) xs)
   stack-shown [] held are =
       let none = are.spare first (omega arith) (omega arith) refl in
       let last = are.spare (first + 1) (omega arith) (omega arith) refl in

@@ -71,7 +71,8 @@ pub record TellsAs (here : Spot) (again : Bool) (call : Call) (s : State ℕ) : 
   pub made : made_of (called here again (stop_in call) (stream here.side s).modules).gone ≤ most_made call.bytes
 
 -- A stack of modules served a call at a place.
-pub record StackServes {M : Type 0} (old new : StoreValue) (x y : Stack M) (here : Spot) (again : Bool) (served : Served) (told told' : Fates) : Type 0 where
+pub record StackServes {M : Type 0} (old new : StoreValue) (x y : Stack M) (here : Spot) (again : Bool) (served : Served) (told told' : Fates) : Type
+    0 where
   pub state : modules_in new y ≡ (called here again (stop_of served) (modules_in old x)).state
   pub notes : served.acts.notes.items ≡ (called here again (stop_of served) (modules_in old x)).notes
   pub sent : parcels_in new (sent_of served.acts.sent) ≡ (called here again (stop_of served) (modules_in old x)).sent
@@ -115,7 +116,8 @@ LeavesFew here again call s new =
     OnTrue call.stopped (call.bytes < bytes_left here.way again (discipline_of (module_at here s)) → IsKeptAhead here.way here.side s → least_free new < STOP_BLOCKS)
 
 -- A call did what it says, and what it sent is delivered.
-pub record CallsAs {M : Type 0} (K : Behaviour) (old new : StoreValue) (p q : Streams M) (here : Spot) (again : Bool) (call : Call) (told told' : Fates) : Type 0 where
+pub record CallsAs {M : Type 0} (K : Behaviour) (old new : StoreValue) (p q : Streams M) (here : Spot) (again : Bool) (call : Call)
+    (told told' : Fates) : Type 0 where
   pub state : state_in new q ≡ (led K here again (stop_in call) (state_in old p)).state
   pub tells : told' ≡ tallied (led K here again (stop_in call) (state_in old p)).gone told
   pub itself : TellsAs here again call (state_in old p)

@@ -28,7 +28,8 @@ pub stack-frame : {M : Type 0} (s t : StoreValue) (x : Stack M) → SameOwn s t 
 stack-frame s t x same held = stack-stays module_in IsHeld owns keeps any-frame s t x.modules.items same held
 
 -- where nothing of a turn is under way it keeps nothing
-pub stack-idle : {M : Type 0} (s : StoreValue) (x : Stack M) → IsStackHeld s x → AllByRecursion (λ p. IsAtRest p) (modules_in s x) → (i : ℕ) → stack_keeps x i ≡ 0
+pub stack-idle : {M : Type 0} (s : StoreValue) (x : Stack M) → IsStackHeld s x → AllByRecursion (λ p. IsAtRest p) (modules_in s x) → (i : ℕ)
+    → stack_keeps x i ≡ 0
 stack-idle s x held idle = rests-keep s x.modules.items held.each idle
 
 -- and the two lists that are for it show its queues

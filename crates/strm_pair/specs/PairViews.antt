@@ -33,7 +33,8 @@ pair_of s streams journal base limits fates = record {
 -- The blocks stand for the state to which the journal leads from the base, each entry of it is a legal step, and names a band that queues have; no more
 -- is booked than a ledger can hold; the numbers that are kept beside the blocks are those of the blocks, and nothing is in hand; what has gone is told
 -- by its rules, from what had gone at the base on; and the sizes are those that the pair was made with.
-pub record IsKept {M : Type 0} (K : Behaviour) (s : StoreValue) (streams : Streams M) (journal : Journal) (base : Start) (limits : Config) (fates : Fates) : Type 0 where
+pub record IsKept {M : Type 0} (K : Behaviour) (s : StoreValue) (streams : Streams M) (journal : Journal) (base : Start) (limits : Config)
+    (fates : Fates) : Type 0 where
   pub based : IsBase base.state base.fates
   pub replayed : state_in s streams ≡ led_to K base journal
   pub legal : IsLegal K plain base.state (journal_of journal)
@@ -47,6 +48,7 @@ pub record IsKept {M : Type 0} (K : Behaviour) (s : StoreValue) (streams : Strea
   pub bytes : journal.most_bytes ≡ limits.journal_bytes
 
 -- So it is of each pair from the base of its journal, whose text is written.
-pub record IsWhole {M : Type 0} (K : Behaviour) (s : StoreValue) (streams : Streams M) (journal : Journal) (base : Base) (limits : Config) (fates : Fates) : Type 0 where
+pub record IsWhole {M : Type 0} (K : Behaviour) (s : StoreValue) (streams : Streams M) (journal : Journal) (base : Base) (limits : Config)
+    (fates : Fates) : Type 0 where
   pub kept : IsKept K s streams journal (start_in base) limits fates
   pub written : IsWritten base limits

@@ -2,9 +2,8 @@
 use Rattle.std.specs.Prelude.{ℕ, ◌≡◌, ◌≤◌, ◌+◌, true, List, [], Option, is_some, length, map, sum_by}
 use Rattle.std.specs.List.{AllByRecursion}
 use Rattle.strm_pair.specs.Prelude.{MODULES, EachOnce, StoreValue, list_at, once, all_of, AreHeld, ModuleText, module_now, modules_now, names_now}
-use Rattle.strm_pair.specs.Prelude.{Tables, owns}
+use Rattle.strm_pair.specs.Prelude.{Tables, owns, Behaviour}
 use Rattle.strm_image.specs.declared.modules.ModuleText.TheVariants as texts
-use Rattle.strm_laws.specs.Behaviours.{Behaviour}
 use Rattle.strm_pair.specs.AnyModules.{AnyStanding, IsHeld, keeps, module_in}
 use Rattle.strm_pair.specs.Runs.{Spent}
 use Rattle.strm_pair.specs.Standing.{FillsTwo, IsLdtermText, IsOwnText, ldterm_blocks}
@@ -54,7 +53,8 @@ pub record AreModuleTexts (K : Behaviour) (ms : List ModuleText) : Type 0 where
   pub names : EachOnce (names_now ms)
 
 -- Modules stand as a text has them, the one on top first. While none has queues, the lists for these are empty, and their tables are on the shelf.
-pub record AreStacked {M : Type 0} (old new : StoreValue) (first : ℕ) (ms : List ModuleText) (xs : List (AnyStanding M)) (shelf : Option Tables) : Type 0 where
+pub record AreStacked {M : Type 0} (old new : StoreValue) (first : ℕ) (ms : List ModuleText) (xs : List (AnyStanding M))
+    (shelf : Option Tables) : Type 0 where
   pub state : map (module_in new) xs ≡ modules_now ms
   pub held : AreHeld IsHeld owns new xs
   pub rests : (i : ℕ) → all_of keeps xs i ≡ 0

@@ -39,7 +39,8 @@ abbrev pub taken_at : (K : Behaviour) → Spot → Message ℕ → List (Standin
 taken_at K to m ms = put_among (module_puts K plain 0) (to.at - 1) to m ms
 
 -- A stack of modules took a message at a place.
-abbrev pub StackTakes : {M : Type 0} (K : Behaviour) (old new : StoreValue) → (x y : Stack M) → (message : ℕ) → Spot → Acts → (told told' : Fates) → Type 0
+abbrev pub StackTakes : {M : Type 0} (K : Behaviour) (old new : StoreValue) → (x y : Stack M) → (message : ℕ) → Spot → Acts → (told told' : Fates)
+    → Type 0
 StackTakes K old new x y message to acts told told' =
     let m = message_in old message in
     let ms = modules_in old x in

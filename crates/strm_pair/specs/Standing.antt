@@ -1,11 +1,10 @@
 -- Queues of a text in a store.
 use Rattle.std.specs.Prelude.{ℕ, ◌≡◌, ◌≢◌, ◌≤◌, ◌+◌, Bool, false, true, List, length, slice_index_or, sum_by}
-use Rattle.strm_pair.specs.Prelude.{StoreValue, list_at, IsReady, LdtermText, blocks_of, messages_now}
+use Rattle.strm_pair.specs.Prelude.{StoreValue, list_at, IsReady, LdtermText, blocks_of, messages_now, Behaviour}
 use Rattle.strm_types.specs.declared.keys.TheConstants.{LINE_MAX}
 use Rattle.strm_types.specs.declared.limits.TheConstants.{SETTINGS_MAX}
 use Rattle.strm_types.specs.declared.output.TheConstants.{COLUMN_MAX}
 use Rattle.strm_types.specs.Queue as plain
-use Rattle.strm_laws.specs.Behaviours.{Behaviour}
 use Rattle.strm_image.specs.declared.modules.OwnText.{OwnText}
 use Rattle.strm_queue.specs.declared.queue.Queue.{Queue}
 

@@ -28,7 +28,9 @@ sent-stays to s (x ∷ []) on kept = record {
 sent-stays to s (x ∷ y ∷ more) on kept = absurd on
 
 -- It waits there, or goes on as one.
-pub comes-on : (K : Behaviour) (to : Spot) (m : Message ℕ) (s : State ℕ) → ComesToStand s to m → let t = put_in K plain to m s in StaysAlone ComesToStand t.state t.sent
+pub comes-on : (K : Behaviour) (to : Spot) (m : Message ℕ) (s : State ℕ) → ComesToStand s to m
+    → let t = put_in K plain to m s in StaysAlone ComesToStand t.state t.sent
 comes-on K to m s is =
     let t = put_in K plain to m s in
-    sent-stays to t.state t.sent (puts-go to m is.held K s) (kept-ahead to.way to.side s t.state (puts-same K to m s) (puts-stand-there K to m s) is.kept)
+    sent-stays to t.state t.sent (puts-go to m is.held K s)
+    (kept-ahead to.way to.side s t.state (puts-same K to m s) (puts-stand-there K to m s) is.kept)

@@ -28,9 +28,10 @@ pub record TookFirst {M : Type 0} (side : Side) (old new : StoreValue) (p q : St
   pub frees : FreesBlocks old new
 
 -- A turn moved the first message, with all that this gave rise to.
-pub record MovesAcross {M : Type 0} (K : Behaviour) (side : Side) (old new : StoreValue) (p q : Streams M) (turn : Turn) (told told' : Fates) : Type 0 where
-  pub message : Message ℕ
-  pub rest : List (Message ℕ)
-  pub first : (stream side (state_in old p)).driver.queue.messages ≡ message ∷ rest
-  pub answer : turn ≡ (moved_across K plain side message rest (state_in old p)).turn
-  pub delivers : let is = moved_across K plain side message rest (state_in old p) in Delivers old new p q told told' is.state is.gone 8
+pub record MovesAcross {M : Type 0} (K : Behaviour) (side : Side) (old new : StoreValue) (p q : Streams M) (turn : Turn) (told told' : Fates) : Type 0
+  where
+    pub message : Message ℕ
+    pub rest : List (Message ℕ)
+    pub first : (stream side (state_in old p)).driver.queue.messages ≡ message ∷ rest
+    pub answer : turn ≡ (moved_across K plain side message rest (state_in old p)).turn
+    pub delivers : let is = moved_across K plain side message rest (state_in old p) in Delivers old new p q told told' is.state is.gone 8

@@ -70,7 +70,12 @@ fn made_of(fates: &Fates) -> Both<u64>
 
 impl Base {
     /// A base at what streams over their store stand for, with what has gone by each rule; no entry led to it. The cost is that of the image.
-    pub fn at<B: Blocks, M: OwnModule>(store: &B, streams: &Streams<M>, fates: &Fates, memory: Vec<u8>) -> Base
+    pub fn at<B: Blocks, M: OwnModule>(
+        store: &B,
+        streams: &Streams<M>,
+        fates: &Fates,
+        memory: Vec<u8>,
+    ) -> Base
         requires held { AreHeld (B.value store.now) streams.now }
         requires has { HasImage (imaged (state_in (B.value store.now) streams.now) fates.now) }
         requires room { length (image.text (Second, imaged (state_in (B.value store.now) streams.now) fates.now)) ≤ vec_capacity memory }

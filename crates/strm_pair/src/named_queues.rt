@@ -56,7 +56,12 @@ pub(crate) fn sizes_named<B: Blocks, M: OwnModule>(
 }
 
 /// How many bytes the first message on a queue of that module has.
-pub(crate) fn first_size_named<B: Blocks, M: OwnModule>(stack: &Stack<M>, store: &B, place: Place, way: Way) -> usize
+pub(crate) fn first_size_named<B: Blocks, M: OwnModule>(
+    stack: &Stack<M>,
+    store: &B,
+    place: Place,
+    way: Way,
+) -> usize
     requires { IsStackHeld (B.value store.now) stack.now }
     ensures { result ≡ first_size (messages_named place way (modules_in (B.value store.now) stack.now)) }
 {

@@ -21,10 +21,10 @@ use strm_types::{Fates, ModuleName, Spot};
 
 /// The modules of a user's own, all kinds of them: what one is beside the plain bytes that contracts see, and what it does.
 ///
-/// A user says by [`Behaves`] what they do over any cells, with the laws of that: no cell is lost or doubled, and a put keeps within the table of such
-/// modules. A value here is one of them, as it stands on a stream: it has a number, by which it is pushed and found, and bytes that it is set to, at
-/// most `SETTINGS_MAX`, which an image keeps. It has no queues and no line, so nothing waits in it, and a put takes no memory: it hands the message on,
-/// with its bytes changed or not, answers an M_IOCTL in the blocks of that, or frees what it drops and tells the rule.
+/// A user says by [`Behaves`] what they do over any cells, with the laws of that: no cell is lost or doubled, and a put keeps within the table of
+/// such modules. A value here is one of them, as it stands on a stream: it has a number, by which it is pushed and found, and bytes that it is set
+/// to, at most `SETTINGS_MAX`, which an image keeps. It has no queues and no line, so nothing waits in it, and a put takes no block: it hands the
+/// message on, with its bytes changed or not, answers an M_IOCTL in the blocks of that, or frees what it drops and tells the rule.
 ///
 /// `Drop` is derived or written: what a module lets go is the user's to write over.
 pub trait OwnModule: Behaves + Drop {
@@ -36,8 +36,8 @@ pub trait OwnModule: Behaves + Drop {
         ensures { MatchOption result (Self.does.knows number ≡ false)
             (λ x. (Self.does.knows number ≡ true) × (part x ≡ fresh_own Self.does number)) };
 
-    /// One of a number that is set to some bytes, as an image has it: it may be set to any, `SETTINGS_MAX` at most. `None` where there are none of the
-    /// number.
+    /// One of a number that is set to some bytes, as an image has it: it may be set to any, `SETTINGS_MAX` at most. `None` where there are none of
+    /// the number.
     fn restored(number: u8, settings: &[u8]) -> Option<Self>
         requires { length settings.now ≤ SETTINGS_MAX }
         ensures { MatchOption result (Self.does.knows number ≡ false)
@@ -54,7 +54,7 @@ pub trait OwnModule: Behaves + Drop {
         ensures few { length result.now ≤ SETTINGS_MAX };
 
     /// Puts a message in hand here, on its way up or down, and says what is sent on: `put(9E)`. What it drops it tells by its rule. It may be called
-    /// for any message, and finds no block free.
+    /// for any message, and counts on no free block.
     fn put<B: Blocks>(
         &mut self,
         store: &mut B,

@@ -1,5 +1,5 @@
-//! A module of a user's own, as a stream's stack of modules has it (STREAMS Programming Guide, "Modules"). It has no queues and no line, and no turn of it
-//! is ever made.
+//! A module of a user's own, as a stream's stack of modules has it (STREAMS Programming Guide, "Modules"). It has no queues and no line, and no
+//! turn of it is ever made.
 
 use crate::own::{OwnModule, Owned};
 use arrayvec::ArrayVec;

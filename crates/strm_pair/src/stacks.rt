@@ -151,7 +151,8 @@ pub(crate) fn push_named<B: Blocks, M: OwnModule>(
     requires spare { (k : ℕ) → first + 2 ≤ k → k < first + 4 → stack_owns stack.old k ≡ 0 → list_at (B.value store.now) k ≡ [] }
     requires shelf { stack_owns stack.old (first + 2) ≡ 0 → is_some shelf.old ≡ true }
     ensures shelf { stack_owns stack.new (first + 2) ≡ 0 → is_some shelf.new ≡ true }
-    ensures modules { IfSome (named_by M.does (Some name)) (λ p. modules_in (B.value store.now) stack.new ≡ p ∷ modules_in (B.value store.now) stack.old) }
+    ensures modules { IfSome (named_by M.does (Some name))
+        (λ p. modules_in (B.value store.now) stack.new ≡ p ∷ modules_in (B.value store.now) stack.old) }
     ensures held { IsStackHeld (B.value store.now) stack.new }
     ensures owned { (k : ℕ) → 0 < stack_owns stack.new k → (first + 2 ≤ k) × (k < first + 4) }
     ensures spare { (k : ℕ) → first + 2 ≤ k → k < first + 4 → stack_owns stack.new k ≡ 0 → list_at (B.value store.now) k ≡ [] }

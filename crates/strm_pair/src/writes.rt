@@ -47,7 +47,8 @@ impl<M: OwnModule> Streams<M> {
         requires rests { AreAtRest (B.value store.old) self.old }
         requires small { length chunk.now ≤ 256 }
         requires room { HasRoom (B.value store.old) 1 }
-        ensures delivers { let s = B.value store.old in let is = delivered M.does plain (below_head side) (data_message chunk.now) (state_in s self.old) in
+        ensures delivers { let s = B.value store.old in
+            let is = delivered M.does plain (below_head side) (data_message chunk.now) (state_in s self.old) in
             Delivers s (B.value store.new) self.old self.new told.old told.new is.state is.gone 0 }
         ensures spends { Spends (B.value store.old) (B.value store.new) 1 0 }
     {

@@ -69,7 +69,11 @@ fn put_head(out: &mut Sink, head: &Head)
 
 /// Writes the stream of a side between two calls.
 #[tactic(auto, using(strm_image::proofs::SinkRows::put_both, strm_image::proofs::WrittenRows::laid_told))]
-pub(crate) fn put_stream<'a, B: Blocks, M: OwnModule>(store: &B, end: &StreamEnd<M>, out: Sink<'a>) -> Sink<'a>
+pub(crate) fn put_stream<'a, B: Blocks, M: OwnModule>(
+    store: &B,
+    end: &StreamEnd<M>,
+    out: Sink<'a>,
+) -> Sink<'a>
     requires head { IsReady (B.value store.now) end.now.head.queue }
     requires driver { IsReady (B.value store.now) end.now.driver }
     requires stack { IsStackHeld (B.value store.now) end.now.stack }

@@ -17,7 +17,12 @@ use strm_image::writing::{put_account, put_enabled, put_front};
 use strm_types::Fates;
 
 // Writes the image of a pair between two calls: of its streams over their store, and of what has gone by each rule.
-fn put_image<'a, B: Blocks, M: OwnModule>(store: &B, streams: &Streams<M>, fates: &Fates, out: Sink<'a>) -> Sink<'a>
+fn put_image<'a, B: Blocks, M: OwnModule>(
+    store: &B,
+    streams: &Streams<M>,
+    fates: &Fates,
+    out: Sink<'a>,
+) -> Sink<'a>
     requires { AreHeld (B.value store.now) streams.now }
     ensures { result ≡ put (image.text (Second, imaged (state_in (B.value store.now) streams.now) fates.now)) out.entry }
 {
@@ -39,7 +44,12 @@ fn put_image<'a, B: Blocks, M: OwnModule>(store: &B, streams: &Streams<M>, fates
 }
 
 // The same behind what a sink was given before.
-fn put_behind<B: Blocks, M: OwnModule>(store: &B, streams: &Streams<M>, fates: &Fates, out: &mut Sink<'_>)
+fn put_behind<B: Blocks, M: OwnModule>(
+    store: &B,
+    streams: &Streams<M>,
+    fates: &Fates,
+    out: &mut Sink<'_>,
+)
     requires { AreHeld (B.value store.now) streams.now }
     ensures same_reference { sink_name out.new ≡ sink_name out.old }
     ensures text { out.new ≡ put (image.text (Second, imaged (state_in (B.value store.now) streams.now) fates.now)) out.old }

@@ -1,5 +1,5 @@
-//! That the numbers of a pair have the widths that an image has, as their types say, and that there are modules of all names on its streams. Each function
-//! tells what is so, and does nothing.
+//! That the numbers of a pair have the widths that an image has, as their types say, and that there are modules of all names on its streams. Each
+//! function tells what is so, and does nothing.
 
 ghost use Rattle.std.specs.Prelude.{◌≡◌, ◌<◌, ◌^◌, true, map};
 ghost use Rattle.std.specs.List.{AllByRecursion};

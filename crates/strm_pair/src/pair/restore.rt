@@ -79,9 +79,9 @@ impl<B: Blocks + Drop, M: OwnModule> Pair<B, M> {
     /// nothing is in hand. Its journal is empty, and begins at the state of the image. The sizes of its journal are those of `sizes`, its
     /// numbers of blocks are the store's.
     ///
-    /// It is refused where the text is the image of no state, or a module of a user's own stands there of which there are none (EINVAL), where the store has fewer free blocks of a kind than the messages
-    /// of the image take (ENOSR), and where memory is refused, in this order. Then the store comes back as it was. The memory is that of
-    /// [`Pair::new`], and no later call takes any to keep. The cost is in proportion to the text.
+    /// It is refused where the text is the image of no state, or of one with a module of a user's own of which there are none (EINVAL), where the
+    /// store has fewer free blocks of a kind than the messages of the image take (ENOSR), and where memory is refused, in this order. Then the
+    /// store comes back as it was. The memory is that of [`Pair::new`], and no later call takes any to keep. The cost is in proportion to the text.
     pub fn restore(
         alloc: Global,
         sizes: Config,

@@ -32,7 +32,8 @@ pub unreachable-requires-own : goal.unreachable-requires-own
 unreachable-requires-own g c =
     let K = g.M.Behaves.does in
     let o = c.in-Own.found in
-    let unknown = subst (λ (made : Option Own). MatchOption made (K.knows o.number ≡ false) (λ x. (K.knows o.number ≡ true) × (x ≡ record { number = o.number; settings = o.settings.now }))) c.in_default-own.is c.restored.ensures in
+    let unknown = subst (λ (made : Option Own). MatchOption made (K.knows o.number ≡ false)
+    (λ x. (K.knows o.number ≡ true) × (x ≡ record { number = o.number; settings = o.settings.now }))) c.in_default-own.is c.restored.ensures in
     let good = subst (IsModuleText K) c.in-Own.is c.requires.good in
     false≢true (sym unknown ∙ good.known)
 
@@ -41,6 +42,8 @@ returns-in-Own g c =
     let K = g.M.Behaves.does in
     let is = c.in-Own.is in
     let o = c.in-Own.found in
-    let made = subst (λ (made : Option Own). MatchOption made (K.knows o.number ≡ false) (λ x. (K.knows o.number ≡ true) × (x ≡ record { number = o.number; settings = o.settings.now }))) c.in-Some-own.is c.restored.ensures in
-    placed-bare _ c.args.first _ c.args.text.now _ (ap (λ x. alone (OfOwn x)) made.1 ∙ sym (ap module_now is)) (record { queues = tt; itself = refl }) (λ i. refl)
+    let made = subst (λ (made : Option Own). MatchOption made (K.knows o.number ≡ false)
+    (λ x. (K.knows o.number ≡ true) × (x ≡ record { number = o.number; settings = o.settings.now }))) c.in-Some-own.is c.restored.ensures in
+    placed-bare _ c.args.first _ c.args.text.now _ (ap (λ x. alone (OfOwn x)) made.1 ∙ sym (ap module_now is)) (record { queues = tt; itself = refl })
+    (λ i. refl)
     (λ k. sym (ap (own_of c.args.first k) is)) (ap module_blocks is)

@@ -15,4 +15,6 @@ returns-clause-numbers g c = at
 
 pub returns-clause-known : goal.returns-clause-known
 returns-clause-known g c = λ s.
-    ap (λ b. b && are_known g.M.Behaves.does (map module_name (stream Slave (state_in s c.args.streams.now)).modules)) (c.know_end.ensures.known s) ∙ c.know_end-2.ensures.known s
+    let K = g.M.Behaves.does in
+    ap (λ b. b && are_known K (map module_name (stream Slave (state_in s c.args.streams.now)).modules)) (c.know_end.ensures.known s) ∙
+    c.know_end-2.ensures.known s

@@ -29,13 +29,15 @@ returns-in-Ptem g c = rw c.in-Ptem.is (record {
 })
 
 pub returns-in-Pckt : goal.returns-in-Pckt
-returns-in-Pckt g c = rw c.in-Pckt.is (record { known = refl; made = λ s. refl; fresh = record { held = λ s queues has. none-are queues has; rests = λ i. refl } })
+returns-in-Pckt g c =
+    rw c.in-Pckt.is (record { known = refl; made = λ s. refl; fresh = record { held = λ s queues has. none-are queues has; rests = λ i. refl } })
 
 -- one of a user's own, where there are some of its number
 pub returns-in-Some : goal.returns-in-Some
 returns-in-Some g c =
     let K = g.M.Behaves.does in
-    let made = subst (λ (o : Option Own). MatchOption o (K.knows c.in-Own.number ≡ false) (λ x. (K.knows c.in-Own.number ≡ true) × (x ≡ fresh_own K c.in-Own.number))) c.in-Some.is c.made.ensures in
+    let made = subst (λ (o : Option Own). MatchOption o (K.knows c.in-Own.number ≡ false)
+    (λ x. (K.knows c.in-Own.number ≡ true) × (x ≡ fresh_own K c.in-Own.number))) c.in-Some.is c.made.ensures in
     rw c.in-Own.is (record {
       known = made.0;
       made = λ s. ap OfOwn made.1;
@@ -46,4 +48,5 @@ pub returns-in-None : goal.returns-in-None
 returns-in-None g c =
     let K = g.M.Behaves.does in
     rw c.in-Own.is
-    (subst (λ (o : Option Own). MatchOption o (K.knows c.in-Own.number ≡ false) (λ x. (K.knows c.in-Own.number ≡ true) × (x ≡ fresh_own K c.in-Own.number))) c.in-None.is c.made.ensures)
+    (subst (λ (o : Option Own). MatchOption o (K.knows c.in-Own.number ≡ false)
+    (λ x. (K.knows c.in-Own.number ≡ true) × (x ≡ fresh_own K c.in-Own.number))) c.in-None.is c.made.ensures)

@@ -10,8 +10,9 @@ use Rattle.strm_pair.proofs.pair.Pair.ledger.Goals as goal
 
 pub sum-requires : goal.sum-requires
 sum-requires g c =
+    let K = g.M.Behaves.does in
     let p = c.self.inside in
-    let low = elsewhere-few g.M.Behaves.does (g.B.Blocks.value p.store) p.streams p.journal (start_in p.base) p.limits p.fates c.self.invariant.kept c.args.direction in
+    let low = elsewhere-few K (g.B.Blocks.value p.store) p.streams p.journal (start_in p.base) p.limits p.fates c.self.invariant.kept c.args.direction in
     omega (arith, low, ap (λ counts. sum_of counts) c.of-fates.ensures)
 
 pub overflow_add-elsewhere : goal.overflow_add-elsewhere

@@ -19,7 +19,9 @@ returns-then-not-all_known-clause-enosr g c =
     (free_in (g.B.Blocks.value c.args.store))
 
 pub returns-then-mblks-blocks-clause-einval : goal.returns-then-mblks-blocks-clause-einval
-returns-then-mblks-blocks-clause-einval g c = not-einval c.args.text.now c.in-Some.found c.in-Some.ensures.found (Some Enosr) g.M.Behaves.does (sym c.all_known.ensures ∙ c.if-not-all_known.false) (λ e. cc)
+returns-then-mblks-blocks-clause-einval g c =
+    let K = g.M.Behaves.does in
+    not-einval c.args.text.now c.in-Some.found c.in-Some.ensures.found (Some Enosr) K (sym c.all_known.ensures ∙ c.if-not-all_known.false) (λ e. cc)
 
 pub new-requires : goal.new-requires
 new-requires g c =
@@ -27,13 +29,17 @@ new-requires g c =
     omega (arith, c.audit.ensures.few_mblks, mblks-all (g.B.Blocks.value c.args.store) c.args.sizes c.free_blocks-mblks.result.0 c.free_blocks-mblks.result.1 c.requires.lists c.requires.hand free.message_blocks free.data_blocks)
 
 pub returns-in_default-new-clause-einval : goal.returns-in_default-new-clause-einval
-returns-in_default-new-clause-einval g c = not-einval c.args.text.now c.in-Some.found c.in-Some.ensures.found (Some NoMemory) g.M.Behaves.does (sym c.all_known.ensures ∙ c.if-not-all_known.false) (λ e. cc)
+returns-in_default-new-clause-einval g c =
+    let K = g.M.Behaves.does in
+    not-einval c.args.text.now c.in-Some.found c.in-Some.ensures.found (Some NoMemory) K (sym c.all_known.ensures ∙ c.if-not-all_known.false)
+    (λ e. cc)
 
 pub returns-in_default-new-clause-enosr : goal.returns-in_default-new-clause-enosr
 returns-in_default-new-clause-enosr g c =
+    let K = g.M.Behaves.does in
     let free = c.free_blocks-mblks.ensures in
     not-enosr c.args.text.now c.in-Some.found c.in-Some.ensures.found (Some NoMemory) (free_in (g.B.Blocks.value c.args.store)) c.blocks-blocks.result c.blocks-blocks.ensures.value
-    (omega (arith, c.if-mblks-blocks.false, free.message_blocks)) (omega (arith, c.if-dblks-blocks.false, free.data_blocks)) g.M.Behaves.does (λ e. cc)
+    (omega (arith, c.if-mblks-blocks.false, free.message_blocks)) (omega (arith, c.if-dblks-blocks.false, free.data_blocks)) K (λ e. cc)
 
 pub made_of-requires-clause-limits : goal.made_of-requires-clause-limits
 made_of-requires-clause-limits g c =
@@ -43,13 +49,16 @@ made_of-requires-clause-limits g c =
     same ∙ sym (ap (λ (l : Config). sizes_over s l) same)
 
 pub returns-clause-einval : goal.returns-clause-einval
-returns-clause-einval g c = not-einval c.args.text.now c.in-Some.found c.in-Some.ensures.found None g.M.Behaves.does (sym c.all_known.ensures ∙ c.if-not-all_known.false) (λ e. cc)
+returns-clause-einval g c =
+    let K = g.M.Behaves.does in
+    not-einval c.args.text.now c.in-Some.found c.in-Some.ensures.found None K (sym c.all_known.ensures ∙ c.if-not-all_known.false) (λ e. cc)
 
 pub returns-clause-enosr : goal.returns-clause-enosr
 returns-clause-enosr g c =
+    let K = g.M.Behaves.does in
     let free = c.free_blocks-mblks.ensures in
     not-enosr c.args.text.now c.in-Some.found c.in-Some.ensures.found None (free_in (g.B.Blocks.value c.args.store)) c.blocks-blocks.result c.blocks-blocks.ensures.value
-    (omega (arith, c.if-mblks-blocks.false, free.message_blocks)) (omega (arith, c.if-dblks-blocks.false, free.data_blocks)) g.M.Behaves.does (λ e. cc)
+    (omega (arith, c.if-mblks-blocks.false, free.message_blocks)) (omega (arith, c.if-dblks-blocks.false, free.data_blocks)) K (λ e. cc)
 
 pub returns-clause-ok : goal.returns-clause-ok
 returns-clause-ok g c =

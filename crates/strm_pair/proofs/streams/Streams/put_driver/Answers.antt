@@ -23,7 +23,8 @@ returns-clause-does g c =
     let acts = c.put-acts.result in
     let t = g.B.Blocks.value c.put-acts.new.store in
     let f = c.args.told.now in
-    let did : StreamEnd _ → Acted ℕ (Queue ℕ) = λ x. driver_put side c.across-across.result (record c.args.to { at = at }) (message_in s (token c.args.message)) (queue_in s x.driver) in
+    let did : StreamEnd _ → Acted ℕ (Queue ℕ) = λ x. driver_put side c.across-across.result (record c.args.to { at = at })
+    (message_in s (token c.args.message)) (queue_in s x.driver) in
     let is = c.get_mut.ensures.value in
     let e = c.put-acts.ensures in
     let end = record (end_at side p) { driver = c.put-acts.new.queue } in

@@ -51,6 +51,7 @@ with_written-book-requires g c =
 
 pub returns-clause-delivers : goal.returns-clause-delivers
 returns-clause-delivers g c =
+    let K = g.M.Behaves.does in
     let s = g.B.Blocks.value c.args.store.now in
     let made = g.B.Blocks.value c.make_message.new.store in
     let t = g.B.Blocks.value c.deliver_alone.new.store in
@@ -65,16 +66,17 @@ returns-clause-delivers g c =
     let n = c.len_of.result + c.len_of-2.result in
     let sends = c.in-Some.ensures in
     let e = c.deliver_alone.ensures in
-    let sent = made-leads s made p c.requires.may.rests i sends.made.after g.M.Behaves.does t q c.args.told.now c.deliver_alone.new.told to m sends.made.shows e.leads in
+    let sent = made-leads s made p c.requires.may.rests i sends.made.after K t q c.args.told.now c.deliver_alone.new.told to m sends.made.shows e.leads in
     let left = made-left s made p c.requires.may.rests i sends.made.after t q to m 0 sends.made.shows (omega (arith, parts-free c.args.side c.args.prio control body sends.none)) e.takes in
     let kept = c.keep_book.ensures in
     let is = c.with_written-book.ensures ∙ ap (with_written n) (c.book_of.ensures t) in
     let booked = kept.state t ∙ ap (λ (b : Book). with_book dir b (state_in t q)) is in
     record {
       leads = record {
-        state = put-state g.M.Behaves.does c.args.side c.args.prio control body (state_in s p) sends.none m refl (state_in t q) (state_in t c.keep_book.new.self) c.with_written-book.result n sent.state (kept.state t) is
+        state = put-state K c.args.side c.args.prio control body (state_in s p) sends.none m refl (state_in t q) (state_in t c.keep_book.new.self) c.with_written-book.result n sent.state (kept.state t) is
             (ap (λ k. k + c.len_of-2.result) c.len_of.ensures.value ∙ ap (λ k. length (part control) + k) c.len_of-2.ensures.value);
-        tells = put-told g.M.Behaves.does c.args.side c.args.prio control body (state_in s p) sends.none m refl c.args.told.now c.deliver_alone.new.told sent.tells;
+        tells =
+            put-told K c.args.side c.args.prio control body (state_in s p) sends.none m refl c.args.told.now c.deliver_alone.new.told sent.tells;
         held = kept.held t sent.held;
         pool = sent.pool;
       };

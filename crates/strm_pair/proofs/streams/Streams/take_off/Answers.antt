@@ -46,7 +46,8 @@ returns-clause-took g c =
     let t = g.B.Blocks.value c.take_top.new.store in
     let x = (end_at c.args.side c.args.self.now).stack in
     let there = (end-there c.args.self.now c.args.side c.get_mut.result.now c.take_top.new.end c.get_mut.ensures.value c.take_top.ensures.end).0 in
-    subst (λ (e : StreamEnd _). MatchOption c.take_top.result (TookNone s t x e.stack c.args.told.now c.take_top.new.told) (λ taken. TookTop c.args.side c.args.rule s t x e.stack c.args.told.now c.take_top.new.told taken)) (sym there)
+    subst (λ (e : StreamEnd _). MatchOption c.take_top.result (TookNone s t x e.stack c.args.told.now c.take_top.new.told)
+    (λ taken. TookTop c.args.side c.args.rule s t x e.stack c.args.told.now c.take_top.new.told taken)) (sym there)
     (rw c.get_mut.ensures.value at c.take_top.ensures.took)
 
 pub returns-clause-met : goal.returns-clause-met

@@ -8,12 +8,13 @@ use Rattle.strm_pair.proofs.streams.Streams.turn.Goals as goal
 
 pub returns-in-Driver-clause-few : goal.returns-in-Driver-clause-few
 returns-in-Driver-clause-few g c =
+    let K = g.M.Behaves.does in
     let side = c.args.name.side in
     let from = state_in (g.B.Blocks.value c.args.store.now) (record c.args.self.now { enabled = c.remove.new.self }) in
-    let behind = driver_turned g.M.Behaves.does plain side from in
+    let behind = driver_turned K plain side from in
     let e = c.turn_driver.ensures in
     subst FewBooked (sym e.delivers.leads.state)
-    (turn-few plain from behind.state behind.gone c.requires.range (serves-books plain g.M.Behaves.does side (stream side from).driver.queue.messages from)
+    (turn-few plain from behind.state behind.gone c.requires.range (serves-books plain K side (stream side from).driver.queue.messages from)
     (spare-low behind.state (omega (arith, e.delivers.left, ap spare e.delivers.leads.state, range-spare from c.requires.range))))
 
 -- a driver's message goes whole

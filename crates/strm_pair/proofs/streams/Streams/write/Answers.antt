@@ -35,6 +35,7 @@ returns-clause-answer g c =
 
 pub returns-clause-delivers : goal.returns-clause-delivers
 returns-clause-delivers g c =
+    let K = g.M.Behaves.does in
     let s = g.B.Blocks.value c.args.store.now in
     let t = g.B.Blocks.value c.send_chunks-taken.new.store in
     let side = c.args.side in
@@ -42,7 +43,7 @@ returns-clause-delivers g c =
     let old = state_in s c.args.self.now in
     let sent = state_in t c.send_chunks-taken.new.self in
     let dir = direction_from side in
-    let e = wrote-chunks side c.args.bytes.now old c.chunk_count-chunks.result c.chunk_count-chunks.ensures.value g.M.Behaves.does in
+    let e = wrote-chunks side c.args.bytes.now old c.chunk_count-chunks.result c.chunk_count-chunks.ensures.value K in
     let chunks = c.send_chunks-taken.ensures.delivers in
     let kept = c.keep_book.ensures in
     let booked = kept.state t ∙ ap (λ (b : Book). with_book dir b sent) (c.with_written-book.ensures ∙ ap (with_written n) (c.book_of.ensures t)) in
@@ -50,7 +51,7 @@ returns-clause-delivers g c =
       leads = record {
         state = booked
             ∙ ap (λ k. with_book dir (with_written k (book dir sent)) sent) c.send_chunks-taken.ensures.taken
-            ∙ ap (λ (v : State ℕ). with_book dir (with_written (chunks-written g.M.Behaves.does side c.chunk_count-chunks.result c.args.bytes.now old).taken (book dir v)) v) chunks.leads.state
+            ∙ ap (λ (v : State ℕ). with_book dir (with_written (chunks-written K side c.chunk_count-chunks.result c.args.bytes.now old).taken (book dir v)) v) chunks.leads.state
             ∙ ap (λ (o : Outcome ℕ). o.state) (sym e);
         tells = chunks.leads.tells ∙ ap (λ (o : Outcome ℕ). tallied o.gone c.args.told.now) (sym e);
         held = kept.held t chunks.leads.held;
