@@ -7,7 +7,8 @@ use Rattle.strm_pair.specs.Restored.{IsImageFor, IsNoImage, image_blocks, restor
 use Rattle.strm_handle.specs.declared.choices.Choices.{Choices}
 use Rattle.strm_handle.specs.Kept.{KeptPair, are_fit, kept_by, sizes_of}
 
--- A pair of a text, or its number's refusal and a closed handle: EINVAL for a text that is no image, ENOSR where its messages take more blocks.
+-- A pair of a text, or its number's refusal and a closed handle: EINVAL for a text that is no image without modules of a
+-- user's own, ENOSR where its messages take more blocks.
 pub record RestoresOf (c : Choices) (text : List ℕ) (new : Option KeptPair) (n : ℕ) : Type 0 where
   pub done : n ≡ 0 → IsSomeAnd new (λ k. (x : Imaged) × (IsImageFor no_own text x × (k ≡ kept_by c (restored (sizes_of c) x))))
   pub closed : n ≢ 0 → new ≡ None
