@@ -11,8 +11,10 @@ use Rattle.strm_types.specs.declared.names.ModuleName.TheVariants as names
 use Rattle.strm_types.specs.declared.refusals.Refusal.{Refusal}
 use Rattle.strm_types.specs.declared.spots.Spot.{Spot}
 use Rattle.strm_types.specs.Message.{Message}
+use Rattle.strm_laws.specs.Behaviours.{Behaviour}
 use Rattle.strm_laws.specs.Pushes.{may_stand, named_by}
 use Rattle.strm_laws.specs.Stacked.{Module, OfOwn}
+use Rattle.strm_laws.proofs.EitherOwn.{either}
 use Rattle.strm_rows.proofs.CodePage.{code_page, page_command}
 
 -- a pair that is open, of which the slave's stream has these modules
@@ -81,6 +83,18 @@ origins-stay = refl
 pub no-module-no-change : written_on [] (97 ∷ []) ≡ ordinary (97 ∷ []) ∷ []
 unfolding carried chunk_count data_message rank_of band_of size_of cells_of is_high_priority
 no-module-no-change = refl
+
+-- modules of two behaviours stand on one stream, each by its number
+abbrev two : Behaviour
+two = either no_own code_page
+
+pub two-know : map two.knows (2 ∷ 3 ∷ []) ≡ false ∷ true ∷ []
+two-know = refl
+
+pub two-go-on : (called two plain (caller_of Slave) (Write (97 ∷ 98 ∷ [])) (pair (module_named two (names.Own 3) ∷ []))).state.ends.slave.driver.queue.messages
+    ≡ ordinary (65 ∷ 98 ∷ []) ∷ []
+unfolding carried chunk_count data_message rank_of band_of size_of cells_of is_high_priority
+two-go-on = refl
 
 -- what it sends of a message that comes up or goes down
 abbrev sent : List (Message ℕ) → (here : Spot) → List (List (Parcel ℕ))
