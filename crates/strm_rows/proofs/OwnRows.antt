@@ -64,10 +64,10 @@ pub own-stands-once : map (λ ps. may_stand {C = ℕ} (named_by code_page (Some 
 own-stands-once = refl
 
 -- what is written goes down through it changed, and each byte is still the one that was written
-abbrev written_on : List (Standing ℕ) → List ℕ → List (Message ℕ)
-written_on ps bytes = (called code_page plain (caller_of Slave) (Write bytes) (pair ps)).state.ends.slave.driver.queue.messages
+abbrev written_by : Behaviour → List (Standing ℕ) → List ℕ → List (Message ℕ)
+written_by K ps bytes = (called K plain (caller_of Slave) (Write bytes) (pair ps)).state.ends.slave.driver.queue.messages
 
-pub write-goes-through : written_on (page ∷ []) (97 ∷ 98 ∷ 97 ∷ []) ≡ ordinary (65 ∷ 98 ∷ 65 ∷ []) ∷ []
+pub write-goes-through : written_by code_page (page ∷ []) (97 ∷ 98 ∷ 97 ∷ []) ≡ ordinary (65 ∷ 98 ∷ 65 ∷ []) ∷ []
 unfolding carried chunk_count data_message rank_of band_of size_of cells_of is_high_priority
 write-goes-through = refl
 
@@ -80,7 +80,7 @@ unfolding carried chunk_count data_message rank_of band_of size_of cells_of is_h
 origins-stay = refl
 
 -- without it nothing changes
-pub no-module-no-change : written_on [] (97 ∷ []) ≡ ordinary (97 ∷ []) ∷ []
+pub no-module-no-change : written_by code_page [] (97 ∷ []) ≡ ordinary (97 ∷ []) ∷ []
 unfolding carried chunk_count data_message rank_of band_of size_of cells_of is_high_priority
 no-module-no-change = refl
 
@@ -91,8 +91,7 @@ two = either no_own code_page
 pub two-know : map two.knows (2 ∷ 3 ∷ []) ≡ false ∷ true ∷ []
 two-know = refl
 
-pub two-go-on : (called two plain (caller_of Slave) (Write (97 ∷ 98 ∷ [])) (pair (module_named two (names.Own 3) ∷ []))).state.ends.slave.driver.queue.messages
-    ≡ ordinary (65 ∷ 98 ∷ []) ∷ []
+pub two-go-on : written_by two (module_named two (names.Own 3) ∷ []) (97 ∷ 98 ∷ []) ≡ ordinary (65 ∷ 98 ∷ []) ∷ []
 unfolding carried chunk_count data_message rank_of band_of size_of cells_of is_high_priority
 two-go-on = refl
 
