@@ -44,7 +44,7 @@ module _ {M X P : Type 0} (wrap : X → AnyModule M) (made : P → Module ℕ) (
 
     -- its put
     pub kind-puts : (s t : StoreValue) (x y : X) (q r : Option QueuePair) (holds : Bool) (message most : ℕ) (acts : Acts) (f f' : Fates)
-    (is : Acted ℕ (plain.Standing P ℕ))
+        (is : Acted ℕ (plain.Standing P ℕ))
         → Puts (standing_in in_itself) (Fits IsHeld) owns (keeps_of keeps) s t (standing x q) (standing y r) holds message most acts f f' is
         → Puts (standing_in kind_in) (Fits IsKindHeld) owns (keeps_of kind_keeps) s t (standing (wrap x) q) (standing (wrap y) r) holds message most acts f f'
         (done_by (of_kind made) is)
