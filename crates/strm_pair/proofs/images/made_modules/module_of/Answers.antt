@@ -28,22 +28,22 @@ returns-in-Pckt g c =
     placed-bare _ c.args.first _ c.args.text.now _ (sym (ap module_now is)) (record { queues = tt; itself = refl }) (λ i. refl) (λ k. sym (ap (own_of c.args.first k) is)) (ap module_blocks is)
 
 -- there are modules of the number of one of a user's own
-pub unreachable-requires-own : goal.unreachable-requires-own
-unreachable-requires-own g c =
+pub unreachable-requires-in_default-restored : goal.unreachable-requires-in_default-restored
+unreachable-requires-in_default-restored g c =
     let K = g.M.Behaves.does in
     let o = c.in-Own.found in
     let unknown = subst (λ (made : Option Own). MatchOption made (K.knows o.number ≡ false)
-    (λ x. (K.knows o.number ≡ true) × (x ≡ record { number = o.number; settings = o.settings.now }))) c.in_default-own.is c.restored.ensures in
+    (λ x. (K.knows o.number ≡ true) × (x ≡ record { number = o.number; settings = o.settings.now }))) c.in_default-restored.is c.restored.ensures in
     let good = subst (IsModuleText K) c.in-Own.is c.requires.good in
     false≢true (sym unknown ∙ good.known)
 
-pub returns-in-Own : goal.returns-in-Own
-returns-in-Own g c =
+pub returns-in-Some-restored : goal.returns-in-Some-restored
+returns-in-Some-restored g c =
     let K = g.M.Behaves.does in
     let is = c.in-Own.is in
     let o = c.in-Own.found in
     let made = subst (λ (made : Option Own). MatchOption made (K.knows o.number ≡ false)
-    (λ x. (K.knows o.number ≡ true) × (x ≡ record { number = o.number; settings = o.settings.now }))) c.in-Some-own.is c.restored.ensures in
+    (λ x. (K.knows o.number ≡ true) × (x ≡ record { number = o.number; settings = o.settings.now }))) c.in-Some-restored.is c.restored.ensures in
     placed-bare _ c.args.first _ c.args.text.now _ (ap (λ x. alone (OfOwn x)) made.1 ∙ sym (ap module_now is)) (record { queues = tt; itself = refl })
     (λ i. refl)
     (λ k. sym (ap (own_of c.args.first k) is)) (ap module_blocks is)
