@@ -63,7 +63,7 @@ named-holds : {A : Type 0} (test : A → Bool) (rows : List (List ℕ × A)) (wo
     → list_all (λ (row : List ℕ × A). test row.1) rows ≡ true → named rows word ≡ Some x → test x ≡ true
 named-holds test [] word x all h = absurd cc
 named-holds test (row ∷ rows) word x all h =
-    let parts = and_parts (test row.1) (list_all (λ (other : List ℕ × A). test other.1) rows) all in
+    let parts = and_parts _ _ all in
     elim (cases_Bool (is_whole row.0 word)) [
       | inl e ↦
           let some : Some row.1 ≡ Some x = sym (cond-true _ _ _ e) ∙ h in
