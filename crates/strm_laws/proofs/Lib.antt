@@ -23,6 +23,7 @@ pub mod RestCosts
 pub mod RestPuts
 pub mod RestOwns
 pub mod NoOwn
+pub mod EitherOwn
 pub mod RestLdterms
 pub mod RestServes
 pub mod RestStates

@@ -1,5 +1,5 @@
--- A put at a module of a user's own adds no more moves than its message costs: it makes no M_DATA and no M_IOCTL of another kind, and loses and doubles
--- no cell.
+-- A put at a module of a user's own adds no more moves than its message costs: it makes no M_DATA and no M_IOCTL of another kind, and loses and
+-- doubles no cell.
 use Rattle.strm_laws.proofs.Prelude.{ℕ, suc, ◌≡◌, ◌≤◌, ◌+◌, ◌-◌, Bool, true, false, cond, List, [], ◌∷◌, length, refl, subst, arith}
 use Rattle.strm_laws.proofs.Prelude.{◌&&◌, not, sum_by}
 use Rattle.std.specs.List.{AllByRecursion}

@@ -180,7 +180,10 @@ fits-of true on stand is = sym (ap (λ b. (true && not b) || (crossings_fit true
 fits-of false on stand is = is
 
 -- the stacks that stand
-module _ (all : Stands) (once : Bool) (fit : AllFit MODULES (stack_fits once)) (stand : (side : Side) → once ≡ true → are_once (front_on side all) ≡ true) where
+abbrev StandsAs : Bool → Stands → Type 0
+StandsAs once all = (side : Side) → once ≡ true → are_once (front_on side all) ≡ true
+
+module _ (all : Stands) (once : Bool) (fit : AllFit MODULES (stack_fits once)) (stand : StandsAs once all) where
   few-front : (side : Side) → length (front_on side all) ≤ MODULES
   few-front side = omega (arith, length-take MODULES (stands_on side all))
 

@@ -95,8 +95,8 @@ module _ {C : Type 0} where
   abbrev pub module_weight : (Dir → C → Bool) → Side → Standing C → ℕ
   module_weight p side x = kind_weight p side x.part + queues_weight p side x.queues
 
-  -- A message that is put at it, where so many cells were made before in the direction of what goes up; only pckt makes more. What one of a user's own
-  -- does the behaviour says.
+  -- A message that is put at it, where so many cells were made before in the direction of what goes up; only pckt makes more. What one of a user's
+  -- own does the behaviour says.
   abbrev pub module_puts : Behaviour → Cells C → ℕ → Spot → Message C → Standing C → Acted C (Standing C)
   module_puts K cells made here m x = by x.part
     where

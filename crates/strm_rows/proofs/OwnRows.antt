@@ -11,8 +11,10 @@ use Rattle.strm_types.specs.declared.names.ModuleName.TheVariants as names
 use Rattle.strm_types.specs.declared.refusals.Refusal.{Refusal}
 use Rattle.strm_types.specs.declared.spots.Spot.{Spot}
 use Rattle.strm_types.specs.Message.{Message}
+use Rattle.strm_laws.specs.Behaviours.{Behaviour}
 use Rattle.strm_laws.specs.Pushes.{may_stand, named_by}
 use Rattle.strm_laws.specs.Stacked.{Module, OfOwn}
+use Rattle.strm_laws.proofs.EitherOwn.{either}
 use Rattle.strm_rows.proofs.CodePage.{code_page, page_command}
 
 -- a pair that is open, of which the slave's stream has these modules
@@ -62,10 +64,10 @@ pub own-stands-once : map (λ ps. may_stand {C = ℕ} (named_by code_page (Some 
 own-stands-once = refl
 
 -- what is written goes down through it changed, and each byte is still the one that was written
-abbrev written_on : List (Standing ℕ) → List ℕ → List (Message ℕ)
-written_on ps bytes = (called code_page plain (caller_of Slave) (Write bytes) (pair ps)).state.ends.slave.driver.queue.messages
+abbrev written_by : Behaviour → List (Standing ℕ) → List ℕ → List (Message ℕ)
+written_by K ps bytes = (called K plain (caller_of Slave) (Write bytes) (pair ps)).state.ends.slave.driver.queue.messages
 
-pub write-goes-through : written_on (page ∷ []) (97 ∷ 98 ∷ 97 ∷ []) ≡ ordinary (65 ∷ 98 ∷ 65 ∷ []) ∷ []
+pub write-goes-through : written_by code_page (page ∷ []) (97 ∷ 98 ∷ 97 ∷ []) ≡ ordinary (65 ∷ 98 ∷ 65 ∷ []) ∷ []
 unfolding carried chunk_count data_message rank_of band_of size_of cells_of is_high_priority
 write-goes-through = refl
 
@@ -78,9 +80,20 @@ unfolding carried chunk_count data_message rank_of band_of size_of cells_of is_h
 origins-stay = refl
 
 -- without it nothing changes
-pub no-module-no-change : written_on [] (97 ∷ []) ≡ ordinary (97 ∷ []) ∷ []
+pub no-module-no-change : written_by code_page [] (97 ∷ []) ≡ ordinary (97 ∷ []) ∷ []
 unfolding carried chunk_count data_message rank_of band_of size_of cells_of is_high_priority
 no-module-no-change = refl
+
+-- modules of two behaviours stand on one stream, each by its number
+abbrev two : Behaviour
+two = either no_own code_page
+
+pub two-know : map two.knows (2 ∷ 3 ∷ []) ≡ false ∷ true ∷ []
+two-know = refl
+
+pub two-go-on : written_by two (module_named two (names.Own 3) ∷ []) (97 ∷ 98 ∷ []) ≡ ordinary (65 ∷ 98 ∷ []) ∷ []
+unfolding carried chunk_count data_message rank_of band_of size_of cells_of is_high_priority
+two-go-on = refl
 
 -- what it sends of a message that comes up or goes down
 abbrev sent : List (Message ℕ) → (here : Spot) → List (List (Parcel ℕ))

@@ -157,7 +157,8 @@ signals-want-an-open-side = refl
 abbrev handed : Side → State ℕ → State ℕ
 handed side s = (called no_own plain (caller side) Signals s).state
 
-pub signals-are-handed-out : map (λ side. called no_own plain (caller side) Signals (pair (end Open (9 ∷ 1 ∷ [])) (end Open two))) (Master ∷ Slave ∷ [])
+pub signals-are-handed-out :
+    map (λ side. called no_own plain (caller side) Signals (pair (end Open (9 ∷ 1 ∷ [])) (end Open two))) (Master ∷ Slave ∷ [])
     ≡ record { answer = answers.Signals (9 ∷ 1 ∷ []); state = pair (end Open []) (end Open two); came = []; gone = [] } ∷ record { answer = answers.Signals two; state = pair (end Open (9 ∷ 1 ∷ [])) (end Open []); came = []; gone = [] } ∷ []
 signals-are-handed-out = refl
 

@@ -31,7 +31,8 @@ pub journal-leads-to : replay no_own plain opening journal ≡ (turned no_own pl
 unfolding chunk_count data_message rank_of band_of size_of cells_of is_high_priority
 journal-leads-to = refl
 
-pub entries-that-are-steps : IsLegal no_own plain opening (Called (caller Master) OpenMaster Done ∷ Called (caller Master) (Write (97 ∷ [])) (Count 1) ∷ [])
+pub entries-that-are-steps :
+    IsLegal no_own plain opening (Called (caller Master) OpenMaster Done ∷ Called (caller Master) (Write (97 ∷ [])) (Count 1) ∷ [])
 unfolding chunk_count data_message rank_of band_of size_of cells_of is_high_priority
 entries-that-are-steps = (record { allowed = refl; answered = refl; leads = refl }, (record { allowed = refl; answered = refl; leads = refl }, tt))
 
@@ -45,7 +46,8 @@ wrong-answer-is-no-step = λ legal. let first = legal.0 in let answered = first.
 pub wrong-state-is-no-step : Step no_own plain opening (Called (caller Master) OpenMaster Done) opening → ⊥
 wrong-state-is-no-step = λ step. let opened = ap (λ (s : State ℕ). s.ends.master.opened) step.leads in (cc)
 
-pub turn-of-a-queue-that-rests-is-no-step : IsLegal no_own plain opening (Called (caller Master) OpenMaster Done ∷ Turned (driver_of Master) Idle ∷ []) → ⊥
+pub turn-of-a-queue-that-rests-is-no-step :
+    IsLegal no_own plain opening (Called (caller Master) OpenMaster Done ∷ Turned (driver_of Master) Idle ∷ []) → ⊥
 turn-of-a-queue-that-rests-is-no-step = λ legal. let second = legal.1.0 in let enabled = second.enabled in (cc)
 
 pub illegal-entry-behind-a-legal-one : IsLegal no_own plain opening (Called (caller Master) OpenMaster Done ∷ Called (caller Master) OpenMaster Done ∷ []) → ⊥
