@@ -104,6 +104,9 @@ pub trait Module: Drop {
     /// bytes, and what it sends on.
     ghost does: { Plain → Table };
 
+    /// Whether an M_DATA or M_PROTO that is put here waits, or goes on, in all its blocks.
+    ghost holds: { Plain → Bool };
+
     /// How many blocks of each kind a call of its service procedure takes at most, the first one of a turn or one more. That
     /// depends on what is under way in the module.
     ghost turn_cost: { Spot → Bool → Plain → ℕ };
@@ -112,7 +115,8 @@ pub trait Module: Drop {
     fn name(&self) -> ModuleName
         ensures { (s : StoreValue) → result ≡ name_of (plain s self.now) };
 
-    /// Puts a message in hand here, on its way up or down, and says what it does: `put(9E)`. An M_DATA or M_PROTO frees no block.
+    /// Puts a message in hand here, on its way up or down, and says what it does: `put(9E)`. Where it holds what it is given an
+    /// M_DATA or M_PROTO frees no block.
     fn put<B: Blocks>(
         &mut self,
         queues: &mut Option<QueuePair>,
@@ -129,8 +133,8 @@ pub trait Module: Drop {
         requires inside { 0 < here.at }
         requires small { here.at ≤ MODULES }
         ensures { let s = B.value store.old in let m = message_in s (token message) in let x = standing self.old queues.old in
-            Puts (standing_in plain) (Fits IsHeld) owns (keeps_of keeps) s (B.value store.new) x (standing self.new queues.new) (token message)
-            (own_at (does (plain s self.old)) here m) result told.old told.new (puts here m (standing_in plain s x)) };
+            Puts (standing_in plain) (Fits IsHeld) owns (keeps_of keeps) s (B.value store.new) x (standing self.new queues.new)
+            (holds (plain s self.old)) (token message) (own_at (does (plain s self.old)) here m) result told.old told.new (puts here m (standing_in plain s x)) };
 
     /// What the first message of its queue of a way asks before it goes on. A message has no more bytes than all blocks of a
     /// store.

@@ -70,7 +70,8 @@ fn put_among<B: Blocks, M: Module>(
     ensures length { length modules.new ≡ length modules.old }
     ensures does { let s = B.value store.old in let m = message_in s (token message) in let ps = all_in (standing_in M.plain) s modules.old in
         Puts (all_in (standing_in M.plain)) (AreHeld (Fits M.IsHeld) owns) (all_of owns) (all_of (keeps_of M.keeps)) s (B.value store.new)
-        modules.old modules.new (token message) (slice_index_or (map (of_part (λ p. own_at (M.does p) to m)) ps) at 0)
+        modules.old modules.new (slice_index_or (map (of_part M.holds) ps) at true) (token message)
+        (slice_index_or (map (of_part (λ p. own_at (M.does p) to m)) ps) at 0)
         result told.old told.new (put_among M.puts at to m ps) }
 {
     store.audit();
@@ -155,7 +156,8 @@ impl<M: Module + Default> Stack<M> {
         ensures does { let s = B.value store.old in let m = message_in s (token message) in
             let xs = self.old.modules.items in let ps = all_in (standing_in M.plain) s xs in
             Puts (all_in (standing_in M.plain)) (AreHeld (Fits M.IsHeld) owns) (all_of owns) (all_of (keeps_of M.keeps)) s (B.value store.new)
-            xs self.new.modules.items (token message) (at_place (of_part (λ p. own_at (M.does p) to m)) 0 to.at ps)
+            xs self.new.modules.items (at_place (of_part M.holds) true to.at ps) (token message)
+            (at_place (of_part (λ p. own_at (M.does p) to m)) 0 to.at ps)
             result told.old told.new (put_among M.puts (to.at - 1) to m ps) }
     {
         put_among(

@@ -186,8 +186,8 @@ impl<M: Module> Standing<M> {
         requires inside { 0 < here.at }
         requires small { here.at ≤ MODULES }
         ensures { let s = B.value store.old in let m = message_in s (token message) in let x = standing_in M.plain s self.old in
-            Puts (standing_in M.plain) (Fits M.IsHeld) owns (keeps_of M.keeps) s (B.value store.new) self.old self.new (token message)
-            (own_at (M.does x.part) here m) result told.old told.new (M.puts here m x) }
+            Puts (standing_in M.plain) (Fits M.IsHeld) owns (keeps_of M.keeps) s (B.value store.new) self.old self.new (M.holds x.part)
+            (token message) (own_at (M.does x.part) here m) result told.old told.new (M.puts here m x) }
     {
         self.module
             .put(&mut self.queues, store, here, message, told)

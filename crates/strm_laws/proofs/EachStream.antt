@@ -9,6 +9,7 @@ use Rattle.strm_laws.specs.Prelude.{or_else, PlainSlot, slot_behind}
 use Rattle.strm_types.specs.declared.events.Event.TheVariants.{Flush, Ioctl}
 use Rattle.strm_types.specs.declared.modes.Mode as modes
 use Rattle.strm_types.specs.declared.modes.Mode.TheVariants as chosen
+use Rattle.strm_laws.specs.Behaviours.{Behaviour}
 use Rattle.strm_laws.specs.Calls.{Outcome, group_at, ioctl_begun, ioctl_sent, message_put, mode_set, performed, put_at}
 use Rattle.strm_laws.specs.Closes.{closed_at, driver_emptied, ended, head_emptied, hung_up_at, stream_emptied}
 use Rattle.strm_laws.specs.Pushes.{head_above, module_named, named_by, popped, pushed_named}
@@ -26,6 +27,7 @@ use Rattle.strm_laws.proofs.Stopping.{of-allowed}
 use Rattle.strm_laws.proofs.TurnHolds.{Turns, turns-stay}
 use Rattle.strm_laws.proofs.WithinHeads.{Fits, behind-fits, dropped-fits}
 use Rattle.strm_laws.proofs.WriteSteps.{cells_sent-holds}
+use Rattle.strm_laws.proofs.LawfulKinds.{named-each}
 
 -- the place below a side's head
 abbrev below : Side → Spot
@@ -36,7 +38,7 @@ module _ {C : Type 0} (P : Side → Stream C → Type 0) where
   OfEach s = AllSides P s.ends
 
   -- It holds of a stream that changes so: at its head, at its driver, or in its modules, which are of a kind.
-  pub record Changes (Good : List (Standing C) → Type 0) : Type 0 where
+  pub record Changes (K : Behaviour) (Good : List (Standing C) → Type 0) : Type 0 where
     pub put : (side : Side) (here : Spot) (m : Message C) (t : Stream C) → is_open t.opened ≡ true → P side t → P side (record t { head = (head_put here m t.head).state })
     pub queue : (side : Side) (q : Queue C) (t : Stream C) → (is_open t.opened ≡ false → t.head.queue.messages ≡ [] → q.messages ≡ []) → P side t → P side (with_head_queue q t)
     pub settings : (side : Side) (read : ReadMode) (control : ControlMode) (group : ℕ) (hung_up : Bool) (t : Stream C) → P side t
@@ -49,9 +51,9 @@ module _ {C : Type 0} (P : Side → Stream C → Type 0) where
     pub modules : (side : Side) (ps : List (Standing C)) (t : Stream C) → Good ps → P side t → P side (record t { modules = ps })
     pub good : (side : Side) (t : Stream C) → P side t → Good t.modules
     pub below : (p : Standing C) (ps : List (Standing C)) → Good (p ∷ ps) → Good ps
-    pub above : (name : ModuleName) (ps : List (Standing C)) → Good ps → Good (module_named name ∷ ps)
+    pub above : (name : ModuleName) (ps : List (Standing C)) → Good ps → Good (module_named K name ∷ ps)
 
-  module _ (Good : List (Standing C) → Type 0) (changes : Changes Good) where
+  module _ (K : Behaviour) (Good : List (Standing C) → Type 0) (changes : Changes K Good) where
     changed : (side : Side) (t : Stream C) (s : State C) → (P side (stream side s) → P side t) → OfEach s → OfEach (with_stream side t s)
     changed side t s keeps all = set-all P side t s.ends (keeps (all side)) all
 
@@ -87,8 +89,8 @@ module _ {C : Type 0} (P : Side → Stream C → Type 0) where
               changed side (with_head_queue q t) s (λ holds. changes.queue side q t (λ closed none. none) holds) all
           waits side Down band s all = driver-each side (with_waiting band (stream side s).driver.queue) s all
 
-      pub each-turns : Turns OfEach
-      each-turns = turns-stay OfEach driver-each each-stays
+      pub each-turns : Turns K OfEach
+      each-turns = turns-stay K OfEach driver-each each-stays
 
     -- the ioctl under way
     slot-each : (side : Side) (slot : PlainSlot) (s : State C) → (Fits (stream side s).head.ioctl → Fits slot) → OfEach s → OfEach (with_ioctl side slot s)
@@ -105,11 +107,14 @@ module _ {C : Type 0} (P : Side → Stream C → Type 0) where
       below = changes.below;
     }
 
-    push-each : (side : Side) (name : Option ModuleName) (s : State C) → OfEach s → OfEach (pushed_named side (named_by name) s).state
+    push-each : (side : Side) (name : Option ModuleName) (s : State C) → OfEach s → OfEach (pushed_named side (named_by K name) s).state
     push-each side None s all = all
     push-each side (Some name) s all =
         let ps = (stream side s).modules in
-        pushed-holds side OfEach Good (survives side) (module_named name) s (changes.above name ps (changes.good side (stream side s) (all side))) all
+        named-each K name (λ o. OfEach (pushed_named side o s).state) all
+        (λ known.
+        let good = changes.above name ps (changes.good side (stream side s) (all side)) in
+        pushed-holds side OfEach Good (survives side) (module_named K name) s good all)
 
     pop-each : (side : Side) (s : State C) → OfEach s → OfEach (popped side s).state
     pop-each side s all = pop-holds side OfEach Good (survives side) s all
@@ -160,13 +165,13 @@ module _ {C : Type 0} (P : Side → Stream C → Type 0) where
     told-each : (side : Side) (s : State C) → OfEach s → OfEach (with_ioctl side (slot_behind (stream side s).head.ioctl) s)
     told-each side s all = slot-each side _ s (λ fits. behind-fits (stream side s).head.ioctl) all
 
-    module _ (cells : Cells C) (given : (to : Spot) (m : Message C) (s : State C) → OfEach s → OfEach (delivered cells to m s).state) where
-      put-each : (side : Side) (prio : Prio) (control body : Option (List ℕ)) (s : State C) → OfEach s → OfEach (put_at cells side prio control body s).state
+    module _ (cells : Cells C) (given : (to : Spot) (m : Message C) (s : State C) → OfEach s → OfEach (delivered K cells to m s).state) where
+      put-each : (side : Side) (prio : Prio) (control body : Option (List ℕ)) (s : State C) → OfEach s → OfEach (put_at K cells side prio control body s).state
       put-each side prio None None s all = all
       put-each side prio None (Some xs) s all = given (below side) (message_put cells side prio None (Some xs) s) s all
       put-each side prio (Some xs) body s all = given (below side) (message_put cells side prio (Some xs) body s) s all
 
-      call-each : (caller : Caller) (asked : Request) (s : State C) → or_else (refused_at_once s caller asked) (unfit s caller asked) ≡ None → OfEach s → OfEach (performed cells caller asked s).state
+      call-each : (caller : Caller) (asked : Request) (s : State C) → or_else (refused_at_once s caller asked) (unfit K s caller asked) ≡ None → OfEach s → OfEach (performed K cells caller asked s).state
       call-each caller OpenMaster s allowed all = changed Master _ s (λ holds. changes.opened Master (stream Master s) holds) all
       call-each caller OpenSlave s allowed all = changed Slave _ s (λ holds. changes.anew Slave Open (stream Slave s) holds) all
       call-each caller Shut s allowed all = close-each caller.side s all
@@ -175,18 +180,18 @@ module _ {C : Type 0} (P : Side → Stream C → Type 0) where
       call-each caller (Flush what band) s allowed all = given (below caller.side) (flush_message (flush_bytes (asked_of what band))) s all
       call-each caller (Write bytes) s allowed all =
           let dir = direction_from caller.side in
-          cells_sent-holds cells OfEach given caller.side (cells_written cells dir (book dir s).written bytes) s all
+          cells_sent-holds K cells OfEach given caller.side (cells_written cells dir (book dir s).written bytes) s all
       call-each caller (Read n) s allowed all =
           let h = (stream caller.side s).head in
-          taken-each caller.side (read_queue h.read_mode h.control_mode (min n READ_MAX) h.queue) s (fitting-met s caller (Read n) allowed).reached all
+          taken-each caller.side (read_queue h.read_mode h.control_mode (min n READ_MAX) h.queue) s (fitting-met K s caller (Read n) allowed).reached all
       call-each caller (Put prio control body) s allowed all = put-each caller.side prio control body s all
       call-each caller (Get wanted cmax dmax) s allowed all =
           let q = (stream caller.side s).head.queue in
-          taken-each caller.side (get_queue wanted (min cmax READ_MAX) (min dmax READ_MAX) q) s (fitting-met s caller (Get wanted cmax dmax) allowed).reached all
+          taken-each caller.side (get_queue wanted (min cmax READ_MAX) (min dmax READ_MAX) q) s (fitting-met K s caller (Get wanted cmax dmax) allowed).reached all
       call-each caller (Mode mode) s allowed all = mode-each caller.side mode s all
       call-each caller (Ioctl command body) s allowed all =
           either (asks_group caller.side command) _ _ (group-each caller.side command body s all)
-          (told-each caller.side (ioctl_sent cells caller.side command body s).state
+          (told-each caller.side (ioctl_sent K cells caller.side command body s).state
           (given (below caller.side) (ioctl_message (asking command s.next_ioctl) body) (ioctl_begun caller.side command s) (begun-each caller.side command s all)))
         where
           either : (group : Bool) (one another : Outcome C) → OfEach one.state → OfEach another.state → OfEach (cond group one another).state
@@ -197,6 +202,6 @@ module _ {C : Type 0} (P : Side → Stream C → Type 0) where
       call-each caller _ s allowed all = all
 
       -- a step
-      pub step-each : ((name : QueueName) (turn : Turn) (s : State C) → OfEach s → OfEach (turned cells name turn s).state) → (old new : State C) (entry : PlainEntry) → OfEach old → Step cells old entry new → OfEach new
-      step-each turns old new (Called caller asked answer) all step = subst (λ s. OfEach s) step.leads (of-allowed cells caller asked old (λ outcome. OfEach outcome.state) (λ signal. all) step.allowed (λ fits. call-each caller asked old fits all))
+      pub step-each : ((name : QueueName) (turn : Turn) (s : State C) → OfEach s → OfEach (turned K cells name turn s).state) → (old new : State C) (entry : PlainEntry) → OfEach old → Step K cells old entry new → OfEach new
+      step-each turns old new (Called caller asked answer) all step = subst (λ s. OfEach s) step.leads (of-allowed K cells caller asked old (λ outcome. OfEach outcome.state) (λ signal. all) step.allowed (λ fits. call-each caller asked old fits all))
       step-each turns old new (Turned name turn) all step = subst (λ s. OfEach s) step.leads (turns name turn old all)

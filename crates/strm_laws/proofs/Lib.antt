@@ -21,6 +21,9 @@ pub mod EnabledCalls
 pub mod RestorableSteps
 pub mod RestCosts
 pub mod RestPuts
+pub mod RestOwns
+pub mod NoOwn
+pub mod EitherOwn
 pub mod RestLdterms
 pub mod RestServes
 pub mod RestStates

@@ -3,12 +3,13 @@ use Rattle.strm_laws.proofs.Prelude.{ℕ, zero, suc, ◌≡◌, ◌-◌, Bool, L
 use Rattle.strm_laws.specs.Prelude.{Dir, Side, Master, Slave, Way, Spot, with_made, Cells, Acted, Message, place_past, waits_at}
 use Rattle.strm_laws.specs.Prelude.{with_waiting, queue_changed, act_among, change_among, put_among, is_open, Queue}
 use Rattle.strm_types.specs.ModuleQueues.{waits_past}
+use Rattle.strm_laws.specs.Behaviours.{Behaviour}
 use Rattle.strm_laws.specs.Puts.{made_above, put_at_driver, put_at_head, put_at_module, put_in}
 use Rattle.strm_laws.specs.StackCosts.{Stands, stands_of}
 use Rattle.strm_laws.specs.Stacked.{Standing, module_name, module_puts, module_serves}
 use Rattle.strm_laws.specs.State.{State, Stream, book, stream, with_book, with_stream, with_driver_queue}
 use Rattle.strm_laws.proofs.PutParts.{NamesHold, acted-holds, either-holds, parts-hold}
-use Rattle.strm_laws.proofs.LawfulKinds.{lawful}
+use Rattle.strm_laws.proofs.LawfulKinds.{lawful, puts-lawfully}
 
 module _ {C : Type 0} where
   -- where one module acts, or changes, and keeps its name, all keep theirs
@@ -25,9 +26,9 @@ module _ {C : Type 0} where
     act-names (suc i) (p ∷ ps) = ap (λ ns. module_name p ∷ ns) (act-names i ps)
 
   -- a put, and a call of a service procedure
-  pub keep-names : (cells : Cells C) (made i : ℕ) (here : Spot) (m : Message C) (ps : List (Standing C))
-      → map module_name (put_among (module_puts cells made) i here m ps).state ≡ map module_name ps
-  keep-names cells made i here m ps = act-names (module_puts cells made here m) (λ p. ((lawful p).put cells made here m).name) i ps
+  pub keep-names : (K : Behaviour) (cells : Cells C) (made i : ℕ) (here : Spot) (m : Message C) (ps : List (Standing C))
+      → map module_name (put_among (module_puts K cells made) i here m ps).state ≡ map module_name ps
+  keep-names K cells made i here m ps = act-names (module_puts K cells made here m) (λ p. (puts-lawfully K p cells made here m).name) i ps
 
   pub serve-names : (cells : Cells C) (here : Spot) (made : ℕ) (again : Bool) (stop : Option ℕ) (i : ℕ) (ps : List (Standing C))
       → map module_name (act_among (λ p. (module_serves cells here made again stop p).acted) i ps).state ≡ map module_name ps
@@ -67,11 +68,12 @@ module _ {C : Type 0} where
     driver-stands : (side : Side) (here : Spot) (m : Message C) (s : State C) → Stand s → Stand (put_at_driver side here m s).state
     driver-stands side here m s is = same-names side (with_driver_queue _ (stream side s)) s refl ∙ is
 
-    stack-stands : (cells : Cells C) (here : Spot) (m : Message C) (s : State C) → Stand s → Stand (put_at_module cells here m s).state
-    stack-stands cells here m s is =
-        let t = put_among (module_puts cells (made_above here.side s)) (here.at - 1) here m (stream here.side s).modules in
-        let same = keep-names cells (made_above here.side s) (here.at - 1) here m (stream here.side s).modules in
+    stack-stands : (K : Behaviour) (cells : Cells C) (here : Spot) (m : Message C) (s : State C) → Stand s
+        → Stand (put_at_module K cells here m s).state
+    stack-stands K cells here m s is =
+        let t = put_among (module_puts K cells (made_above here.side s)) (here.at - 1) here m (stream here.side s).modules in
+        let same = keep-names K cells (made_above here.side s) (here.at - 1) here m (stream here.side s).modules in
         acted-holds Stand names-stand books-stand here t s (same-names here.side (record (stream here.side s) { modules = t.state }) s same ∙ is)
 
-    pub puts-stand : (cells : Cells C) → PutHolds Stand (put_in cells)
-    puts-stand cells = parts-hold Stand cells (record { head = head-stands; stack = stack-stands cells; driver = driver-stands })
+    pub puts-stand : (K : Behaviour) (cells : Cells C) → PutHolds Stand (put_in K cells)
+    puts-stand K cells = parts-hold Stand K cells (record { head = head-stands; stack = stack-stands K cells; driver = driver-stands })

@@ -17,6 +17,8 @@ pub mod Step
 pub mod Kept
 pub mod Pair
 pub mod Within
+pub mod GoodMessages
+pub mod Behaviours
 pub mod Restorable
 pub mod Standing
 pub mod LdtermWeights

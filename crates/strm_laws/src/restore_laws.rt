@@ -13,17 +13,19 @@ ghost use Rattle.strm_laws.specs.Restorable.{AreWithinEntries, IsWithinEntry, Re
 ghost use Rattle.strm_laws.specs.State.{State, opening};
 ghost use Rattle.strm_laws.specs.Step.{IsLegal, Step, replay};
 
+use crate::behaviours::Behaves;
+
 /// A pair as it is made can be restored, and so can each pair behind a step, and behind a legal journal, whose calls name bands that queues have.
-pub fn restorable_stays<C>()
+pub fn restorable_stays<C, K: Behaves>()
     ensures opening { (s : State C) → s ≡ opening → Restorable s }
-    ensures step { (cells : Cells C) (old new : State C) (entry : PlainEntry) → IsWithinEntry entry → Restorable old → Step cells old entry new → Restorable new }
-    ensures journal { (cells : Cells C) (s : State C) (entries : List PlainEntry) → AreWithinEntries entries → Restorable s → IsLegal cells s entries → Restorable (replay cells s entries) }
+    ensures step { (cells : Cells C) (old new : State C) (entry : PlainEntry) → IsWithinEntry entry → Restorable old → Step K.does cells old entry new → Restorable new }
+    ensures journal { (cells : Cells C) (s : State C) (entries : List PlainEntry) → AreWithinEntries entries → Restorable s → IsLegal K.does cells s entries → Restorable (replay K.does cells s entries) }
 {}
 
 /// A pair as it is made is a base, and so is each state of a legal journal that begins at one, whose calls name bands that queues have, as
 /// long as no book is past its end. So a journal can begin anew at any of them.
-pub fn bases_stay()
+pub fn bases_stay<K: Behaves>()
     ensures opening { IsBase opening no_fates }
-    ensures journal { (s : State ℕ) (fates : Fates) (es : List PlainEntry) → IsBase s fates → AreWithinEntries es → IsLegal plain s es →
-        FewBooked (replay plain s es) → IsBase (replay plain s es) (told_by plain s es fates) }
+    ensures journal { (s : State ℕ) (fates : Fates) (es : List PlainEntry) → IsBase s fates → AreWithinEntries es → IsLegal K.does plain s es →
+        FewBooked (replay K.does plain s es) → IsBase (replay K.does plain s es) (told_by K.does plain s es fates) }
 {}

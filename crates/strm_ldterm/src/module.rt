@@ -1,6 +1,6 @@
 //! The module, as a stream's stack of modules has it (STREAMS Programming Guide, "Modules").
 
-ghost use Rattle.std.specs.Prelude.{ℕ};
+ghost use Rattle.std.specs.Prelude.{ℕ, true};
 ghost use Rattle.strm_types.specs.declared.names.ModuleName.TheVariants as names;
 
 use crate::asks::asked_on;
@@ -49,6 +49,8 @@ impl Module for Ldterm {
     ghost MayStop = { λ way again bytes x. Ends way again (there.discipline_at x) bytes };
 
     ghost does = { λ p. ldterm_does };
+
+    ghost holds = { λ p. true };
 
     ghost turn_cost = { bounds.turn_cost };
 

@@ -4,6 +4,7 @@ use Rattle.strm_pair.proofs.Prelude.{is_some, sum_by, Option, nat_tests, sum_by-
 use Rattle.strm_pair.specs.Prelude.{MsgKind, Openness, is_data_kind, is_body_kind, is_control_kind, EachOnce, module_name, is_part_kind, Block}
 use Rattle.strm_pair.specs.Prelude.{StoreValue, block_at, list_at, message_of, queue_in, HoldsReadable, IsHeadQueue, Head, head_in, all_of, Stack}
 use Rattle.strm_pair.specs.Prelude.{ModuleText, StreamText, laid_blocks, module_now, modules_now, names_now, queue_now, laid_now, Tables, owns}
+use Rattle.strm_pair.specs.Prelude.{Behaviour}
 use Rattle.std.specs.List.{AllByRecursion}
 use Rattle.strm_types.specs.declared.kinds.MsgKind.TheVariants as kinds
 use Rattle.strm_types.specs.Queue as state
@@ -47,6 +48,7 @@ blocks-same (m ∷ ms) = omega (arith, sum_by-cons counts.module_blocks (module_
     one (texts.Ldterm l) = omega arith
     one (texts.Ptem p) = refl
     one texts.Pckt = refl
+    one (texts.Own o) = refl
 
 -- ---- the lists
 
@@ -76,12 +78,13 @@ names-same (m ∷ ms) = ap (λ ns. module_name (module_now m) ∷ ns) (names-sam
 
 -- ---- what stands there
 
-module _ {s a b d : StoreValue} {first : ℕ} {q r : Queue} (text : StreamText) (opened : Openness) (good : IsStreamText text)
+module _ {M : Type 0} {s a b d : StoreValue} {first : ℕ} {q r : Queue} (K : Behaviour) (text : StreamText) (opened : Openness)
+    (good : IsStreamText K text)
     (h : Fills s a first q) (head_is : queue_in a q ≡ queue_now text.head) (head_spent : Spent s a (queue_blocks (queue_now text.head)))
     (w : Fills a b (first + 1) r) (driver_is : queue_in b r ≡ queue_now text.driver) (driver_spent : Spent a b (queue_blocks (queue_now text.driver)))
-    (stack : Stack AnyModule) (shelf : Option Tables) (stacked : AreStacked b d (first + 2) text.modules.items stack.modules.items shelf)
+    (stack : Stack (AnyModule M)) (shelf : Option Tables) (stacked : AreStacked b d (first + 2) text.modules.items stack.modules.items shelf)
     (head : Head) (is : head.queue ≡ q) (shown : (t : StoreValue) → head_in t head ≡ record (laid_now text).head { queue = queue_in t q }) where
-  abbrev made : StreamEnd
+  abbrev made : StreamEnd M
   made = record { opened = opened; head = head; stack = stack; driver = r; shelf = shelf }
 
   abbrev ms : List ModuleText

@@ -1,7 +1,7 @@
 -- A message that was made while nobody is in a call is alone in hand, and the streams stay; so is one that was taken.
 use Rattle.strm_pair.proofs.Prelude.{ℕ, ◌≡◌, ◌≤◌, ◌+◌, ◌∷◌, sym, ap, subst, ◌∙◌, arith}
 use Rattle.strm_pair.specs.Prelude.{Fates, Spot, plain, most_of, Carried, tallied, Message, AreIdle, delivered, spare, State, StoreValue, held}
-use Rattle.strm_pair.specs.Prelude.{in_hand, message_of, IsChain, Takes}
+use Rattle.strm_pair.specs.Prelude.{in_hand, message_of, IsChain, Takes, Behaviour}
 use Rattle.strm_pair.specs.declared.streams.Streams.{Streams}
 use Rattle.strm_pair.specs.Alone.{IsAlone}
 use Rattle.strm_pair.specs.Effects.{AreAtRest, Leads}
@@ -9,7 +9,7 @@ use Rattle.strm_pair.specs.Framing.{rests, same-state, same-beside}
 use Rattle.strm_pair.specs.Pairs.{state_in, Stays, kept_by}
 use Rattle.strm_pair.proofs.Leading.{pool-both}
 
-module _ (s t : StoreValue) (p : Streams) (at_rest : AreAtRest s p) (i : ℕ) (after : t ≡ held s i (in_hand t i)) where
+module _ {M : Type 0} (s t : StoreValue) (p : Streams M) (at_rest : AreAtRest s p) (i : ℕ) (after : t ≡ held s i (in_hand t i)) where
   -- nothing is kept
   none-moved : Stays s t (kept_by p)
   none-moved = record {
@@ -30,11 +30,12 @@ module _ (s t : StoreValue) (p : Streams) (at_rest : AreAtRest s p) (i : ℕ) (a
   }
 
   -- what a delivery of it led to, by the message that it stands for
-  pub made-leads : (u : StoreValue) (q : Streams) (f f' : Fates) (to : Spot) (m : Message ℕ) → message_of (in_hand t i) ≡ m
-      → (let is = delivered plain to (message_of (in_hand t i)) (state_in t p) in Leads t u q f f' is.state is.gone)
-      → (let is = delivered plain to m (state_in s p) in Leads s u q f f' is.state is.gone)
-  made-leads u q f f' to m shows leads =
-      let same = ap (delivered plain to (message_of (in_hand t i))) made-state ∙ ap (λ (x : Message ℕ). delivered plain to x (state_in s p)) shows in
+  pub made-leads : (K : Behaviour) (u : StoreValue) (q : Streams M) (f f' : Fates) (to : Spot) (m : Message ℕ) → message_of (in_hand t i) ≡ m
+      → (let is = delivered K plain to (message_of (in_hand t i)) (state_in t p) in Leads t u q f f' is.state is.gone)
+      → (let is = delivered K plain to m (state_in s p) in Leads s u q f f' is.state is.gone)
+  made-leads K u q f f' to m shows leads =
+      let same = ap (delivered K plain to (message_of (in_hand t i))) made-state ∙ ap (λ (x : Message ℕ). delivered K plain to x (state_in s p))
+      shows in
       record {
         state = leads.state ∙ ap (λ (o : Carried ℕ (State ℕ)). o.state) same;
         tells = leads.tells ∙ ap (λ (o : Carried ℕ (State ℕ)). tallied o.gone f) same;
@@ -43,6 +44,6 @@ module _ (s t : StoreValue) (p : Streams) (at_rest : AreAtRest s p) (i : ℕ) (a
       }
 
   -- and what the books have left behind it, where that message becomes so many packets at most
-  pub made-left : (u : StoreValue) (q : Streams) (to : Spot) (m : Message ℕ) (n : ℕ) → message_of (in_hand t i) ≡ m → most_of to m ≤ n
+  pub made-left : (u : StoreValue) (q : Streams M) (to : Spot) (m : Message ℕ) (n : ℕ) → message_of (in_hand t i) ≡ m → most_of to m ≤ n
       → Takes t u (spare (state_in t p)) (spare (state_in u q)) (most_of to (message_of (in_hand t i))) 0 → spare (state_in s p) ≤ spare (state_in u q) + n
   made-left u q to m n shows few takes = omega (arith, takes.spare, ap spare made-state, ap (most_of to) shows, few)

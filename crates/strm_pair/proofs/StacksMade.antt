@@ -29,11 +29,13 @@ abbrev pub is_ldterm : ModuleText → ℕ
 is_ldterm (texts.Ldterm l) = 1
 is_ldterm (texts.Ptem p) = 0
 is_ldterm texts.Pckt = 0
+is_ldterm (texts.Own o) = 0
 
 told-once : (m : ModuleText) → cond {A = ℕ} (same_module (module_name (module_now m)) names.Ldterm) 1 0 ≡ is_ldterm m
 told-once (texts.Ldterm l) = refl
 told-once (texts.Ptem p) = refl
 told-once texts.Pckt = refl
+told-once (texts.Own o) = refl
 
 times-ldterm : (ms : List ModuleText) (at : ℕ) → length ms ≤ at → times_there names.Ldterm (names_now ms) at ≡ sum_by is_ldterm ms
 times-ldterm [] at within = nothing-there names.Ldterm at
@@ -49,20 +51,22 @@ module _ (first k : ℕ) where
   own-few (texts.Ldterm l) = once-two first (first + 1) k (λ e. absurd (omega (arith, e)))
   own-few (texts.Ptem p) = omega arith
   own-few texts.Pckt = omega arith
+  own-few (texts.Own o) = omega arith
 
   all-few : (ms : List ModuleText) → sum_by (own_of first k) ms ≤ sum_by is_ldterm ms
   all-few ms = sum_by-le-sum_by (own_of first k) is_ldterm ms own-few
 
 -- ---- with one module more
 
-module _ {s t : StoreValue} {first : ℕ} {ms : List ModuleText} {xs : List AnyStanding} {was : Option Tables} (so_far : AreStacked s t first ms xs was) where
+module _ {M : Type 0} {s t : StoreValue} {first : ℕ} {ms : List ModuleText} {xs : List (AnyStanding M)} {was : Option Tables} (so_far : AreStacked s t first ms xs was) where
   -- an ldterm finds its lists empty
   pub free-for : (m : ModuleText) → sum_by is_ldterm ms + is_ldterm m ≤ 1 → IsFreeFor t first was m
   free-for (texts.Ldterm l) few = so_far.free (omega (arith, so_far.own first, all-few first first ms, few))
   free-for (texts.Ptem p) few = tt
   free-for texts.Pckt few = tt
+  free-for (texts.Own o) few = tt
 
-  module _ {u : StoreValue} {m : ModuleText} {x : AnyStanding} {is : Option Tables} (placed : IsPlaced t u first was is m x) (few : sum_by is_ldterm ms + is_ldterm m ≤ 1) where
+  module _ {u : StoreValue} {m : ModuleText} {x : AnyStanding M} {is : Option Tables} (placed : IsPlaced t u first was is m x) (few : sum_by is_ldterm ms + is_ldterm m ≤ 1) where
     -- it has no list while another one has
     none-own : (k : ℕ) → 0 < all_of owns xs k → owns x first ≡ 0
     none-own k some = omega (arith, some, so_far.own k, all-few first k ms, few, own-few first first m, placed.own first)
@@ -123,6 +127,7 @@ module _ (f k : ℕ) where
       by (suc n) one = let at = once-is f k (omega (arith, one)) in (omega (arith, at), omega (arith, at))
   within-one (texts.Ptem p) some = absurd (omega (arith, some))
   within-one texts.Pckt some = absurd (omega (arith, some))
+  within-one (texts.Own o) some = absurd (omega (arith, some))
 
   pub own-within-two : (ms : List ModuleText) → 0 < sum_by (own_of f k) ms → (f ≤ k) × (k < f + 2)
   own-within-two [] some = absurd (omega (arith, some))
@@ -138,6 +143,7 @@ module _ (f k : ℕ) where
     both-one (texts.Ldterm l) = omega (arith, either-once f k low high, either-once f f (omega arith) (omega arith))
     both-one (texts.Ptem p) = refl
     both-one texts.Pckt = refl
+    both-one (texts.Own o) = refl
 
     pub own-both : (ms : List ModuleText) → sum_by (own_of f k) ms ≡ sum_by (own_of f f) ms
     own-both [] = refl
@@ -145,7 +151,7 @@ module _ (f k : ℕ) where
 
 -- ---- where the first one is to be placed
 
-pub stacked-none : (s : StoreValue) (first : ℕ) (shelf : Option Tables) (xs : List AnyStanding) → xs ≡ [] → list_at s first ≡ [] → list_at s (first + 1) ≡ [] → is_some shelf ≡ true → AreStacked s s first [] xs shelf
+pub stacked-none : {M : Type 0} (s : StoreValue) (first : ℕ) (shelf : Option Tables) (xs : List (AnyStanding M)) → xs ≡ [] → list_at s first ≡ [] → list_at s (first + 1) ≡ [] → is_some shelf ≡ true → AreStacked s s first [] xs shelf
 stacked-none s first shelf xs none reads writes there = subst (λ ys. AreStacked s s first [] ys shelf) (sym none) (record {
   state = refl;
   held = record { each = tt; apart = λ k. omega arith };
@@ -166,7 +172,7 @@ module _ (ms : List ModuleText) (i : ℕ) (m : ModuleText) (at : m ≡ get_or ms
     dblks = omega (arith, room.dblks, spent.dblks, sum_by_more_le module_blocks ms i m within, ap module_blocks at);
   }
 
-  pub stacked-more : {s t u : StoreValue} {first : ℕ} {xs ys : List AnyStanding} {x : AnyStanding} {was is : Option Tables} → EachOnce (names_now ms) → AreStacked s t first (take i ms) xs was → IsPlaced t u first was is m x → ys ≡ xs ++ x ∷ []
+  pub stacked-more : {M : Type 0} {s t u : StoreValue} {first : ℕ} {xs ys : List (AnyStanding M)} {x : AnyStanding M} {was is : Option Tables} → EachOnce (names_now ms) → AreStacked s t first (take i ms) xs was → IsPlaced t u first was is m x → ys ≡ xs ++ x ∷ []
       → AreStacked s u first (take (i + 1) ms) ys is
   stacked-more {s} {t} {u} {first} {xs} {ys} {x} {was} {is} each so_far placed pushed =
       let more : take (i + 1) ms ≡ take i ms ++ m ∷ [] = take_more ms i m within ∙ ap (λ k. take i ms ++ k ∷ []) (sym at) in
@@ -175,7 +181,7 @@ module _ (ms : List ModuleText) (i : ℕ) (m : ModuleText) (at : m ≡ get_or ms
 
 -- ---- a module without queues
 
-pub placed-bare : (s : StoreValue) (first : ℕ) (shelf : Option Tables) (t : ModuleText) (x : AnyStanding) → module_in s x ≡ module_now t → IsHeld s x → ((i : ℕ) → keeps x i ≡ 0) → ((k : ℕ) → owns x k ≡ own_of first k t) → module_blocks t ≡ 0
+pub placed-bare : {M : Type 0} (s : StoreValue) (first : ℕ) (shelf : Option Tables) (t : ModuleText) (x : AnyStanding M) → module_in s x ≡ module_now t → IsHeld s x → ((i : ℕ) → keeps x i ≡ 0) → ((k : ℕ) → owns x k ≡ own_of first k t) → module_blocks t ≡ 0
     → IsPlaced s s first shelf shelf t x
 placed-bare s first shelf t x is held rests own none = record {
   state = is;
@@ -189,9 +195,9 @@ placed-bare s first shelf t x is held rests own none = record {
 
 -- ---- an ldterm
 
-pub placed-ldterm : (s t : StoreValue) (first : ℕ) (was is : Option Tables) (text : ModuleText) (l : LdtermText) (x : Ldterm) (pair : QueuePair) → text ≡ texts.Ldterm l → own_in t x ≡ own_now l → pair_in t pair ≡ pair_now l
+pub placed-ldterm : {M : Type 0} (s t : StoreValue) (first : ℕ) (was is : Option Tables) (text : ModuleText) (l : LdtermText) (x : Ldterm) (pair : QueuePair) → text ≡ texts.Ldterm l → own_in t x ≡ own_now l → pair_in t pair ≡ pair_now l
     → HasInHand t x (Some pair) → IsPairReady t pair → ((i : ℕ) → keeps_itself x i ≡ 0) → ((k : ℕ) → queues_own (Some pair) k ≡ once first k + once (first + 1) k) → FillsTwo s t first → Spent s t (ldterm_blocks l)
-    → IsPlaced s t first was is text (standing (kinds.Ldterm x) (Some pair))
+    → let y : AnyStanding M = standing (kinds.Ldterm x) (Some pair) in IsPlaced s t first was is text y
 placed-ldterm s t first was is text l x pair e own_is pair_is held ready rests own fills spent = subst (λ m. IsPlaced s t first was is m (standing (kinds.Ldterm x) (Some pair))) (sym e) (record {
   state = ap (λ part. stood (OfLdterm part) (Some (pair_in t pair))) own_is ∙ ap (λ queues. stood (OfLdterm (own_now l)) (Some queues)) pair_is;
   held = record { queues = ready; itself = held };

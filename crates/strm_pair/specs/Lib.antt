@@ -1,6 +1,7 @@
 pub mod Prelude
 pub mod Alone
 pub mod AnyModules
+pub mod OwnPuts
 pub mod Given
 pub mod Stacks
 pub mod PutBy
@@ -34,5 +35,6 @@ pub mod Standing
 pub mod Staying
 pub mod Placing
 pub mod Laying
+pub mod Known
 pub mod Restored
 pub mod Reserved

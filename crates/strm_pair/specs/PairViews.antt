@@ -1,6 +1,7 @@
 -- What a pair over a store stands for, and what holds of each.
 use Rattle.std.specs.Prelude.{ℕ, ◌≡◌}
 use Rattle.strm_pair.specs.Prelude.{Config, Fates, plain, IsBase, told_by, FewBooked, PairState, AreWithinEntries, State, replay, IsLegal, StoreValue}
+use Rattle.strm_pair.specs.Prelude.{Behaviour}
 use Rattle.strm_pair.specs.declared.streams.Streams.{Streams}
 use Rattle.strm_pair.specs.declared.base.Base.{Base}
 use Rattle.strm_pair.specs.declared.journal.Journal.{Journal}
@@ -9,15 +10,15 @@ use Rattle.strm_pair.specs.Pairs.{state_in, free_in, journal_of, AreHeld}
 use Rattle.strm_pair.specs.Starts.{Start}
 
 -- the state to which a journal leads from a base
-abbrev pub led_to : Start → Journal → State ℕ
-led_to base journal = replay plain base.state (journal_of journal)
+abbrev pub led_to : (K : Behaviour) → Start → Journal → State ℕ
+led_to K base journal = replay K plain base.state (journal_of journal)
 
 -- the sizes of a pair over a store, which gives its numbers of blocks
 abbrev pub sizes_over : StoreValue → Config → Config
 sizes_over s sizes = record sizes { mblks = s.mblks; dblks = s.dblks }
 
 -- the pair that the store, the streams and the journal from its base stand for
-abbrev pub pair_of : StoreValue → Streams → Journal → Start → Config → Fates → PairState
+abbrev pub pair_of : {M : Type 0} → StoreValue → Streams M → Journal → Start → Config → Fates → PairState
 pair_of s streams journal base limits fates = record {
   state = state_in s streams;
   base = base.state;
@@ -32,13 +33,14 @@ pair_of s streams journal base limits fates = record {
 -- The blocks stand for the state to which the journal leads from the base, each entry of it is a legal step, and names a band that queues have; no more
 -- is booked than a ledger can hold; the numbers that are kept beside the blocks are those of the blocks, and nothing is in hand; what has gone is told
 -- by its rules, from what had gone at the base on; and the sizes are those that the pair was made with.
-pub record IsKept (s : StoreValue) (streams : Streams) (journal : Journal) (base : Start) (limits : Config) (fates : Fates) : Type 0 where
+pub record IsKept {M : Type 0} (K : Behaviour) (s : StoreValue) (streams : Streams M) (journal : Journal) (base : Start) (limits : Config)
+    (fates : Fates) : Type 0 where
   pub based : IsBase base.state base.fates
-  pub replayed : state_in s streams ≡ led_to base journal
-  pub legal : IsLegal plain base.state (journal_of journal)
+  pub replayed : state_in s streams ≡ led_to K base journal
+  pub legal : IsLegal K plain base.state (journal_of journal)
   pub within : AreWithinEntries (journal_of journal)
   pub few : FewBooked (state_in s streams)
-  pub told : fates ≡ told_by plain base.state (journal_of journal) base.fates
+  pub told : fates ≡ told_by K plain base.state (journal_of journal) base.fates
   pub held : AreHeld s streams
   pub mblks : s.mblks ≡ limits.mblks
   pub dblks : s.dblks ≡ limits.dblks
@@ -46,6 +48,7 @@ pub record IsKept (s : StoreValue) (streams : Streams) (journal : Journal) (base
   pub bytes : journal.most_bytes ≡ limits.journal_bytes
 
 -- So it is of each pair from the base of its journal, whose text is written.
-pub record IsWhole (s : StoreValue) (streams : Streams) (journal : Journal) (base : Base) (limits : Config) (fates : Fates) : Type 0 where
-  pub kept : IsKept s streams journal (start_in base) limits fates
+pub record IsWhole {M : Type 0} (K : Behaviour) (s : StoreValue) (streams : Streams M) (journal : Journal) (base : Base) (limits : Config)
+    (fates : Fates) : Type 0 where
+  pub kept : IsKept K s streams journal (start_in base) limits fates
   pub written : IsWritten base limits

@@ -8,13 +8,14 @@ ghost use Rattle.strm_laws.specs.Closes.{head_emptied, driver_emptied, ended, hu
 ghost use Rattle.strm_types.specs.Emptied.{of_all};
 ghost use Rattle.strm_laws.specs.Puts.{flushed_on};
 
+use crate::own::OwnModule;
 use crate::streams::Streams;
 use strm_blocks::Blocks;
 use strm_frame::clear_queue;
 use strm_head::make_flush;
 use strm_types::{Answer, Band, Fates, FlushAsked, FlushQueues, Rule, Side, Spot, Way};
 
-impl Streams {
+impl<M: OwnModule> Streams<M> {
     ghost use Rattle.strm_types.specs.declared.names.Side.TheVariants.{Slave};
     ghost use Rattle.strm_pair.specs.Effects.{AreAtRest, Becomes, Delivers, Leads, MayDeliver};
     ghost use Rattle.strm_pair.specs.Pairs.{state_in, AreHeld};
@@ -31,7 +32,7 @@ impl Streams {
     ) -> Answer<u32>
         requires { MayDeliver (B.value store.old) self.old 6 }
         ensures answer { result ≡ Done }
-        ensures delivers { let s = B.value store.old in let is = flushed_on plain band side what (state_in s self.old) in
+        ensures delivers { let s = B.value store.old in let is = flushed_on M.does plain band side what (state_in s self.old) in
             Delivers s (B.value store.new) self.old self.new told.old told.new is.state is.gone 5 }
     {
         let message = make_flush(store, FlushAsked::of(what, band));

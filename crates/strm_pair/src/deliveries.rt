@@ -9,12 +9,13 @@ ghost use Rattle.strm_frame.specs.Outboxes.{message_in};
 ghost use Rattle.strm_pair.specs.Alone.{IsAlone};
 ghost use Rattle.strm_blocks.specs.Blocks.{token};
 
+use crate::own::OwnModule;
 use crate::streams::Streams;
 use strm_blocks::{Blocks, InHand};
 use strm_frame::deliver;
 use strm_types::{Fates, HOPS, Spot};
 
-impl Streams {
+impl<M: OwnModule> Streams<M> {
     ghost use Rattle.strm_pair.specs.Effects.{Leads};
     ghost use Rattle.strm_pair.specs.Pairs.{state_in};
 
@@ -30,7 +31,7 @@ impl Streams {
         requires alone { IsAlone (B.value store.old) self.old (token message) }
         requires room { let s = B.value store.old in
             MayTake s (spare (state_in s self.old)) (most_of to (message_in s (token message))) }
-        ensures leads { let s = B.value store.old in let is = delivered plain to (message_in s (token message)) (state_in s self.old) in
+        ensures leads { let s = B.value store.old in let is = delivered M.does plain to (message_in s (token message)) (state_in s self.old) in
             Leads s (B.value store.new) self.new told.old told.new is.state is.gone }
         ensures takes { let s = B.value store.old in let t = B.value store.new in
             Takes s t (spare (state_in s self.old)) (spare (state_in t self.new)) (most_of to (message_in s (token message))) 0 }

@@ -13,6 +13,7 @@ ghost use Rattle.strm_queue.specs.Stored.{messages_on, queue_in, IsReady};
 ghost use Rattle.strm_pty.specs.Does.{OnlyQueue};
 ghost use Rattle.strm_pair.specs.Took.{settled, settling_relieves, TookFirst, MovesAcross};
 
+use crate::own::OwnModule;
 use crate::streams::Streams;
 use strm_blocks::{Blocks, InHand};
 use strm_frame::TurnEnd;
@@ -42,7 +43,7 @@ fn settle<B: Blocks>(store: &B, queue: &mut Queue, size: usize) -> TurnEnd
     }
 }
 
-impl Streams {
+impl<M: OwnModule> Streams<M> {
     ghost use Rattle.strm_blocks.specs.Blocks.{token};
     ghost use Rattle.strm_pair.specs.Effects.{AreAtRest, Becomes, Delivers, MayDeliver};
     ghost use Rattle.strm_pair.specs.Pairs.{state_in, end_at, AreBeside, AreHeld};
@@ -73,7 +74,7 @@ impl Streams {
     fn move_across<B: Blocks>(&mut self, store: &mut B, side: Side, told: &mut Fates) -> Turn
         requires may { MayDeliver (B.value store.old) self.old 8 }
         requires some { is_none_left (messages_on (B.value store.old) (end_at side self.old).driver.list) ≡ false }
-        ensures { MovesAcross side (B.value store.old) (B.value store.new) self.old self.new result told.old told.new }
+        ensures { MovesAcross M.does side (B.value store.old) (B.value store.new) self.old self.new result told.old told.new }
     {
         let Some(message) = self.take_first(store, side) else {
             return Turn::Idle;
@@ -121,8 +122,8 @@ impl Streams {
         told: &mut Fates,
     ) -> Turn
         requires { MayDeliver (B.value store.old) self.old 8 }
-        ensures turn { result ≡ (driver_turned plain side (state_in (B.value store.old) self.old)).turn }
-        ensures delivers { let s = B.value store.old in let is = driver_turned plain side (state_in s self.old) in
+        ensures turn { result ≡ (driver_turned M.does plain side (state_in (B.value store.old) self.old)).turn }
+        ensures delivers { let s = B.value store.old in let is = driver_turned M.does plain side (state_in s self.old) in
             Delivers s (B.value store.new) self.old self.new told.old told.new is.state is.gone 8 }
     {
         let Some(first) = store.peek(self.end(side).driver.list) else {

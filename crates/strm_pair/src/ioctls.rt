@@ -11,12 +11,13 @@ ghost use Rattle.strm_laws.specs.Pushes.{ioctl_dropped};
 ghost use Rattle.strm_laws.specs.State.{stream};
 ghost use Rattle.strm_blocks.specs.Blocks.{StoreValue};
 
+use crate::own::OwnModule;
 use crate::streams::Streams;
 use strm_blocks::Blocks;
 use strm_head::make_ioctl;
 use strm_types::{Answer, Content, Fates, Ioc, Side, Spot, Way, asks_group};
 
-impl Streams {
+impl<M: OwnModule> Streams<M> {
     ghost use Rattle.strm_pair.specs.Effects.{Becomes, Delivers, MayDeliver};
     ghost use Rattle.strm_pair.specs.Pairs.{state_in, AreHeld};
 
@@ -51,7 +52,7 @@ impl Streams {
         requires may { MayDeliver (B.value store.old) self.old IOCTL_BLOCKS }
         requires small { length body.now ≤ IOCTL_MAX }
         requires numbered { self.old.next_ioctl < IOCTL_END }
-        ensures { let s = B.value store.old in let is = ioctl_sent plain side command body.now (state_in s self.old) in
+        ensures { let s = B.value store.old in let is = ioctl_sent M.does plain side command body.now (state_in s self.old) in
             Delivers s (B.value store.new) self.old self.new told.old told.new is.state is.gone 30 }
     {
         let message = make_ioctl(store, Ioc::asking(command, self.next_ioctl), body);
@@ -113,10 +114,10 @@ impl Streams {
         requires numbered { self.old.next_ioctl < IOCTL_END }
         requires fresh { out.old.items ≡ [] }
         ensures answer { reply_in result out.new.items
-            ≡ (ioctl_called plain side command body.now (state_in (B.value store.old) self.old)).answer }
+            ≡ (ioctl_called M.does plain side command body.now (state_in (B.value store.old) self.old)).answer }
         ensures filled { answer_len result ≡ length out.new.items }
         ensures content { length out.new.items ≤ IOCTL_MAX }
-        ensures delivers { let s = B.value store.old in let is = ioctl_called plain side command body.now (state_in s self.old) in
+        ensures delivers { let s = B.value store.old in let is = ioctl_called M.does plain side command body.now (state_in s self.old) in
             Delivers s (B.value store.new) self.old self.new told.old told.new is.state is.gone 30 }
     {
         if asks_group(side, command) {

@@ -13,6 +13,7 @@ ghost use Rattle.strm_types.specs.PutMsg.{put_blocks, put_refusal};
 ghost use Rattle.strm_laws.specs.State.{with_book};
 ghost use Rattle.strm_pair.specs.Parts.{longest_part};
 
+use crate::own::OwnModule;
 use crate::streams::Streams;
 use crate::writes::with_written;
 use strm_blocks::Blocks;
@@ -30,7 +31,7 @@ fn len_of(lent: Option<&[u8]>) -> usize
     }
 }
 
-impl Streams {
+impl<M: OwnModule> Streams<M> {
     ghost use Rattle.strm_pair.specs.Effects.{Becomes, Delivers, Leads, MayDeliver};
     ghost use Rattle.strm_pair.specs.Pairs.{state_in, AreHeld};
 
@@ -58,7 +59,7 @@ impl Streams {
             (WRITE_BLOCKS + put_blocks (option_map (λ bytes. bytes.now) control) (option_map (λ bytes. bytes.now) body)) }
         ensures answer { result ≡ Done }
         ensures delivers { let c = option_map (λ bytes. bytes.now) control.entry in let b = option_map (λ bytes. bytes.now) body.entry in
-            let s = B.value store.old in let is = put_at plain side prio c b (state_in s self.old) in
+            let s = B.value store.old in let is = put_at M.does plain side prio c b (state_in s self.old) in
             Delivers s (B.value store.new) self.old self.new told.old told.new is.state is.gone 0 }
     {
         let Some(message) = make_message(store, prio, control, body) else {

@@ -17,6 +17,7 @@ ghost use Rattle.strm_pair.specs.declared.module_turns.Begun.TheVariants.{Over};
 ghost use Rattle.strm_pair.specs.ModuleTurned.{BeginsAs};
 
 use crate::named_queues::place_named;
+use crate::own::OwnModule;
 use crate::streams::Streams;
 use strm_blocks::Blocks;
 use strm_frame::TurnEnd;
@@ -29,7 +30,7 @@ pub(crate) enum Begun {
     Serves(Spot),
 }
 
-impl Streams {
+impl<M: OwnModule> Streams<M> {
     ghost use Rattle.strm_pair.specs.Effects.{AreAtRest, Leads, MayDeliver};
     ghost use Rattle.strm_pair.specs.Pairs.{free_in, state_in, AreBeside, AreHeld, kept_by};
 
@@ -79,7 +80,7 @@ impl Streams {
     /// where that is what it asks for. Nothing of a turn is under way.
     pub(crate) fn begin_module_turn<B: Blocks>(&mut self, store: &B, name: QueueName) -> Begun
         requires { AreAtRest (B.value store.now) self.old }
-        ensures begins { BeginsAs (state_in (B.value store.now) self.old) (state_in (B.value store.now) self.new)
+        ensures begins { BeginsAs M.does (state_in (B.value store.now) self.old) (state_in (B.value store.now) self.new)
             name result }
         ensures held { AreHeld (B.value store.now) self.new }
     {
@@ -129,8 +130,8 @@ impl Streams {
         told: &mut Fates,
     ) -> Turn
         requires { MayDeliver (B.value store.old) self.old STOP_BLOCKS }
-        ensures turn { result ≡ (module_turned plain name result (state_in (B.value store.old) self.old)).turn }
-        ensures leads { let s = B.value store.old in let is = module_turned plain name result (state_in s self.old) in
+        ensures turn { result ≡ (module_turned M.does plain name result (state_in (B.value store.old) self.old)).turn }
+        ensures leads { let s = B.value store.old in let is = module_turned M.does plain name result (state_in s self.old) in
             Leads s (B.value store.new) self.new told.old told.new is.state is.gone }
         ensures few { FewBooked (state_in (B.value store.new) self.new) }
         ensures stops { (owner : ModuleName) → name.place ≡ Module owner →

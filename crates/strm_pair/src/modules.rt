@@ -1,12 +1,14 @@
-//! The modules that may stand on a side's stream: ldterm (ldterm(7M)), ptem (ptem(7M)) and pckt (pckt(7M)), each as it is by itself.
+//! The modules that may stand on a side's stream: ldterm (ldterm(7M)), ptem (ptem(7M)), pckt (pckt(7M)) and those of a user's own, each as it is by
+//! itself.
 
-ghost use Rattle.std.specs.Prelude.{ℕ, ◌≡◌};
+ghost use Rattle.std.specs.Prelude.{ℕ, ◌≡◌, false, MatchOption};
 ghost use Rattle.strm_types.specs.Ptems.{new_ptem};
-ghost use Rattle.strm_laws.specs.Pushes.{kind_named};
+ghost use Rattle.strm_laws.specs.Pushes.{is_known};
 ghost use Rattle.strm_laws.specs.Stacked.{OfPtem, without_kind_line};
 ghost use Rattle.strm_blocks.specs.Blocks.{StoreValue};
-ghost use Rattle.strm_pair.specs.AnyModules.{IsBare, IsFresh, kind_in};
+ghost use Rattle.strm_pair.specs.AnyModules.{IsBare, IsMade, kind_in};
 
+use crate::own::{OwnModule, Owned};
 use strm_blocks::{Blocks, InHand};
 use strm_frame::{Acts, Module, QueuePair, Served};
 use strm_ldterm::Ldterm;
@@ -15,31 +17,35 @@ use strm_types::{Asks, Fates, ModuleName, Spot, Way};
 
 /// A module of any kind.
 #[derive(Drop)]
-pub enum AnyModule {
+pub enum AnyModule<M: OwnModule> {
     Ldterm(Ldterm),
     Ptem(Ptem),
     Pckt(Pckt),
+    Own(Owned<M>),
 }
 
-impl Default for AnyModule {
+impl<M: OwnModule> Default for AnyModule<M> {
     ghost is_default = { λ x. (s : StoreValue) → kind_in s x ≡ OfPtem new_ptem };
 
     /// What stands in the unused places of an array.
-    fn default() -> AnyModule {
+    fn default() -> AnyModule<M> {
         AnyModule::Ptem(Ptem::new())
     }
 }
 
-impl AnyModule {
-    /// One as its name makes it.
-    pub(crate) fn made(name: ModuleName) -> AnyModule
-        ensures made { (s : StoreValue) → kind_in s result ≡ kind_named name }
-        ensures fresh { IsFresh name result }
+impl<M: OwnModule> AnyModule<M> {
+    /// One as its name makes it. `None` where there are no modules of the name.
+    pub(crate) fn made(name: ModuleName) -> Option<AnyModule<M>>
+        ensures { MatchOption result (is_known M.does name ≡ false) (IsMade M.does name) }
     {
         match name {
-            ModuleName::Ldterm => AnyModule::Ldterm(Ldterm::new()),
-            ModuleName::Ptem => AnyModule::Ptem(Ptem::new()),
-            ModuleName::Pckt => AnyModule::Pckt(Pckt),
+            ModuleName::Ldterm => Some(AnyModule::Ldterm(Ldterm::new())),
+            ModuleName::Ptem => Some(AnyModule::Ptem(Ptem::new())),
+            ModuleName::Pckt => Some(AnyModule::Pckt(Pckt)),
+            ModuleName::Own(number) => match Owned::made(number) {
+                Some(own) => Some(AnyModule::Own(own)),
+                None => None,
+            },
         }
     }
 
@@ -54,9 +60,9 @@ impl AnyModule {
     }
 }
 
-impl Module for AnyModule {
+impl<M: OwnModule> Module for AnyModule<M> {
     ghost use Rattle.strm_types.specs.Cells as cells;
-    ghost use Rattle.strm_types.specs.Tables.{name_does};
+    ghost use Rattle.strm_types.specs.Tables.{name_does, name_holds};
     ghost use Rattle.strm_laws.proofs.PutsWithin.{module-within};
     ghost use Rattle.strm_laws.specs.Stacked as plain;
     ghost use Rattle.strm_types.specs.LdtermCalls.{Ends};
@@ -73,7 +79,7 @@ impl Module for AnyModule {
 
     ghost keeps = { λ x. any.kind_keeps x };
 
-    ghost puts = { λ here m x. plain.module_puts cells.plain 0 here m x };
+    ghost puts = { λ here m x. plain.module_puts M.does cells.plain 0 here m x };
 
     ghost line_of = { plain.kind_line };
 
@@ -89,6 +95,8 @@ impl Module for AnyModule {
 
     ghost does = { λ p. name_does (plain.kind_name p) };
 
+    ghost holds = { λ p. name_holds (plain.kind_name p) };
+
     ghost turn_cost = { any.kind_cost };
 
     fn name(&self) -> ModuleName {
@@ -96,6 +104,7 @@ impl Module for AnyModule {
             AnyModule::Ldterm(ldterm) => Module::name(ldterm),
             AnyModule::Ptem(ptem) => Module::name(ptem),
             AnyModule::Pckt(pckt) => Module::name(pckt),
+            AnyModule::Own(own) => Module::name(own),
         }
     }
 
@@ -111,6 +120,7 @@ impl Module for AnyModule {
             AnyModule::Ldterm(ldterm) => ldterm.put(queues, store, here, message, told),
             AnyModule::Ptem(ptem) => ptem.put(queues, store, here, message, told),
             AnyModule::Pckt(pckt) => pckt.put(queues, store, here, message, told),
+            AnyModule::Own(own) => own.put(queues, store, here, message, told),
         }
     }
 
@@ -119,6 +129,7 @@ impl Module for AnyModule {
             AnyModule::Ldterm(ldterm) => ldterm.asks(queues, store, way),
             AnyModule::Ptem(ptem) => ptem.asks(queues, store, way),
             AnyModule::Pckt(pckt) => pckt.asks(queues, store, way),
+            AnyModule::Own(own) => own.asks(queues, store, way),
         }
     }
 
@@ -134,6 +145,7 @@ impl Module for AnyModule {
             AnyModule::Ldterm(ldterm) => ldterm.serve(queues, store, here, again, told),
             AnyModule::Ptem(ptem) => ptem.serve(queues, store, here, false, told),
             AnyModule::Pckt(pckt) => pckt.serve(queues, store, here, false, told),
+            AnyModule::Own(own) => own.serve(queues, store, here, false, told),
         }
     }
 
@@ -142,6 +154,7 @@ impl Module for AnyModule {
             AnyModule::Ldterm(ldterm) => Module::line_len(ldterm),
             AnyModule::Ptem(ptem) => Module::line_len(ptem),
             AnyModule::Pckt(pckt) => Module::line_len(pckt),
+            AnyModule::Own(own) => Module::line_len(own),
         }
     }
 
@@ -150,10 +163,11 @@ impl Module for AnyModule {
             AnyModule::Ldterm(ldterm) => Module::clear_line(ldterm),
             AnyModule::Ptem(ptem) => Module::clear_line(ptem),
             AnyModule::Pckt(pckt) => Module::clear_line(pckt),
+            AnyModule::Own(own) => Module::clear_line(own),
         }
     }
 
-    ghost within = { λ here m x. module-within cells.plain 0 here m x };
+    ghost within = { λ here m x. module-within M.does cells.plain 0 here m x };
 
     ghost frame = { λ s t x queues others lists same held. any.module-frame s t x queues others lists same held };
 
@@ -165,7 +179,7 @@ impl Module for AnyModule {
 
     ghost turn_goes = { λ here again stop x may. any.serves-on here again stop x.part x.queues may };
 
-    ghost put_stays = { λ here m x way again may. any.puts-serve here m way again x.part x.queues may };
+    ghost put_stays = { λ here m x way again may. any.puts-serve M.does here m way again x.part x.queues may };
 
     ghost line_stays = { λ p way again may. any.line-serves way again p may };
 }

@@ -18,6 +18,7 @@ ghost use Rattle.strm_pair.specs.Taken.{TookNone, TookTop, WithoutTop};
 
 use crate::earlier::note;
 use crate::ends::first_list;
+use crate::own::OwnModule;
 use crate::stacks::{Taken, module_count, push_named, take_top};
 use crate::streams::Streams;
 use strm_blocks::Blocks;
@@ -41,7 +42,7 @@ fn mode_on_push(name: ModuleName) -> Option<ReadMode>
 {
     match name {
         ModuleName::Ldterm => Some(ReadMode::MessageKeep),
-        ModuleName::Ptem | ModuleName::Pckt => None,
+        ModuleName::Ptem | ModuleName::Pckt | ModuleName::Own(_) => None,
     }
 }
 
@@ -51,7 +52,7 @@ fn mode_behind(name: Option<ModuleName>) -> Option<ReadMode>
 {
     match name {
         Some(ModuleName::Ldterm) => Some(ReadMode::ByteStream),
-        Some(ModuleName::Ptem | ModuleName::Pckt) | None => None,
+        Some(ModuleName::Ptem | ModuleName::Pckt | ModuleName::Own(_)) | None => None,
     }
 }
 
@@ -63,7 +64,7 @@ pub(crate) struct TakenOff {
     pub met: bool,
 }
 
-impl Streams {
+impl<M: OwnModule> Streams<M> {
     ghost use Rattle.strm_blocks.specs.Blocks.{StoreValue};
     ghost use Rattle.strm_pair.specs.Effects.{AreAtRest, Leads};
     ghost use Rattle.strm_pair.specs.Pairs.{state_in, end_at, with_end, AreHeld};
@@ -231,8 +232,8 @@ impl Streams {
     // Pushes a module on the stack of a side, as its name makes it: one that may stand there.
     fn put_on<B: Blocks>(&mut self, store: &B, side: Side, name: ModuleName)
         requires held { AreHeld (B.value store.now) self.old }
-        requires may_stand { may_stand (named_by (Some name)) (stream side (state_in (B.value store.now) self.old)).modules ≡ true }
-        ensures state { let s = state_in (B.value store.now) self.old in IfSome (named_by (Some name))
+        requires may_stand { may_stand (named_by M.does (Some name)) (stream side (state_in (B.value store.now) self.old)).modules ≡ true }
+        ensures state { let s = state_in (B.value store.now) self.old in IfSome (named_by M.does (Some name))
             (λ p. state_in (B.value store.now) self.new ≡ with_modules side (p ∷ (stream side s).modules) s) }
         ensures held { AreHeld (B.value store.now) self.new }
     {
@@ -269,10 +270,10 @@ impl Streams {
         told: &mut Fates,
     ) -> Answer<u32>
         requires rests { AreAtRest (B.value store.old) self.old }
-        requires may_stand { may_stand (named_by name) (stream side (state_in (B.value store.old) self.old)).modules ≡ true }
+        requires may_stand { may_stand (named_by M.does name) (stream side (state_in (B.value store.old) self.old)).modules ≡ true }
         requires room { HasRoom (B.value store.old) 1 }
         ensures answer { result ≡ Done }
-        ensures leads { let s = B.value store.old in let is = pushed_named side (named_by name) (state_in s self.old) in
+        ensures leads { let s = B.value store.old in let is = pushed_named side (named_by M.does name) (state_in s self.old) in
             Leads s (B.value store.new) self.new told.old told.new is.state is.gone }
     {
         let Some(name) = name else {

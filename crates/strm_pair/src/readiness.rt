@@ -3,6 +3,7 @@
 ghost use Rattle.std.specs.Prelude.{◌≡◌};
 ghost use Rattle.strm_pair.specs.Readiness.{is_answered, is_eagain, readiness};
 
+use crate::own::OwnModule;
 use crate::streams::Streams;
 use strm_blocks::Blocks;
 use strm_types::{Band, Refusal, Side, Slot, Wanted};
@@ -40,13 +41,13 @@ fn is_answered<T>(slot: &Slot<T>) -> bool
     matches!(slot, Slot::Answered { .. })
 }
 
-impl Streams {
+impl<M: OwnModule> Streams<M> {
     ghost use Rattle.strm_pair.specs.Pairs.{state_in, AreHeld};
 
     /// What a side is ready for.
     pub fn ready<B: Blocks>(&self, store: &B, side: Side) -> Ready
         requires held { AreHeld (B.value store.now) self.now }
-        ensures { result ≡ readiness side (state_in (B.value store.now) self.now) }
+        ensures { result ≡ readiness M.does side (state_in (B.value store.now) self.now) }
     {
         let end = self.end(side);
         let at_end = self.is_at_end(store, side);

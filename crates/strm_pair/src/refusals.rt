@@ -14,6 +14,7 @@ ghost use Rattle.strm_types.specs.Names.{is_never, is_open};
 ghost use Rattle.strm_laws.specs.State.{stream};
 
 use crate::ends::StreamEnd;
+use crate::own::{OwnModule, is_known};
 use crate::stacks::module_count;
 use crate::streams::Streams;
 use strm_blocks::Blocks;
@@ -41,14 +42,14 @@ fn needed(is_asked: bool, condition: bool, refusal: Refusal) -> Option<Refusal>
     unless(!is_asked || condition, refusal)
 }
 
-impl Streams {
+impl<M: OwnModule> Streams<M> {
     ghost use Rattle.strm_blocks.specs.Blocks.{StoreValue};
     ghost use Rattle.strm_pair.specs.Streams.{stream_in};
     ghost use Rattle.strm_types.specs.declared.names.Side.TheVariants.{Master, Slave};
     ghost use Rattle.strm_pair.specs.Pairs.{state_in, end_at, AreHeld};
 
     /// The stream of a side.
-    pub(crate) fn end(&self, side: Side) -> &StreamEnd
+    pub(crate) fn end(&self, side: Side) -> &StreamEnd<M>
         ensures end { result.now ≡ end_at side self.now }
         ensures stream { (s : StoreValue) → stream_in s result.now ≡ stream side (state_in s self.now) }
     {
@@ -144,15 +145,15 @@ impl Streams {
         )
     }
 
-    // Whether a module of a name may be pushed on a side's stream: there is room, and none of its name stands there.
+    // Whether a module of a name may be pushed on a side's stream: there are modules of the name, there is room, and none of its name stands there.
     fn may_push(&self, side: Side, name: Option<ModuleName>) -> bool
-        ensures { (s : StoreValue) → result ≡ may_stand (named_by name) (stream side (state_in s self.now)).modules }
+        ensures { (s : StoreValue) → result ≡ may_stand (named_by M.does name) (stream side (state_in s self.now)).modules }
     {
         let Some(kind) = name else {
             return false;
         };
         let stack = &self.end(side).stack;
-        module_count(stack) < MODULES && !stack.has(kind)
+        is_known::<M>(kind) && (module_count(stack) < MODULES && !stack.has(kind))
     }
 
     // What job control makes of a caller's call that does this at the terminal.
@@ -178,7 +179,7 @@ impl Streams {
         requires allowed { refused_at_once (state_in (B.value store.now) self.now) caller (request event.now) ≡ None }
         requires access { access ≡ (needs (request event.now)).access }
         ensures { let state = state_in (B.value store.now) self.now in
-            result ≡ judged (refused_by_state state caller (request event.now)) (stop_of state caller (request event.now)) }
+            result ≡ judged (refused_by_state M.does state caller (request event.now)) (stop_of state caller (request event.now)) }
     {
         match self.hold(caller, access) {
             Verdict::Allowed => match self.unfit(store, caller, event) {
@@ -194,7 +195,7 @@ impl Streams {
     fn unfit<B: Blocks>(&self, store: &B, caller: Caller, event: &Event<&[u8]>) -> Option<Refusal>
         requires held { AreHeld (B.value store.now) self.now }
         requires allowed { refused_at_once (state_in (B.value store.now) self.now) caller (request event.now) ≡ None }
-        ensures { result ≡ unfit (state_in (B.value store.now) self.now) caller (request event.now) }
+        ensures { result ≡ unfit M.does (state_in (B.value store.now) self.now) caller (request event.now) }
     {
         match event {
             Event::OpenMaster => self.opened_before(),

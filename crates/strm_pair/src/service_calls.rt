@@ -9,6 +9,7 @@ ghost use Rattle.strm_laws.specs.TurnCalls.{discipline_of, module_at};
 ghost use Rattle.strm_frame.specs.Outboxes.{sent_of};
 ghost use Rattle.strm_pair.specs.ModuleServed.{ActsAs, BookTakes, CallsAs, IsKeptAll, MayBook, MayCall, StackServes, StopsFew, TreatsAs, between, call_of, with_more};
 
+use crate::own::OwnModule;
 use crate::stacks::place_at;
 use crate::streams::Streams;
 use strm_blocks::Blocks;
@@ -60,7 +61,7 @@ pub(crate) struct Call {
     again: bool,
 }
 
-impl Streams {
+impl<M: OwnModule> Streams<M> {
     ghost use Rattle.strm_pair.specs.Effects.{MayDeliver};
     ghost use Rattle.strm_pair.specs.Pairs.{state_in, end_at, with_end, AreBeside, SamePool};
 
@@ -134,7 +135,7 @@ impl Streams {
         requires may { MayCall (B.value store.old) self.old here again }
         requires low { here.at ≤ MODULES }
         requires books { MayBook here again (state_in (B.value store.old) self.old) }
-        ensures { CallsAs (B.value store.old) (B.value store.new) self.old self.new here again result told.old told.new }
+        ensures { CallsAs M.does (B.value store.old) (B.value store.new) self.old self.new here again result told.old told.new }
     {
         let served = self.act(store, here, again, told);
         store.audit();
@@ -160,7 +161,7 @@ impl Streams {
         requires low { here.at ≤ MODULES }
         requires within { here.at ≤ length (stream here.side (state_in (B.value store.old) self.old)).modules }
         requires few { bytes_left here.way false (discipline_of (module_at here (state_in (B.value store.old) self.old))) ≤ 16777216 }
-        ensures treats { TreatsAs here result (state_in (B.value store.old) self.old)
+        ensures treats { TreatsAs M.does here result (state_in (B.value store.old) self.old)
             (state_in (B.value store.new) self.new) told.old told.new }
         ensures few { StopsFew here result (state_in (B.value store.old) self.old) (B.value store.new) }
         ensures beside { AreBeside (B.value store.new) self.new }

@@ -29,6 +29,7 @@ ghost use Rattle.strm_pair.specs.Effects.{MayPut};
 ghost use Rattle.strm_pair.specs.PutBy.{PutBy, CameBy, StackTakes};
 ghost use Rattle.strm_pair.specs.Staying.{KeepsBlocks};
 
+use crate::own::OwnModule;
 use crate::service_calls::Made;
 use crate::stacks::place_at;
 use crate::streams::Streams;
@@ -78,7 +79,7 @@ fn is_flush(kind: MsgKind) -> bool
     matches!(kind, MsgKind::Flush)
 }
 
-impl Streams {
+impl<M: OwnModule> Streams<M> {
     ghost use Rattle.strm_pair.specs.Pairs.{state_in, end_at, with_end, AreBeside, kept_by};
     ghost use Rattle.strm_blocks.specs.Blocks.{StoreValue};
 
@@ -170,7 +171,7 @@ impl Streams {
         requires inside { 0 < to.at }
         requires within { to.at ≤ modules_on to.side (state_in (B.value store.old) self.old) }
         ensures streams { self.new ≡ with_end to.side (record (end_at to.side self.old) { stack = (end_at to.side self.new).stack }) self.old }
-        ensures takes { StackTakes (B.value store.old) (B.value store.new) (end_at to.side self.old).stack (end_at to.side self.new).stack
+        ensures takes { StackTakes M.does (B.value store.old) (B.value store.new) (end_at to.side self.old).stack (end_at to.side self.new).stack
             (token message) to result told.old told.new }
     {
         self.ends
@@ -198,7 +199,7 @@ impl Streams {
         ensures does { let s = B.value store.old in let m = message_in s (token message) in let st = state_in s self.old in
             let ms = (stream to.side st).modules in
             PutBy s (B.value store.new) self.old self.new (token message) (at_place (module_takes to m) 0 to.at ms)
-            (sent_of result) told.old told.new (put_at_module plain to m st) }
+            (sent_of result) told.old told.new (put_at_module M.does plain to m st) }
         ensures blocks { KeepsBlocks (B.value store.old) (B.value store.new) self.old to (token message) }
     {
         store.audit();
@@ -294,7 +295,7 @@ impl Streams {
             MayTake s (spare st) (costs (stands_of st) (spot_in s to (token message))).own }
         ensures does { let s = B.value store.old in let m = message_in s (token message) in let st = state_in s self.old in
             PutBy s (B.value store.new) self.old self.new (token message) (costs (stands_of st) (spot_in s to (token message))).own
-            (sent_of result) told.old told.new (put_in plain to m st) }
+            (sent_of result) told.old told.new (put_in M.does plain to m st) }
         ensures blocks { KeepsBlocks (B.value store.old) (B.value store.new) self.old to (token message) }
     {
         if to.at == 0 {
@@ -310,7 +311,7 @@ impl Streams {
     }
 }
 
-impl<B: Blocks> Stations<B> for Streams {
+impl<B: Blocks, M: OwnModule> Stations<B> for Streams<M> {
     ghost use Rattle.std.specs.Prelude.{ℕ};
     ghost use Rattle.strm_laws.specs.State.{State};
     ghost use Rattle.strm_pair.specs.Pairs.{state_in, AreBeside, kept_by};
@@ -326,7 +327,7 @@ impl<B: Blocks> Stations<B> for Streams {
 
     ghost keeps = { kept_by };
 
-    ghost puts = { put_in plain };
+    ghost puts = { put_in M.does plain };
 
     ghost costs = { λ s. costs (stands_of s) };
 
@@ -341,7 +342,7 @@ impl<B: Blocks> Stations<B> for Streams {
 
     ghost frame = { streams-frame };
 
-    ghost costed = { puts-costed plain };
+    ghost costed = { puts-costed M.does plain };
 
-    ghost stays_on = { λ to m p is. comes-on to m p is };
+    ghost stays_on = { λ to m p is. comes-on M.does to m p is };
 }

@@ -22,6 +22,7 @@ ghost use Rattle.strm_pair.specs.Streams.{IsBlank, IsSide, stream_in};
 ghost use Rattle.strm_pair.specs.Parts.{longest_part};
 
 use crate::ends::{StreamEnd, first_list};
+use crate::own::OwnModule;
 use crate::stacks::Stack;
 use std::alloc::{AllocError, Global};
 use strm_blocks::Blocks;
@@ -36,8 +37,8 @@ use strm_types::{
 /// The streams of a pair, whether its slave is locked, the queues that are enabled, the number that the next ioctl gets,
 /// and what was booked of each direction.
 #[derive(Drop)]
-pub(crate) struct Streams {
-    pub ends: Both<StreamEnd>,
+pub(crate) struct Streams<M: OwnModule> {
+    pub ends: Both<StreamEnd<M>>,
     pub locked: bool,
     pub enabled: Enabled,
     pub next_ioctl: u32,
@@ -73,7 +74,7 @@ pub(crate) fn queue_tables(alloc: Global) -> Result<Both<SideTables>, AllocError
 
 // A stream that nobody opened, whose queues stand on the lists from a number on: the head's, the driver's, and two that
 // are kept for the queues of a module.
-fn new_end(first: usize, tables: SideTables) -> StreamEnd
+fn new_end<M: OwnModule>(first: usize, tables: SideTables) -> StreamEnd<M>
     requires { first ≤ 4 }
     ensures side { (s : StoreValue) → IsBlank s first → IsSide s first result }
     ensures stream { (s : StoreValue) → IsBlank s first → stream_in s result ≡ new_stream }
@@ -87,13 +88,13 @@ fn new_end(first: usize, tables: SideTables) -> StreamEnd
     }
 }
 
-impl Streams {
+impl<M: OwnModule> Streams<M> {
     ghost use Rattle.strm_types.specs.declared.names.Side.TheVariants.{Master};
     ghost use Rattle.strm_pair.specs.Effects.{AreAtRest, Becomes, Leads, MayDeliver};
     ghost use Rattle.strm_pair.specs.Pairs.{free_in, state_in, end_at, with_end, AreBeside, AreHeld};
 
     /// The streams of a new pair.
-    pub fn new(tables: Both<SideTables>) -> Streams
+    pub fn new(tables: Both<SideTables>) -> Streams<M>
         ensures state { (mblks dblks : ℕ) → state_in (empty_store mblks dblks) result ≡ opening }
         ensures held { (mblks dblks : ℕ) → AreHeld (empty_store mblks dblks) result }
     {
@@ -206,14 +207,14 @@ impl Streams {
     ) -> Answer<u32>
         requires rests { AreAtRest (B.value store.old) self.old }
         requires allowed { refused_at_once (state_in (B.value store.old) self.old) caller (request event.now) ≡ None }
-        requires fits { unfit (state_in (B.value store.old) self.old) caller (request event.now) ≡ None }
+        requires fits { unfit M.does (state_in (B.value store.old) self.old) caller (request event.now) ≡ None }
         requires room { HasRoom (B.value store.old) (blocks_asked (request event.now)) }
         ensures answer { reply_in result out.new.items
-            ≡ (performed plain caller (request event.now) (state_in (B.value store.old) self.old)).answer }
+            ≡ (performed M.does plain caller (request event.now) (state_in (B.value store.old) self.old)).answer }
         ensures filled { answer_len result ≡ length out.new.items }
         ensures content { length out.new.items ≤ content_max (request event.now) }
         ensures parts { longest_part result ≤ READ_MAX }
-        ensures leads { let s = B.value store.old in let is = performed plain caller (request event.now) (state_in s self.old) in
+        ensures leads { let s = B.value store.old in let is = performed M.does plain caller (request event.now) (state_in s self.old) in
             Leads s (B.value store.new) self.new told.old told.new is.state is.gone }
         ensures left { OnTrue (delivers (request event.now))
             (spare (state_in (B.value store.old) self.old) ≤ spare (state_in (B.value store.new) self.new) + 30) }
@@ -256,8 +257,8 @@ impl Streams {
     /// A turn of an enabled queue.
     pub fn turn<B: Blocks>(&mut self, store: &mut B, name: QueueName, told: &mut Fates) -> Turn
         requires { MayDeliver (B.value store.old) self.old (turn_blocks name.place) }
-        ensures turn { result ≡ (turned plain name result (state_in (B.value store.old) self.old)).turn }
-        ensures leads { let s = B.value store.old in let is = turned plain name result (state_in s self.old) in
+        ensures turn { result ≡ (turned M.does plain name result (state_in (B.value store.old) self.old)).turn }
+        ensures leads { let s = B.value store.old in let is = turned M.does plain name result (state_in s self.old) in
             Leads s (B.value store.new) self.new told.old told.new is.state is.gone }
         ensures few { FewBooked (state_in (B.value store.new) self.new) }
         ensures stops { MovesOn (state_in (B.value store.old) self.old) (free_in (B.value store.new)) name result }

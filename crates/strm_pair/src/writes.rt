@@ -14,6 +14,7 @@ ghost use Rattle.strm_laws.specs.Writes.{below_head, chunks_sent};
 ghost use Rattle.strm_blocks.specs.Blocks.{StoreValue};
 ghost use Rattle.strm_frame.specs.Hands.{HasRoom, Spends};
 
+use crate::own::OwnModule;
 use crate::streams::Streams;
 use strm_blocks::Blocks;
 use strm_head::write;
@@ -30,7 +31,7 @@ pub(crate) fn with_written(book: Book, count: usize) -> Book
     }
 }
 
-impl Streams {
+impl<M: OwnModule> Streams<M> {
     ghost use Rattle.strm_pair.specs.Effects.{AreAtRest, Delivers, MayDeliver};
     ghost use Rattle.strm_pair.specs.Pairs.{state_in};
 
@@ -46,7 +47,8 @@ impl Streams {
         requires rests { AreAtRest (B.value store.old) self.old }
         requires small { length chunk.now ≤ 256 }
         requires room { HasRoom (B.value store.old) 1 }
-        ensures delivers { let s = B.value store.old in let is = delivered plain (below_head side) (data_message chunk.now) (state_in s self.old) in
+        ensures delivers { let s = B.value store.old in
+            let is = delivered M.does plain (below_head side) (data_message chunk.now) (state_in s self.old) in
             Delivers s (B.value store.new) self.old self.new told.old told.new is.state is.gone 0 }
         ensures spends { Spends (B.value store.old) (B.value store.new) 1 0 }
     {
@@ -72,9 +74,9 @@ impl Streams {
         requires rests { AreAtRest (B.value store.old) self.old }
         requires room { HasRoom (B.value store.old) chunks }
         ensures taken { result
-            ≡ (chunks_sent plain side (chunks_of chunks bytes.now) (state_in (B.value store.old) self.old)).taken }
+            ≡ (chunks_sent M.does plain side (chunks_of chunks bytes.now) (state_in (B.value store.old) self.old)).taken }
         ensures fits { result ≤ length bytes.now }
-        ensures delivers { let s = B.value store.old in let is = chunks_sent plain side (chunks_of chunks bytes.now) (state_in s self.old) in
+        ensures delivers { let s = B.value store.old in let is = chunks_sent M.does plain side (chunks_of chunks bytes.now) (state_in s self.old) in
             Delivers s (B.value store.new) self.old self.new told.old told.new is.state is.gone 0 }
     {
         if chunks == 0 {
@@ -100,8 +102,8 @@ impl Streams {
         told: &mut Fates,
     ) -> u32
         requires { MayDeliver (B.value store.old) self.old (chunk_count (length bytes.now)) }
-        ensures answer { Count result ≡ (wrote plain side bytes.now (state_in (B.value store.old) self.old)).answer }
-        ensures delivers { let s = B.value store.old in let is = wrote plain side bytes.now (state_in s self.old) in
+        ensures answer { Count result ≡ (wrote M.does plain side bytes.now (state_in (B.value store.old) self.old)).answer }
+        ensures delivers { let s = B.value store.old in let is = wrote M.does plain side bytes.now (state_in s self.old) in
             Delivers s (B.value store.new) self.old self.new told.old told.new is.state is.gone 0 }
     {
         store.audit();

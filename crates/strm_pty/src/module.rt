@@ -9,7 +9,7 @@ use strm_frame::{Acts, Module, Outbox, QueuePair, Served};
 use strm_types::{Asks, Fates, ModuleName, Spot, Way};
 
 impl Module for Pckt {
-    ghost use Rattle.std.specs.Prelude.{◌≡◌, refl, None, [], false};
+    ghost use Rattle.std.specs.Prelude.{◌≡◌, refl, None, [], true, false};
     ghost use Rattle.strm_types.specs.declared.names.ModuleName.TheVariants as names;
     ghost use Rattle.strm_types.specs.declared.spots.Asks.TheVariants.{Empty};
     ghost use Rattle.strm_types.specs.Cells as cells;
@@ -45,6 +45,8 @@ impl Module for Pckt {
     ghost MayStop = { λ way again bytes x. ⊥ };
 
     ghost does = { λ p. pckt_does };
+
+    ghost holds = { λ p. true };
 
     ghost turn_cost = { λ here again p. 0 };
 
@@ -113,7 +115,7 @@ impl Module for Pckt {
 }
 
 impl Module for Ptem {
-    ghost use Rattle.std.specs.Prelude.{◌≡◌, refl, None, [], false};
+    ghost use Rattle.std.specs.Prelude.{◌≡◌, refl, None, [], true, false};
     ghost use Rattle.strm_types.specs.declared.names.ModuleName.TheVariants as names;
     ghost use Rattle.strm_types.specs.declared.spots.Asks.TheVariants.{Empty};
     ghost use Rattle.strm_types.specs.Ptems as plain;
@@ -148,6 +150,8 @@ impl Module for Ptem {
     ghost MayStop = { λ way again bytes x. ⊥ };
 
     ghost does = { λ p. ptem_does };
+
+    ghost holds = { λ p. true };
 
     ghost turn_cost = { λ here again p. 0 };
 

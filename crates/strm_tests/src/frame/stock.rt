@@ -84,7 +84,7 @@ fn keep<B: Blocks>(pair: &mut QueuePair, store: &mut B, message: InHand) -> bool
 }
 
 impl Module for Stock {
-    ghost use Rattle.std.specs.Prelude.{refl, false};
+    ghost use Rattle.std.specs.Prelude.{refl, true, false};
     ghost use Rattle.strm_types.specs.declared.names.ModuleName.{ModuleName};
     ghost use Rattle.strm_tests.specs.Toys.{stocks, stock_does, stock_asks, stock_serves};
     ghost use Rattle.strm_tests.specs.ToyLaws.{some-same, stocks-within, one-call};
@@ -117,6 +117,8 @@ impl Module for Stock {
     ghost turn_cost = { λ here again p. 8 };
 
     ghost does = { λ p. stock_does };
+
+    ghost holds = { λ p. true };
 
     fn name(&self) -> ModuleName {
         self.name

@@ -1,5 +1,5 @@
 -- Its kind does it.
-use Rattle.strm_pair.proofs.KindsDo.{kind-fits, kind-puts, ldterm-kind, pckt-kind, ptem-kind}
+use Rattle.strm_pair.proofs.KindsDo.{kind-fits, kind-puts, ldterm-kind, own-kind, pckt-kind, ptem-kind}
 use Rattle.strm_pair.proofs.modules.AnyModuleModule.put.Goals as goal
 
 pub put-requires-clause-held : goal.put-requires-clause-held
@@ -19,3 +19,9 @@ returns-in-Ptem g c = rw c.in-Ptem.is (kind-puts _ _ _ _ _ ptem-kind _ _ _ _ _ _
 
 pub returns-in-Pckt : goal.returns-in-Pckt
 returns-in-Pckt g c = rw c.in-Pckt.is (kind-puts _ _ _ _ _ pckt-kind _ _ _ _ _ _ _ _ _ _ _ _ c.put-in-Pckt.ensures)
+
+pub put-requires-in-Own-clause-held : goal.put-requires-in-Own-clause-held
+put-requires-in-Own-clause-held g c = kind-fits _ _ _ _ _ own-kind _ _ _ _ c.in-Own.is c.requires.held
+
+pub returns-in-Own : goal.returns-in-Own
+returns-in-Own g c = rw c.in-Own.is (kind-puts _ _ _ _ _ own-kind _ _ _ _ _ _ _ _ _ _ _ _ c.put-in-Own.ensures)

@@ -17,7 +17,7 @@ put-requires g c =
     let to = c.args.to in
     let is = c.get_mut.ensures.value in
     let few = length-map c.get_mut.result.now.stack.modules.items (module_in s) in
-    let same = modules-are s p to.side ∙ ap (λ (e : StreamEnd). modules_in s e.stack) (sym is) in (
+    let same = modules-are s p to.side ∙ ap (λ (e : StreamEnd _). modules_in s e.stack) (sym is) in (
       omega arith,
       (
         c.requires.inside,
@@ -26,7 +26,7 @@ put-requires g c =
           (
             rw is (c.requires.may.beside to.side).stack,
             (
-              record { apart = λ i. omega (arith, c.requires.may.can_put.apart i, kept-parts to.side p i, ap (λ (e : StreamEnd). stack_keeps e.stack i) is) },
+              record { apart = λ i. omega (arith, c.requires.may.can_put.apart i, kept-parts to.side p i, ap (λ (e : StreamEnd _). stack_keeps e.stack i) is) },
               (
                 c.requires.may.chain,
                 subst (λ ms. HasRoom s (at_place (module_takes to (message_in s (token c.args.message))) 0 to.at ms)) same c.requires.room,
@@ -46,5 +46,5 @@ returns-clause-takes g c =
     let t = g.B.Blocks.value c.put.new.store in
     let x = (end_at c.args.to.side c.args.self.now).stack in
     let e = rw c.get_mut.ensures.value at c.put.ensures.does in
-    subst (λ y. StackTakes s t x y (token c.args.message) c.args.to c.put.result c.args.told.now c.put.new.told)
+    subst (λ y. StackTakes g.M.Behaves.does s t x y (token c.args.message) c.args.to c.put.result c.args.told.now c.put.new.told)
     (sym (stack-there c.args.self.now c.args.to.side c.get_mut.result.now c.put.new.self c.get_mut.ensures.value).0) e

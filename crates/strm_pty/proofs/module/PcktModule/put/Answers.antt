@@ -34,6 +34,6 @@ returns g c =
       chains = e.swaps.chains;
       hands = packs-hands s t n here c.put.result _ _ e;
       spends = subst (λ (n : ℕ). Spends s t n 0) (sym (pckt-own here (message_in s n))) (packs-spends s t n here c.put.result _ _ e);
-      blocks = e.blocks;
+      blocks = λ holds. e.blocks;
       pool = e.swaps.hands.pool;
     }

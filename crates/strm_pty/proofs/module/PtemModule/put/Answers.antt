@@ -26,6 +26,6 @@ returns g c =
       chains = e.chains;
       hands = e.hands;
       spends = e.spends;
-      blocks = c.put.ensures.blocks;
+      blocks = λ holds. c.put.ensures.blocks;
       pool = e.pool;
     }

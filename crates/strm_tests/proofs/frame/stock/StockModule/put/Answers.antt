@@ -62,7 +62,7 @@ returns-then-stays g c =
       chains = none-chains _ _ c.none.ensures;
       hands = none-hands _ _ (once n) (λ _. 0) (λ _. 0) _ c.none.ensures (joined-hands s _ n _ _ c.audit.ensures c.requires.can_put e.changes e.frees);
       spends = frees-spends _ _ _ e.frees;
-      blocks = λ held. e.blocks;
+      blocks = λ holds held. e.blocks;
       pool = search rules;
     }
 
@@ -89,6 +89,6 @@ returns g c =
       chains = one-chains s next _ c.one.ensures c.requires.chain;
       hands = one-hands s next (λ _. 0) _ c.one.ensures;
       spends = record { mblks = omega arith; dblks = omega arith };
-      blocks = λ held. (omega arith, omega arith);
+      blocks = λ holds held. (omega arith, omega arith);
       pool = search rules;
     }
