@@ -1,5 +1,5 @@
 -- One module changes, and the others stand for the same.
-use Rattle.strm_frame.proofs.Prelude.{ℕ, get_or, map, refl, sym, ap, subst, ◌∙◌}
+use Rattle.strm_frame.proofs.Prelude.{ℕ, true, get_or, map, refl, sym, ap, subst, ◌∙◌}
 use Rattle.strm_frame.specs.Prelude.{own_at, tallied, of_part, Standing, token}
 use Rattle.std.proofs.Math.ListN.{set}
 use Rattle.strm_frame.specs.Hands.{once, HasRoom, Spends}

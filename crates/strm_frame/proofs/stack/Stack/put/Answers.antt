@@ -1,5 +1,5 @@
 -- The modules are taken as a slice, and written back whole.
-use Rattle.strm_frame.proofs.Prelude.{◌-◌, ◌∙◌, List, ap, sym, subst, length, map, arith, slice_index_or}
+use Rattle.strm_frame.proofs.Prelude.{true, ◌-◌, ◌∙◌, List, ap, sym, subst, length, map, arith, slice_index_or}
 use Rattle.strm_frame.specs.Prelude.{own_at, of_part, Standing, token}
 use Rattle.std.specs.Prelude.{ℕ}
 use Rattle.strm_types.specs.Modules.{put_among}
