@@ -11,8 +11,8 @@ returns-then-are_known g c =
     let ms = c.args.text.now.streams.master.modules.items in
     let ns = c.args.text.now.streams.slave.modules.items in
     let first = ap (are_known K) (sym (ap names_now c.as_slice.ensures.value ∙ names-same ms)) ∙ sym c.are_known.ensures ∙ c.if-are_known.true in
-    c.are_known-2.ensures
-    ∙ ap (are_known K) (ap names_now c.as_slice-2.ensures.value ∙ names-same ns)
+    c.are_known-then-are_known.ensures
+    ∙ ap (are_known K) (ap names_now c.as_slice-then-are_known.ensures.value ∙ names-same ns)
     ∙ sym (ap (λ b. b && are_known K (map module_name (modules_now ns))) first)
 
 pub returns-else-are_known : goal.returns-else-are_known
