@@ -20,7 +20,7 @@ use crate::own::OwnModule;
 use crate::streams::Streams;
 use strm_frame::Standing;
 use strm_head::IoctlBytes;
-use strm_types::{Fates, Side, Slot, Termios, Winsize};
+use strm_types::{Fates, Slot, Termios, Winsize};
 
 fn know_word(word: u32)
     ensures { word < 2 ^ 32 }
@@ -109,8 +109,8 @@ pub(crate) fn know_streams<M: OwnModule>(streams: &Streams<M>)
     ensures numbers { (s : StoreValue) → AreNumbers (state_in s streams.now) }
     ensures known { (s : StoreValue) → all_known M.does (state_in s streams.now) ≡ true }
 {
-    know_end(streams.ends.get(Side::Master));
-    know_end(streams.ends.get(Side::Slave));
+    know_end(&streams.ends.master);
+    know_end(&streams.ends.slave);
 }
 
 fn know_counts(counts: &[u64])
