@@ -298,5 +298,5 @@ pub image_length_in : (x : Imaged) (blocks : ℕ) → HasImage x → messages_in
 image_length_in x blocks h few small = let all = image_length x h in omega (arith, all, few, small)
 
 -- as docs/IMAGES.md has them
-pub sizes-in-numbers : IMAGE_FIXED ∷ MESSAGE_FIXED ∷ IMAGE_BLOCK ∷ [] ≡ 24241 ∷ 12 ∷ 268 ∷ []
+pub sizes-in-numbers : IMAGE_FIXED ∷ MESSAGE_FIXED ∷ IMAGE_BLOCK ∷ [] ≡ 23473 ∷ 12 ∷ 268 ∷ []
 sizes-in-numbers = refl
