@@ -4,7 +4,6 @@ pub mod Idle
 pub mod Leading
 pub mod InHand
 pub mod Sides
-pub mod Sizes
 pub mod Becoming
 pub mod KindsDo
 pub mod MadeModules

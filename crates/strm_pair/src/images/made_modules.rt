@@ -6,7 +6,8 @@ ghost use Rattle.strm_pair.specs.Placing.{IsFreeFor, IsModuleText, IsPlaced, mod
 
 use crate::images::made_kinds::{ldterm_of, pair_of};
 use crate::modules::AnyModule;
-use crate::own::{OwnModule, Owned};
+use crate::own::OwnModule;
+use crate::owned::Owned;
 use strm_blocks::Blocks;
 use strm_frame::{Standing, Tables};
 use strm_image::ModuleText;

@@ -17,7 +17,8 @@ ghost use Rattle.strm_pair.specs.Stacks.{IsStackHeld, modules_in};
 
 use crate::images::queues::put_queue;
 use crate::modules::AnyModule;
-use crate::own::{OwnModule, Owned};
+use crate::own::OwnModule;
+use crate::owned::Owned;
 use crate::stacks::Stack;
 use strm_blocks::Blocks;
 use strm_frame::{QueuePair, Standing};

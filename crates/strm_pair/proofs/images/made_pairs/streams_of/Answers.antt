@@ -31,12 +31,6 @@ end_of-slave-requires-clause-blank g c =
     let stood = subst (λ n. IsStood s t n (stream_now text.opened.master text.streams.master) (laid_blocks (laid_now text.streams.master)) c.end_of-master.result) c.first_list.ensures.list c.end_of-master.ensures in
     subst (λ n. IsBlank t n) (sym c.first_list-2.ensures.list) (blank-behind stood (blank-last s c.requires.lists))
 
-pub end_of-master-requires : goal.end_of-master-requires
-end_of-master-requires g c = ?
-
-pub end_of-slave-requires : goal.end_of-slave-requires
-end_of-slave-requires g c = ?
-
 pub enabled_of-requires-clause-queues : goal.enabled_of-requires-clause-queues
 enabled_of-requires-clause-queues g c =
     let s = (imaged_now c.args.text.now).state in

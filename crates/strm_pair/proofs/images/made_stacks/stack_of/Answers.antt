@@ -17,6 +17,3 @@ pub loop-text-preserved : goal.loop-text-preserved
 loop-text-preserved g c = record {
   stacked = stacked-more c.args.texts.now c.loop-text.text-index c.text-item.result c.text-item.is c.loop-text-test.true c.requires.good.names c.loop-text.invariant.stacked c.module_of.ensures c.push.ensures.items;
 }
-
-pub push-requires : goal.push-requires
-push-requires g c = ?

@@ -14,9 +14,6 @@ stack_of-stack-requires-clause-room g c =
       dblks = omega (arith, c.requires.room.dblks, head.dblks, driver.dblks, blocks-same c.args.text.now.modules.items, ms);
     }
 
-pub stack_of-stack-requires : goal.stack_of-stack-requires
-stack_of-stack-requires g c = ?
-
 pub returns : goal.returns
 returns g c =
     let K = g.M.Behaves.does in

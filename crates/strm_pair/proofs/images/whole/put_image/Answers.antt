@@ -28,12 +28,6 @@ put_stream-out-requires-2-clause-driver g c = (c.requires.beside Slave).driver
 pub put_stream-out-requires-2-clause-stack : goal.put_stream-out-requires-2-clause-stack
 put_stream-out-requires-2-clause-stack g c = (c.requires.beside Slave).stack
 
-pub put_stream-out-requires : goal.put_stream-out-requires
-put_stream-out-requires g c = ?
-
-pub put_stream-out-requires-2 : goal.put_stream-out-requires-2
-put_stream-out-requires-2 g c = ?
-
 pub put_enabled-requires : goal.put_enabled-requires
 put_enabled-requires g c = let few = c.as_slice.ensures.few in omega (arith, few)
 

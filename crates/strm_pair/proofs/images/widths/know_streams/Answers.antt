@@ -4,15 +4,7 @@ use Rattle.strm_image.specs.HasImage.{HasNumbers}
 use Rattle.strm_pair.specs.Known.{are_known}
 use Rattle.strm_pair.specs.Pairs.{state_in}
 use Rattle.strm_pair.specs.Streams.{stream_in}
-use Rattle.strm_pair.proofs.Sizes.{end_small}
 use Rattle.strm_pair.proofs.images.widths.know_streams.Goals as goal
-
--- a side's stream is no larger than those of the pair
-pub know_end-requires : goal.know_end-requires
-know_end-requires g c = search (end_small, c.requires-raw.1.0)
-
-pub know_end-requires-2 : goal.know_end-requires-2
-know_end-requires-2 g c = search (end_small, c.requires-raw.1.0)
 
 pub returns-clause-numbers : goal.returns-clause-numbers
 returns-clause-numbers g c = at

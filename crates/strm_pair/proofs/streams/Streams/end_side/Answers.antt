@@ -1,8 +1,6 @@
 -- The head is as new, and the driver stays.
-use Rattle.strm_pair.proofs.Prelude.{arith, refl, sym, subst, ◌∙◌}
-use Rattle.strm_pair.specs.Prelude.{IsReady}
+use Rattle.std.proofs.Common.{refl, ◌∙◌}
 use Rattle.strm_types.specs.declared.names.Openness.TheVariants.{Closed}
-use Rattle.strm_pair.proofs.Sizes.{end_small}
 use Rattle.strm_pair.proofs.Sides.{renewed-beside, renewed-state}
 use Rattle.strm_pair.proofs.streams.Streams.end_side.Goals as goal
 
@@ -22,6 +20,3 @@ returns g c = λ told.
       };
       pool = record { mblks = e.keeps.mblks; dblks = e.keeps.dblks };
     }
-
-pub close-requires : goal.close-requires
-close-requires g c = (search (end_small, c.requires-raw.1.1.0), subst (λ e. IsReady (g.B.Blocks.value c.args.store.now) e.head.queue) (sym c.get_mut.ensures.value) (c.requires.beside c.args.side).head.ready)
