@@ -5,7 +5,7 @@ use Rattle.strm_pair.proofs.Prelude.{all-gone}
 use Rattle.strm_pair.specs.Prelude.{Openness, Side, Master, Slave, is_data_kind, of_all, emptied, none_goes, queue_behind, set, map_both, new_head}
 use Rattle.strm_pair.specs.Prelude.{enable_some, other, is_none_left, before_driver, before_head, State, stream, with_stream, with_driver_queue}
 use Rattle.strm_pair.specs.Prelude.{with_head_queue, Block, StoreValue, empty_store, list_at, message_of, Head, head_in, plain_slot, plain_flows}
-use Rattle.strm_pair.specs.Prelude.{AreCounted, AreMessages, queue_in, HoldsReadable, IsHeadQueue, IsReady, Keeps, Changes, OnlyQueue}
+use Rattle.strm_pair.specs.Prelude.{queue_in, HoldsReadable, IsHeadQueue, IsReady, Keeps, Changes, OnlyQueue}
 use Rattle.strm_types.specs.declared.kinds.MsgKind.TheVariants as kinds
 use Rattle.strm_types.specs.Heads as heads
 use Rattle.strm_types.proofs.BySide.{get-set-other, set-same, side-and-other}
@@ -136,7 +136,7 @@ module _ {M : Type 0} (s t : StoreValue) (first : ℕ) (e : StreamEnd M) (is : I
     driver-apart : Beside
     driver-apart k low high = only.others k (λ eq. let a = is.driver_list in absurd (omega arith))
 
-    pub driver-side : IsSide t first (record e { driver = q })
+    driver-side : IsSide t first (record e { driver = q })
     driver-side = record {
       head_list = is.head_list;
       driver_list = only.list ∙ is.driver_list;
@@ -162,7 +162,7 @@ module _ {M : Type 0} (s t : StoreValue) (first : ℕ) (e : StreamEnd M) (is : I
     head-apart : Beside
     head-apart k low high = only.others k (λ eq. let a = is.head_list in absurd (omega arith))
 
-    pub head-side : HoldsReadable (list_at t h.queue.list) → IsSide t first (record e { head = h })
+    head-side : HoldsReadable (list_at t h.queue.list) → IsSide t first (record e { head = h })
     head-side readable = record {
       head_list = only.list ∙ is.head_list;
       driver_list = is.driver_list;
@@ -179,18 +179,6 @@ module _ {M : Type 0} (s t : StoreValue) (first : ℕ) (e : StreamEnd M) (is : I
     head-stream =
         ap (λ d. record { opened = e.opened; head = head_in t h; modules = modules_in t e.stack; driver = record { queue = d } }) (queue-same s t e.driver driver-beside)
         ∙ ap (λ ms. record { opened = e.opened; head = head_in t h; modules = ms; driver = record { queue = queue_in s e.driver } }) (stack-same s t first e is stays head-apart).0
-
--- A queue of which other counts are kept, of the same messages, is ready as before.
-pub ready-counts : (s : StoreValue) (q r : Queue) → r.list ≡ q.list → (AreCounted q.flows (list_at s q.list) → AreCounted r.flows (list_at s q.list))
-    → IsReady s q → OnlyQueue s s q r
-ready-counts s q r same counted ready = record {
-  ready = record {
-    messages = subst (λ k. AreMessages (list_at s k)) (sym same) ready.messages;
-    counted = subst (λ k. AreCounted r.flows (list_at s k)) (sym same) (counted ready.counted);
-  };
-  list = same;
-  others = λ k ne. refl;
-}
 
 -- a stream that was closed has the same driver
 as-side : {M : Type 0} (t : StoreValue) (first : ℕ) (e e' : StreamEnd M) → e'.driver ≡ e.driver → e'.stack ≡ e.stack → e'.shelf ≡ e.shelf → IsSide t first (record e { head = e'.head }) → IsSide t first e'
