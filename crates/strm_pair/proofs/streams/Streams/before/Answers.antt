@@ -3,11 +3,16 @@ use Rattle.strm_pair.proofs.Prelude.{ℕ, ◌≡◌, length, ap, arith, subst, s
 use Rattle.strm_pair.specs.Prelude.{MODULES, place_of, before_among, before_by, places_of, Standing, module_name, Stream}
 use Rattle.strm_laws.specs.Earlier.{before_modules, queue_named}
 use Rattle.strm_frame.specs.Stacks.{IsPlace}
+use Rattle.strm_pair.specs.AnyModules.{module_in}
 use Rattle.strm_pair.specs.Stacks.{modules_in}
 use Rattle.strm_pair.proofs.streams.Streams.before.Goals as goal
 
-pub place_at-requires-clause-inside : goal.place_at-requires-clause-inside
-place_at-requires-clause-inside g c = (subst (IsPlace (length c.end.result.now.stack.modules.items)) c.in-Some.is c.place_before.ensures.inside).0
+pub place_at-requires : goal.place_at-requires
+place_at-requires g c = (
+    omega arith,
+    (subst (IsPlace (length c.end.result.now.stack.modules.items)) c.in-Some.is c.place_before.ensures.inside).0,
+    λ s. omega (arith, (subst (IsPlace (length c.end.result.now.stack.modules.items)) c.in-Some.is c.place_before.ensures.inside).1, length-map c.end.result.now.stack.modules.items (module_in s))
+)
 
 pub returns-in-Some : goal.returns-in-Some
 returns-in-Some g c = λ s.
