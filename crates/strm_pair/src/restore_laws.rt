@@ -36,23 +36,23 @@ pub fn image_restores<B: Blocks + Drop, C: Blocks + Drop, M: OwnModule>(
     Pair::restore(alloc, sizes, text.as_slice(), store)
 }
 
-/// The image of the pair that is made of a text of version 2 is that text.
+/// The pair that is made of a text, and its image, which is that text where it is of version 2.
 pub fn restored_has_image<B: Blocks + Drop, M: OwnModule>(
     alloc: Global,
     sizes: Config,
     text: &[u8],
     store: B,
-) -> Result<Vec<u8>, Refusal>
+) -> Result<(Pair<B, M>, Vec<u8>), Refusal>
     requires lists { (B.value store).lists ≡ replicate LISTS [] }
     requires hand { (B.value store).hand ≡ [] }
-    ensures same { (x : Imaged) → IsTextOf image text.now (Second, x) → IfOk result (λ image. image.items ≡ text.now) }
+    ensures same { (x : Imaged) → IsTextOf image text.now (Second, x) → IfOk result (λ made. made.1.items ≡ text.now) }
 {
     let pair = match Pair::<B, M>::restore(alloc, sizes, text, store) {
         Ok(pair) => pair,
         Err((why, _store)) => return Err(why),
     };
     match pair.image(alloc) {
-        Ok(image) => Ok(image),
+        Ok(image) => Ok((pair, image)),
         Err(_) => Err(Refusal::NoMemory),
     }
 }

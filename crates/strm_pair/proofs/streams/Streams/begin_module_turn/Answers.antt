@@ -1,5 +1,5 @@
 -- What the first message asks says what becomes of the turn.
-use Rattle.strm_pair.proofs.Prelude.{rules, ℕ, ◌≤◌, length, refl, sym, ap, subst, ◌∙◌, arith, length-map}
+use Rattle.strm_pair.proofs.Prelude.{ℕ, ◌≤◌, length, refl, sym, ap, subst, ◌∙◌, arith, length-map}
 use Rattle.strm_pair.specs.Prelude.{Blocked, Idle, at_place, messages_at, stayed_at, module_asks, State, Stream, stream, first_size, stayed_put}
 use Rattle.strm_types.specs.declared.spots.Asks.TheVariants as asked
 use Rattle.strm_pair.specs.ModuleTurned.{BeginsAs}
@@ -12,16 +12,18 @@ use Rattle.strm_pair.proofs.Sides.{stack-held}
 use Rattle.strm_pair.proofs.streams.Streams.begin_module_turn.Goals as goal
 
 pub stay-requires-in-Held : goal.stay-requires-in-Held
-stay-requires-in-Held g c = (omega arith,
-    (search rules,
-    (search rules,
-    search rules)))
+stay-requires-in-Held g c =
+    let s = g.B.Blocks.value c.args.store.now in
+    let modules = (stream c.args.name.side (state_in s c.args.self.now)).modules in
+    let low = found-low c.args.name.place modules c.in-Some.at (sym (c.module_named.ensures s) ∙ c.in-Some.is) in
+    (omega arith, (c.requires.held, (low.0, omega (arith, low.1))))
 
 pub stay-requires : goal.stay-requires
-stay-requires g c = (omega arith,
-    (search rules,
-    (search rules,
-    search rules)))
+stay-requires g c =
+    let s = g.B.Blocks.value c.args.store.now in
+    let modules = (stream c.args.name.side (state_in s c.args.self.now)).modules in
+    let low = found-low c.args.name.place modules c.in-Some.at (sym (c.module_named.ensures s) ∙ c.in-Some.is) in
+    (omega arith, (c.requires.held, (low.0, omega (arith, low.1))))
 
 pub returns-in-Free-clause-begins : goal.returns-in-Free-clause-begins
 returns-in-Free-clause-begins g c =

@@ -9,6 +9,15 @@ use Rattle.strm_pair.proofs.InHand.{made-alone, made-state, made-leads, made-lef
 use Rattle.strm_pair.proofs.PlaceCosts.{may-by}
 use Rattle.strm_pair.proofs.streams.Streams.flush.Goals as goal
 
+-- an M_FLUSH on its way down
+flush-few : (side : Side) (asked : FlushAsked) → most_of {C = ℕ} (record { side = side; at = 1; way = Down }) (flush_message (flush_bytes asked)) ≤ 5
+flush-few side asked = at (asked_by (flush_bytes asked)).for_write (asked_by (flush_bytes asked)).for_read
+  where
+    at : (write read : Bool) → most_on Down (cond write (cond read FlushRW FlushW) FlushR) ≤ 5
+    at true true = omega arith
+    at true false = omega arith
+    at false read = omega arith
+
 pub deliver_alone-requires : goal.deliver_alone-requires
 deliver_alone-requires g c = (omega arith,
     ((
@@ -25,15 +34,6 @@ deliver_alone-requires g c = (omega arith,
         may-by made (spare (state_in made c.args.self.now)) (record { side = c.args.side; at = 1; way = Down }) (message_of (in_hand made i)) (flush_message (flush_bytes c.of.result)) 5 sends.shows (flush-few c.args.side c.of.result)
         (record { mblks = omega (arith, room.mblks, sends.room_m); dblks = omega (arith, room.dblks, sends.room_d) }) (omega (arith, same, range-spare (state_in s c.args.self.now) c.requires.range))
     )))
-
--- an M_FLUSH on its way down
-flush-few : (side : Side) (asked : FlushAsked) → most_of {C = ℕ} (record { side = side; at = 1; way = Down }) (flush_message (flush_bytes asked)) ≤ 5
-flush-few side asked = at (asked_by (flush_bytes asked)).for_write (asked_by (flush_bytes asked)).for_read
-  where
-    at : (write read : Bool) → most_on Down (cond write (cond read FlushRW FlushW) FlushR) ≤ 5
-    at true true = omega arith
-    at true false = omega arith
-    at false read = omega arith
 
 pub returns-clause-delivers : goal.returns-clause-delivers
 returns-clause-delivers g c =

@@ -13,6 +13,10 @@ pub make-message-requires-clause-kind : goal.make-message-requires-clause-kind
 unfolding is_data_kind
 make-message-requires-clause-kind g c = refl
 
+-- at a head it takes none
+mode-free : (side : Side) (bytes : List ℕ) → most_of {C = ℕ} (head_above side) (record { kind = Setopts; band = 0; control = None; body = None; plain = bytes }) ≤ 0
+mode-free side bytes = omega arith
+
 pub deliver_alone-requires : goal.deliver_alone-requires
 deliver_alone-requires g c = (omega arith,
     ((
@@ -25,10 +29,6 @@ deliver_alone-requires g c = (omega arith,
         may-by made (spare (state_in made c.args.self.now)) (head_above c.args.side) (message_of (in_hand made (token c.make-message.result))) (record { kind = Setopts; band = 0; control = None; body = None; plain = bytes }) 0
         c.make-message.ensures.shows (mode-free c.args.side bytes) (record { mblks = omega arith; dblks = omega arith }) (omega arith)
     )))
-
--- at a head it takes none
-mode-free : (side : Side) (bytes : List ℕ) → most_of {C = ℕ} (head_above side) (record { kind = Setopts; band = 0; control = None; body = None; plain = bytes }) ≤ 0
-mode-free side bytes = omega arith
 
 pub returns : goal.returns
 returns g c =
