@@ -1,6 +1,6 @@
 -- What is told are the numbers of the store.
 use Rattle.strm_pair.proofs.Prelude.{ap, ◌∙◌}
-use Rattle.strm_pair.specs.PairViews.{PairState}
+use Rattle.strm_pair.specs.Prelude.{PairState}
 use Rattle.strm_pair.proofs.pair.Pair.free_blocks.Goals as goal
 
 pub returns-clause-mblks : goal.returns-clause-mblks
