@@ -12,32 +12,48 @@ use Rattle.strm_pair.proofs.TextsTold.{names-known, stream-told}
 use Rattle.strm_pair.proofs.images.made_pairs.streams_of.Goals as goal
 
 pub end_of-master-requires : goal.end_of-master-requires
-end_of-master-requires g c = (omega arith,
-    (search rules,
-    (search rules,
-    ((
-        let K = g.M.Behaves.does in
-        stream-told K Master c.args.text.now.opened.master c.args.text.now.streams.master (c.requires.good.streams Master) (c.requires.good.heads Master)
-        (names-known K c.args.text.now c.requires.known).0
+end_of-master-requires g c = (
+  omega arith,
+  (
+    search rules,
+    (
+      search rules,
+      (
+        (
+            let K = g.M.Behaves.does in
+            stream-told K Master c.args.text.now.opened.master c.args.text.now.streams.master (c.requires.good.streams Master) (c.requires.good.heads Master)
+            (names-known K c.args.text.now c.requires.known).0
+            ),
+        search rules,
+      ),
     ),
-    search rules))))
+  ),
+)
 
 pub end_of-slave-requires : goal.end_of-slave-requires
-end_of-slave-requires g c = (omega arith,
-    (search rules,
-    ((
-        let s = g.B.Blocks.value c.args.store.now in
-        let t = g.B.Blocks.value c.end_of-master.new.store in
-        let text = c.args.text.now in
-        let stood = subst (λ n. IsStood s t n (stream_now text.opened.master text.streams.master) (laid_blocks (laid_now text.streams.master)) c.end_of-master.result) c.first_list.ensures.list c.end_of-master.ensures in
-        subst (λ n. IsBlank t n) (sym c.first_list-2.ensures.list) (blank-behind stood (blank-last s c.requires.lists))
+end_of-slave-requires g c = (
+  omega arith,
+  (
+    search rules,
+    (
+      (
+          let s = g.B.Blocks.value c.args.store.now in
+          let t = g.B.Blocks.value c.end_of-master.new.store in
+          let text = c.args.text.now in
+          let stood = subst (λ n. IsStood s t n (stream_now text.opened.master text.streams.master) (laid_blocks (laid_now text.streams.master)) c.end_of-master.result) c.first_list.ensures.list c.end_of-master.ensures in
+          subst (λ n. IsBlank t n) (sym c.first_list-2.ensures.list) (blank-behind stood (blank-last s c.requires.lists))
+          ),
+      (
+        (
+            let K = g.M.Behaves.does in
+            stream-told K Slave c.args.text.now.opened.slave c.args.text.now.streams.slave (c.requires.good.streams Slave) (c.requires.good.heads Slave)
+            (names-known K c.args.text.now c.requires.known).1
+            ),
+        search rules,
+      ),
     ),
-    ((
-        let K = g.M.Behaves.does in
-        stream-told K Slave c.args.text.now.opened.slave c.args.text.now.streams.slave (c.requires.good.streams Slave) (c.requires.good.heads Slave)
-        (names-known K c.args.text.now c.requires.known).1
-    ),
-    search rules))))
+  ),
+)
 
 pub enabled_of-requires-clause-queues : goal.enabled_of-requires-clause-queues
 enabled_of-requires-clause-queues g c =

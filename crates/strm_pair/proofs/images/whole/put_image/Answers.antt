@@ -11,16 +11,28 @@ use Rattle.strm_pair.proofs.PairTexts.{put_six}
 use Rattle.strm_pair.proofs.images.whole.put_image.Goals as goal
 
 pub put_stream-out-requires : goal.put_stream-out-requires
-put_stream-out-requires g c = (omega arith,
-    ((c.requires.beside Master).head.ready,
-    ((c.requires.beside Master).driver,
-    (c.requires.beside Master).stack)))
+put_stream-out-requires g c = (
+  omega arith,
+  (
+    (c.requires.beside Master).head.ready,
+    (
+      (c.requires.beside Master).driver,
+      (c.requires.beside Master).stack,
+    ),
+  ),
+)
 
 pub put_stream-out-requires-2 : goal.put_stream-out-requires-2
-put_stream-out-requires-2 g c = (omega arith,
-    ((c.requires.beside Slave).head.ready,
-    ((c.requires.beside Slave).driver,
-    (c.requires.beside Slave).stack)))
+put_stream-out-requires-2 g c = (
+  omega arith,
+  (
+    (c.requires.beside Slave).head.ready,
+    (
+      (c.requires.beside Slave).driver,
+      (c.requires.beside Slave).stack,
+    ),
+  ),
+)
 
 pub put_enabled-requires : goal.put_enabled-requires
 put_enabled-requires g c = let few = c.as_slice.ensures.few in omega (arith, few)

@@ -9,31 +9,47 @@ use Rattle.strm_pair.proofs.RestoredPairs.{free-of, left-free, restored-has, res
 use Rattle.strm_pair.proofs.pair.Pair.made_of.Goals as goal
 
 pub streams_of-streams-requires : goal.streams_of-streams-requires
-streams_of-streams-requires g c = (omega arith,
-    (search rules,
-    (search rules,
-    ((image_told c.requires.fits.0 (imaged_now c.args.text.now) c.requires.fits.1).restorable,
-    (search rules,
-    search rules)))))
+streams_of-streams-requires g c = (
+  omega arith,
+  (
+    search rules,
+    (
+      search rules,
+      (
+        (image_told c.requires.fits.0 (imaged_now c.args.text.now) c.requires.fits.1).restorable,
+        (
+          search rules,
+          search rules,
+        ),
+      ),
+    ),
+  ),
+)
 
 pub at-base-requires : goal.at-base-requires
-at-base-requires g c = (omega arith,
-    (search rules,
-    ((
-        let x = imaged_now c.args.text.now in
-        let made = c.streams_of-streams.ensures in
-        restored-has (g.B.Blocks.value c.streams_of-streams.new.store) c.streams_of-streams.result x c.fates_of-fates.result made.state c.fates_of-fates.ensures made.held (image_told c.requires.fits.0 x c.requires.fits.1)
-    ),
+at-base-requires g c = (
+  omega arith,
+  (
+    search rules,
     (
-        let x = imaged_now c.args.text.now in
-        let made = c.streams_of-streams.ensures in
-        let same : c.args.limits.mblks ≡ (g.B.Blocks.value c.streams_of-streams.new.store).mblks = ap (λ (l : Config). l.mblks) c.requires.limits ∙ sym made.pool.mblks in
-        omega (
-        arith,
-        c.requires.reserved.base,
-        restored-room (g.B.Blocks.value c.streams_of-streams.new.store) c.streams_of-streams.result x c.fates_of-fates.result made.state c.fates_of-fates.ensures made.held (image_told c.requires.fits.0 x c.requires.fits.1) c.audit.ensures c.args.limits.mblks same,
-        )
-    ))))
+      (
+          let x = imaged_now c.args.text.now in
+          let made = c.streams_of-streams.ensures in
+          restored-has (g.B.Blocks.value c.streams_of-streams.new.store) c.streams_of-streams.result x c.fates_of-fates.result made.state c.fates_of-fates.ensures made.held (image_told c.requires.fits.0 x c.requires.fits.1)
+          ),
+      (
+          let x = imaged_now c.args.text.now in
+          let made = c.streams_of-streams.ensures in
+          let same : c.args.limits.mblks ≡ (g.B.Blocks.value c.streams_of-streams.new.store).mblks = ap (λ (l : Config). l.mblks) c.requires.limits ∙ sym made.pool.mblks in
+          omega (
+            arith,
+            c.requires.reserved.base,
+            restored-room (g.B.Blocks.value c.streams_of-streams.new.store) c.streams_of-streams.result x c.fates_of-fates.result made.state c.fates_of-fates.ensures made.held (image_told c.requires.fits.0 x c.requires.fits.1) c.audit.ensures c.args.limits.mblks same,
+          )
+          ),
+    ),
+  ),
+)
 
 pub invariant_of-result : goal.invariant_of-result
 invariant_of-result g c =

@@ -42,19 +42,33 @@ returns-in_default-new-clause-enosr g c =
     (omega (arith, c.if-mblks-blocks.false, free.message_blocks)) (omega (arith, c.if-dblks-blocks.false, free.data_blocks)) K (λ e. cc)
 
 pub made_of-requires : goal.made_of-requires
-made_of-requires g c = (omega arith,
-    (search rules,
-    (search rules,
-    (search rules,
-    (search rules,
-    (search rules,
-    ((
-        let free = c.free_blocks-mblks.ensures in
-        let s = g.B.Blocks.value c.args.store in
-        let same = limits-over s c.args.sizes c.free_blocks-mblks.result.0 c.free_blocks-mblks.result.1 c.requires.lists c.requires.hand free.message_blocks free.data_blocks in
-        same ∙ sym (ap (λ (l : Config). sizes_over s l) same)
+made_of-requires g c = (
+  omega arith,
+  (
+    search rules,
+    (
+      search rules,
+      (
+        search rules,
+        (
+          search rules,
+          (
+            search rules,
+            (
+              (
+                  let free = c.free_blocks-mblks.ensures in
+                  let s = g.B.Blocks.value c.args.store in
+                  let same = limits-over s c.args.sizes c.free_blocks-mblks.result.0 c.free_blocks-mblks.result.1 c.requires.lists c.requires.hand free.message_blocks free.data_blocks in
+                  same ∙ sym (ap (λ (l : Config). sizes_over s l) same)
+                  ),
+              search rules,
+            ),
+          ),
+        ),
+      ),
     ),
-    search rules)))))))
+  ),
+)
 
 pub returns-clause-einval : goal.returns-clause-einval
 returns-clause-einval g c =

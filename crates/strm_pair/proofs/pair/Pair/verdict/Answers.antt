@@ -42,13 +42,19 @@ returns g c =
     (ap (λ (n : Needs). enough n.blocks v.free) (sym c.needs-needs.ensures.value) ∙ sym c.has_blocks.ensures ∙ c.if-not-has_blocks.false))
 
 pub verdict-requires : goal.verdict-requires
-verdict-requires g c = (omega arith,
-    (c.self.invariant.kept.held,
-    ((
-        ap (λ (n : Needs). unmet (state_in (g.B.Blocks.value c.self.inside.store) c.self.inside.streams) c.args.caller.side n) (sym c.needs-needs.ensures.value)
-        ∙ sym (c.unmet.ensures (g.B.Blocks.value c.self.inside.store)) ∙ c.in_default.is
+verdict-requires g c = (
+  omega arith,
+  (
+    c.self.invariant.kept.held,
+    (
+      (
+          ap (λ (n : Needs). unmet (state_in (g.B.Blocks.value c.self.inside.store) c.self.inside.streams) c.args.caller.side n) (sym c.needs-needs.ensures.value)
+          ∙ sym (c.unmet.ensures (g.B.Blocks.value c.self.inside.store)) ∙ c.in_default.is
+          ),
+      ap (λ (n : Needs). n.access) c.needs-needs.ensures.value,
     ),
-    ap (λ (n : Needs). n.access) c.needs-needs.ensures.value)))
+  ),
+)
 
 pub returns-in-Some : goal.returns-in-Some
 returns-in-Some g c =

@@ -14,8 +14,10 @@ use Rattle.strm_pair.proofs.streams.Streams.act.Goals as goal
 use Rattle.strm_pair.specs.Stacks.{modules_in}
 
 pub place_at-place-requires : goal.place_at-place-requires
-place_at-place-requires g c = (omega arith,
-    (search rules,
+place_at-place-requires g c = (
+  omega arith,
+  (
+    search rules,
     (
         λ s.
         let p = c.args.self.now in
@@ -24,11 +26,15 @@ place_at-place-requires g c = (omega arith,
         let same = ap length (modules-are s p here.side) in
         let there = ap (λ (e : StreamEnd _). length (modules_in s e.stack)) c.end.ensures.end in
         omega (arith, low, same, there)
-    )))
+        ),
+  ),
+)
 
 pub book_made-requires : goal.book_made-requires
-book_made-requires g c = (omega arith,
-    ((
+book_made-requires g c = (
+  omega arith,
+  (
+    (
         let s = g.B.Blocks.value c.args.store.now in
         let t = g.B.Blocks.value c.serve_at-served.new.store in
         let p = c.args.self.now in
@@ -51,7 +57,7 @@ book_made-requires g c = (omega arith,
         let book = ap (λ (y : Streams _). y.books.master.made) (c.note.ensures s) ∙ ap (λ (y : Streams _). y.books.master.made) e.streams in
         let fits = made-fits here c.args.again call st tells c.requires.may.begins low c.requires.books MasterToSlave in
         λ some. omega (arith, made, book, fits)
-    ),
+        ),
     (
         let s = g.B.Blocks.value c.args.store.now in
         let t = g.B.Blocks.value c.serve_at-served.new.store in
@@ -73,7 +79,9 @@ book_made-requires g c = (omega arith,
         let book = ap (λ (y : Streams _). y.books.slave.made) (c.note.ensures s) ∙ ap (λ (y : Streams _). y.books.slave.made) e.streams in
         let fits = made-fits here c.args.again call st tells c.requires.may.begins low c.requires.books SlaveToMaster in
         λ some. omega (arith, made, book, fits)
-    )))
+        ),
+  ),
+)
 
 pub returns : goal.returns
 returns g c =

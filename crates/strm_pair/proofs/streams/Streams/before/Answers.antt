@@ -8,9 +8,13 @@ use Rattle.strm_pair.specs.Stacks.{modules_in}
 use Rattle.strm_pair.proofs.streams.Streams.before.Goals as goal
 
 pub place_at-requires : goal.place_at-requires
-place_at-requires g c = (omega arith,
-    ((subst (IsPlace (length c.end.result.now.stack.modules.items)) c.in-Some.is c.place_before.ensures.inside).0,
-    λ s. omega (arith, (subst (IsPlace (length c.end.result.now.stack.modules.items)) c.in-Some.is c.place_before.ensures.inside).1, length-map c.end.result.now.stack.modules.items (module_in s))))
+place_at-requires g c = (
+  omega arith,
+  (
+    (subst (IsPlace (length c.end.result.now.stack.modules.items)) c.in-Some.is c.place_before.ensures.inside).0,
+    λ s. omega (arith, (subst (IsPlace (length c.end.result.now.stack.modules.items)) c.in-Some.is c.place_before.ensures.inside).1, length-map c.end.result.now.stack.modules.items (module_in s)),
+  ),
+)
 
 pub returns-in-Some : goal.returns-in-Some
 returns-in-Some g c = λ s.

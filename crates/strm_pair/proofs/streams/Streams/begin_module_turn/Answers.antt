@@ -57,22 +57,28 @@ overflow_cast-here g c =
     omega (arith, low.2)
 
 pub stay-requires-in-Room : goal.stay-requires-in-Room
-stay-requires-in-Room g c = (omega arith,
-    (c.wait_past.ensures.held (g.B.Blocks.value c.args.store.now) c.requires.held,
-    ((
-        let s = g.B.Blocks.value c.args.store.now in
-        let st = state_in s c.args.self.now in
-        (found-low c.args.name.place (stream c.args.name.side st).modules c.in-Some.at (sym (c.module_named.ensures s) ∙ c.in-Some.is)).0
-    ),
+stay-requires-in-Room g c = (
+  omega arith,
+  (
+    c.wait_past.ensures.held (g.B.Blocks.value c.args.store.now) c.requires.held,
     (
-        let s = g.B.Blocks.value c.args.store.now in
-        let st = state_in s c.args.self.now in
-        let name = c.args.name in
-        let at = c.in-Some.at in
-        let low = found-low name.place (stream name.side st).modules at (sym (c.module_named.ensures s) ∙ c.in-Some.is) in
-        let long = ap (λ (v : State ℕ). length (stream name.side v).modules) (c.wait_past.ensures.state s) ∙ waiting-long name.side name.way at c.in-Room.band.0 st in
-        omega (arith, low.1, long)
-    ))))
+      (
+          let s = g.B.Blocks.value c.args.store.now in
+          let st = state_in s c.args.self.now in
+          (found-low c.args.name.place (stream c.args.name.side st).modules c.in-Some.at (sym (c.module_named.ensures s) ∙ c.in-Some.is)).0
+          ),
+      (
+          let s = g.B.Blocks.value c.args.store.now in
+          let st = state_in s c.args.self.now in
+          let name = c.args.name in
+          let at = c.in-Some.at in
+          let low = found-low name.place (stream name.side st).modules at (sym (c.module_named.ensures s) ∙ c.in-Some.is) in
+          let long = ap (λ (v : State ℕ). length (stream name.side v).modules) (c.wait_past.ensures.state s) ∙ waiting-long name.side name.way at c.in-Room.band.0 st in
+          omega (arith, low.1, long)
+          ),
+    ),
+  ),
+)
 
 pub returns-else-has_room_past-clause-begins : goal.returns-else-has_room_past-clause-begins
 returns-else-has_room_past-clause-begins g c =

@@ -35,8 +35,10 @@ loop-call-init g c =
     }
 
 pub call_module-call-requires : goal.call_module-call-requires
-call_module-call-requires g c = (omega arith,
-    ((
+call_module-call-requires g c = (
+  omega arith,
+  (
+    (
         let here = c.args.here in
         let s = g.B.Blocks.value c.args.store.now in
         let p = c.args.self.now in
@@ -45,30 +47,40 @@ call_module-call-requires g c = (omega arith,
         let cost = first-cost here st0 in
         let room = c.requires.may.room in
         record {
-        inside = c.requires.inside;
-        within = c.requires.within;
-        begins = first-begins here st0 at_rest.idle (let inside = c.requires.inside in let within = c.requires.within in omega arith);
-        beside = at_rest.held.beside;
-        hand = λ i. ap (times_in i) at_rest.held.hand ∙ sym (rests s p at_rest.held.beside at_rest.idle i);
-        room = record { mblks = omega (arith, cost, room.mblks); dblks = omega (arith, cost, room.dblks) };
+          inside = c.requires.inside;
+          within = c.requires.within;
+          begins = first-begins here st0 at_rest.idle (let inside = c.requires.inside in let within = c.requires.within in omega arith);
+          beside = at_rest.held.beside;
+          hand = λ i. ap (times_in i) at_rest.held.hand ∙ sym (rests s p at_rest.held.beside at_rest.idle i);
+          room = record { mblks = omega (arith, cost, room.mblks); dblks = omega (arith, cost, room.dblks) };
         }
+        ),
+    (
+      search rules,
+      first-books c.args.here (state_in (g.B.Blocks.value c.args.store.now) c.args.self.now) c.requires.may.range c.requires.few,
     ),
-    (search rules,
-    first-books c.args.here (state_in (g.B.Blocks.value c.args.store.now) c.args.self.now) c.requires.may.range c.requires.few)))
+  ),
+)
 
 pub call_module-call-requires-in-loop-call : goal.call_module-call-requires-in-loop-call
-call_module-call-requires-in-loop-call g c = (omega arith,
-    (search rules,
-    (search rules,
+call_module-call-requires-in-loop-call g c = (
+  omega arith,
+  (
+    search rules,
     (
-        let K = g.M.Behaves.does in
-        let here = c.args.here in
-        let l = c.loop-call in
-        let st0 = state_in (g.B.Blocks.value c.args.store.now) c.args.self.now in
-        let st = state_in (g.B.Blocks.value l.store) l.self in
-        let on : GoOn K here l.bytes st0 st c.args.told.now l.told = subst (λ more. Along K more here l.bytes st0 st c.args.told.now l.told) c.loop-call-test.true l.invariant.along in
-        next-books here K l.bytes st0 st c.args.told.now l.told c.requires.may.range c.requires.few on
-    ))))
+      search rules,
+      (
+          let K = g.M.Behaves.does in
+          let here = c.args.here in
+          let l = c.loop-call in
+          let st0 = state_in (g.B.Blocks.value c.args.store.now) c.args.self.now in
+          let st = state_in (g.B.Blocks.value l.store) l.self in
+          let on : GoOn K here l.bytes st0 st c.args.told.now l.told = subst (λ more. Along K more here l.bytes st0 st c.args.told.now l.told) c.loop-call-test.true l.invariant.along in
+          next-books here K l.bytes st0 st c.args.told.now l.told c.requires.may.range c.requires.few on
+          ),
+    ),
+  ),
+)
 
 pub overflow_add-bytes : goal.overflow_add-bytes
 overflow_add-bytes g c =

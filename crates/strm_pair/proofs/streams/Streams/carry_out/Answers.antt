@@ -23,29 +23,43 @@ pub returns-in-Ioctl-clause-answer : goal.returns-in-Ioctl-clause-answer
 returns-in-Ioctl-clause-answer g c = rw c.in-Ioctl.is c.ioctl.ensures.answer
 
 pub ioctl-requires : goal.ioctl-requires
-ioctl-requires g c = (omega arith,
-    (search rules,
-    ((
-        let old = state_in (g.B.Blocks.value c.args.store.now) c.args.self.now in
-        few-asked old c.args.caller c.in-Ioctl.command c.in-Ioctl.body.now
-        (ap (λ (e : Event (Bor (List ℕ))). refused_at_once old c.args.caller (request e)) (sym c.in-Ioctl.is) ∙ c.requires.allowed)
+ioctl-requires g c = (
+  omega arith,
+  (
+    search rules,
+    (
+      (
+          let old = state_in (g.B.Blocks.value c.args.store.now) c.args.self.now in
+          few-asked old c.args.caller c.in-Ioctl.command c.in-Ioctl.body.now
+          (ap (λ (e : Event (Bor (List ℕ))). refused_at_once old c.args.caller (request e)) (sym c.in-Ioctl.is) ∙ c.requires.allowed)
+          ),
+      (
+        (
+            let old = state_in (g.B.Blocks.value c.args.store.now) c.args.self.now in
+            number-left old c.args.caller c.in-Ioctl.command c.in-Ioctl.body.now
+            (ap (λ (e : Event (Bor (List ℕ))). refused_at_once old c.args.caller (request e)) (sym c.in-Ioctl.is) ∙ c.requires.allowed)
+            ),
+        search rules,
+      ),
     ),
-    ((
-        let old = state_in (g.B.Blocks.value c.args.store.now) c.args.self.now in
-        number-left old c.args.caller c.in-Ioctl.command c.in-Ioctl.body.now
-        (ap (λ (e : Event (Bor (List ℕ))). refused_at_once old c.args.caller (request e)) (sym c.in-Ioctl.is) ∙ c.requires.allowed)
-    ),
-    search rules))))
+  ),
+)
 
 pub push-requires : goal.push-requires
-push-requires g c = (omega arith,
-    (search rules,
-    ((
-        let old = state_in (g.B.Blocks.value c.args.store.now) c.args.self.now in
-        unless-none (may_stand (named_by g.M.Behaves.does c.in-Push.name) (stream c.args.caller.side old).modules) Einval
-        (ap (λ (e : Event (Bor (List ℕ))). unfit g.M.Behaves.does old c.args.caller (request e)) (sym c.in-Push.is) ∙ c.requires.fits)
+push-requires g c = (
+  omega arith,
+  (
+    search rules,
+    (
+      (
+          let old = state_in (g.B.Blocks.value c.args.store.now) c.args.self.now in
+          unless-none (may_stand (named_by g.M.Behaves.does c.in-Push.name) (stream c.args.caller.side old).modules) Einval
+          (ap (λ (e : Event (Bor (List ℕ))). unfit g.M.Behaves.does old c.args.caller (request e)) (sym c.in-Push.is) ∙ c.requires.fits)
+          ),
+      search rules,
     ),
-    search rules)))
+  ),
+)
 
 pub returns-in-Look-clause-answer : goal.returns-in-Look-clause-answer
 returns-in-Look-clause-answer g c = rw c.in-Look.is (c.look.ensures.answer (g.B.Blocks.value c.args.store.now) c.clear.new.self.items)
@@ -71,18 +85,22 @@ pub returns-in-Ioctl-clause-leads : goal.returns-in-Ioctl-clause-leads
 returns-in-Ioctl-clause-leads g c = rw c.in-Ioctl.is c.ioctl.ensures.delivers.leads
 
 pub putmsg-requires : goal.putmsg-requires
-putmsg-requires g c = (omega arith,
-    (search rules,
+putmsg-requires g c = (
+  omega arith,
+  (
+    search rules,
     (
         let old = state_in (g.B.Blocks.value c.args.store.now) c.args.self.now in
         let now : Bor (List ℕ) → List ℕ = λ bytes. bytes.now in
         record {
-        rests = c.requires.rests;
-        room = rw c.in-Put.is at c.requires.room;
-        range = put-in_range old c.args.caller c.in-Put.prio (option_map now c.in-Put.control) (option_map now c.in-Put.body)
-        (ap (λ (e : Event (Bor (List ℕ))). refused_at_once old c.args.caller (request e)) (sym c.in-Put.is) ∙ c.requires.allowed);
+          rests = c.requires.rests;
+          room = rw c.in-Put.is at c.requires.room;
+          range = put-in_range old c.args.caller c.in-Put.prio (option_map now c.in-Put.control) (option_map now c.in-Put.body)
+              (ap (λ (e : Event (Bor (List ℕ))). refused_at_once old c.args.caller (request e)) (sym c.in-Put.is) ∙ c.requires.allowed);
         }
-    )))
+        ),
+  ),
+)
 
 pub returns-in-OpenMaster-clause-leads : goal.returns-in-OpenMaster-clause-leads
 returns-in-OpenMaster-clause-leads g c =

@@ -6,9 +6,13 @@ use Rattle.strm_laws.specs.State.{Stream}
 use Rattle.strm_pair.proofs.streams.Streams.clear_modules.Goals as goal
 
 pub take_all-requires : goal.take_all-requires
-take_all-requires g c = (omega arith,
-    (search rules,
+take_all-requires g c = (
+  omega arith,
+  (
+    search rules,
     (
         let s = g.B.Blocks.value c.args.store.now in
         c.module_count-count.ensures s ∙ ap (λ (t : Stream _). length t.modules) (c.end.ensures.stream s)
-    )))
+        ),
+  ),
+)

@@ -11,8 +11,10 @@ use Rattle.strm_pair.proofs.Modes.{driver_comes, modules-stay, pushed-is}
 use Rattle.strm_pair.proofs.streams.Streams.push.Goals as goal
 
 pub put_on-requires : goal.put_on-requires
-put_on-requires g c = (omega arith,
-    (search rules,
+put_on-requires g c = (
+  omega arith,
+  (
+    search rules,
     (
         let K = g.M.Behaves.does in
         let s = state_in (g.B.Blocks.value c.args.store.now) c.args.self.now in
@@ -20,7 +22,9 @@ put_on-requires g c = (omega arith,
         ap (λ ms. may_stand (named_by K (Some c.in-Some.name)) ms)
         (ap (λ (x : State ℕ). (stream c.args.side x).modules) c.put_mode.ensures.state ∙ modules-stay c.args.side c.mode_on_push.result s)
         ∙ named
-    )))
+        ),
+  ),
+)
 
 pub returns-clause-leads : goal.returns-clause-leads
 returns-clause-leads g c =

@@ -16,41 +16,59 @@ stands-above : (at count : ℕ) → count < at → nat_le at count ≡ false
 stands-above at count past = grind (arith, nat_tests)
 
 pub put_head-requires : goal.put_head-requires
-put_head-requires g c = (omega arith,
-    (search rules,
-    ((
-        let s = g.B.Blocks.value c.args.store.now in
-        head-room s (token c.args.message) c.args.to (state_in s c.args.self.now) c.requires.may.chain c.if-to-eq0.true c.requires.room.room
+put_head-requires g c = (
+  omega arith,
+  (
+    search rules,
+    (
+      (
+          let s = g.B.Blocks.value c.args.store.now in
+          head-room s (token c.args.message) c.args.to (state_in s c.args.self.now) c.requires.may.chain c.if-to-eq0.true c.requires.room.room
+          ),
+      search rules,
     ),
-    search rules)))
+  ),
+)
 
 pub put_module-requires : goal.put_module-requires
-put_module-requires g c = (omega arith,
-    (search rules,
-    ((
-        let s = g.B.Blocks.value c.args.store.now in
-        let st = state_in s c.args.self.now in
-        let to = c.args.to in
-        let m = message_in s (token c.args.message) in
-        let below : (to.at == 0) ≡ false = not-top to.at c.if-to-eq0.false in
-        let stands = subst (λ n. nat_le to.at n ≡ true) (c.modules_on.ensures.on s) (stands-at to.at c.modules_on.result c.if-to-modules_on.true) in
-        subst (λ (n : ℕ). HasRoom s n) (sym (place-own to m st below stands)) c.requires.room.room
+put_module-requires g c = (
+  omega arith,
+  (
+    search rules,
+    (
+      (
+          let s = g.B.Blocks.value c.args.store.now in
+          let st = state_in s c.args.self.now in
+          let to = c.args.to in
+          let m = message_in s (token c.args.message) in
+          let below : (to.at == 0) ≡ false = not-top to.at c.if-to-eq0.false in
+          let stands = subst (λ n. nat_le to.at n ≡ true) (c.modules_on.ensures.on s) (stands-at to.at c.modules_on.result c.if-to-modules_on.true) in
+          subst (λ (n : ℕ). HasRoom s n) (sym (place-own to m st below stands)) c.requires.room.room
+          ),
+      (
+        (
+            let s = g.B.Blocks.value c.args.store.now in
+            let st = state_in s c.args.self.now in
+            let to = c.args.to in
+            let m = message_in s (token c.args.message) in
+            let below : (to.at == 0) ≡ false = not-top to.at c.if-to-eq0.false in
+            let stands = subst (λ n. nat_le to.at n ≡ true) (c.modules_on.ensures.on s) (stands-at to.at c.modules_on.result c.if-to-modules_on.true) in
+            omega (arith, place-makes to m st below stands, c.requires.room.spare)
+            ),
+        (
+          search rules,
+          search rules,
+        ),
+      ),
     ),
-    ((
-        let s = g.B.Blocks.value c.args.store.now in
-        let st = state_in s c.args.self.now in
-        let to = c.args.to in
-        let m = message_in s (token c.args.message) in
-        let below : (to.at == 0) ≡ false = not-top to.at c.if-to-eq0.false in
-        let stands = subst (λ n. nat_le to.at n ≡ true) (c.modules_on.ensures.on s) (stands-at to.at c.modules_on.result c.if-to-modules_on.true) in
-        omega (arith, place-makes to m st below stands, c.requires.room.spare)
-    ),
-    (search rules,
-    search rules)))))
+  ),
+)
 
 pub put_driver-requires : goal.put_driver-requires
-put_driver-requires g c = (omega arith,
-    (search rules,
+put_driver-requires g c = (
+  omega arith,
+  (
+    search rules,
     (
         let s = g.B.Blocks.value c.args.store.now in
         let st = state_in s c.args.self.now in
@@ -58,18 +76,26 @@ put_driver-requires g c = (omega arith,
         let to = c.args.to in
         let past = subst (λ n. nat_le to.at n ≡ false) (c.modules_on.ensures.on s) (stands-above to.at c.modules_on.result c.if-to-modules_on.false) in
         subst (λ way. HasRoom s (driver_own way (message_in s i))) (sym c.in-Down.is) (behind-room Down s i to st c.in-Down.is c.if-to-eq0.false past c.requires.room.room)
-    )))
+        ),
+  ),
+)
 
 pub put_up-requires : goal.put_up-requires
-put_up-requires g c = (omega arith,
-    (search rules,
-    ((
-        let s = g.B.Blocks.value c.args.store.now in
-        let to = c.args.to in
-        let past = subst (λ n. nat_le to.at n ≡ false) (c.modules_on.ensures.on s) (stands-above to.at c.modules_on.result c.if-to-modules_on.false) in
-        behind-room Up s (token c.args.message) to (state_in s c.args.self.now) c.in-Up.is c.if-to-eq0.false past c.requires.room.room
+put_up-requires g c = (
+  omega arith,
+  (
+    search rules,
+    (
+      (
+          let s = g.B.Blocks.value c.args.store.now in
+          let to = c.args.to in
+          let past = subst (λ n. nat_le to.at n ≡ false) (c.modules_on.ensures.on s) (stands-above to.at c.modules_on.result c.if-to-modules_on.false) in
+          behind-room Up s (token c.args.message) to (state_in s c.args.self.now) c.in-Up.is c.if-to-eq0.false past c.requires.room.room
+          ),
+      search rules,
     ),
-    search rules)))
+  ),
+)
 
 pub returns-then-to-eq0-clause-does : goal.returns-then-to-eq0-clause-does
 returns-then-to-eq0-clause-does g c =

@@ -18,17 +18,21 @@ mode-free : (side : Side) (bytes : List ℕ) → most_of {C = ℕ} (head_above s
 mode-free side bytes = omega arith
 
 pub deliver_alone-requires : goal.deliver_alone-requires
-deliver_alone-requires g c = (omega arith,
-    ((
+deliver_alone-requires g c = (
+  omega arith,
+  (
+    (
         let made = c.make-message.ensures in
         made-alone (g.B.Blocks.value c.args.store.now) (g.B.Blocks.value c.make-message.new.store) c.args.self.now c.requires.rests (token c.make-message.result) made.after made.chain
-    ),
+        ),
     (
         let made = g.B.Blocks.value c.make-message.new.store in
         let bytes = c.mode_number.result ∷ 0 ∷ [] in
         may-by made (spare (state_in made c.args.self.now)) (head_above c.args.side) (message_of (in_hand made (token c.make-message.result))) (record { kind = Setopts; band = 0; control = None; body = None; plain = bytes }) 0
         c.make-message.ensures.shows (mode-free c.args.side bytes) (record { mblks = omega arith; dblks = omega arith }) (omega arith)
-    )))
+        ),
+  ),
+)
 
 pub returns : goal.returns
 returns g c =

@@ -18,8 +18,10 @@ use Rattle.strm_pair.proofs.Sides.{modules-are}
 use Rattle.strm_pair.proofs.streams.Streams.put_module.Goals as goal
 
 pub book_made-requires : goal.book_made-requires
-book_made-requires g c = (omega arith,
-    ((
+book_made-requires g c = (
+  omega arith,
+  (
+    (
         let K = g.M.Behaves.does in
         let s = g.B.Blocks.value c.args.store.now in
         let i = token c.args.message in
@@ -38,7 +40,7 @@ book_made-requires g c = (omega arith,
         let made = ap (λ k. between k f'.made_from_master) first ∙ put-between to m st small K MasterToSlave f f' (omega (arith, few.0, first)) (omega (arith, few.1, second)) tells in
         let book = ap (λ (y : Streams _). y.books.master.made) (c.note.ensures s) ∙ ap (λ (y : Streams _). y.books.master.made) e.streams in
         λ some. (let fits = put-fits to m st small K c.requires.books MasterToSlave (omega (arith, some, made)) in omega (arith, made, book, fits))
-    ),
+        ),
     (
         let K = g.M.Behaves.does in
         let s = g.B.Blocks.value c.args.store.now in
@@ -58,7 +60,9 @@ book_made-requires g c = (omega arith,
         let made = ap (λ k. between k f'.made_from_slave) second ∙ put-between to m st small K SlaveToMaster f f' (omega (arith, few.0, first)) (omega (arith, few.1, second)) tells in
         let book = ap (λ (y : Streams _). y.books.slave.made) (c.note.ensures s) ∙ ap (λ (y : Streams _). y.books.slave.made) e.streams in
         λ some. (let fits = put-fits to m st small K c.requires.books SlaveToMaster (omega (arith, some, made)) in omega (arith, made, book, fits))
-    )))
+        ),
+  ),
+)
 
 pub returns-clause-does : goal.returns-clause-does
 returns-clause-does g c =

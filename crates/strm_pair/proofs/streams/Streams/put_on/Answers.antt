@@ -9,19 +9,31 @@ use Rattle.strm_pair.proofs.streams.Streams.put_on.Goals as goal
 use Rattle.strm_pair.specs.Stacks.{modules_in}
 
 pub push_named-requires : goal.push_named-requires
-push_named-requires g c = (omega arith,
-    (omega (arith, c.first_list.ensures.small),
-    ((
-        let K = g.M.Behaves.does in
-        let s = g.B.Blocks.value c.args.store.now in
-        ap (λ ms. may_stand (named_by K (Some c.args.name)) ms)
-        (ap (λ (e : StreamEnd _). modules_in s e.stack) c.get_mut-end.ensures.value ∙ sym (modules-are s c.args.self.now c.args.side)) ∙
-        c.requires.may_stand
+push_named-requires g c = (
+  omega arith,
+  (
+    omega (arith, c.first_list.ensures.small),
+    (
+      (
+          let K = g.M.Behaves.does in
+          let s = g.B.Blocks.value c.args.store.now in
+          ap (λ ms. may_stand (named_by K (Some c.args.name)) ms)
+          (ap (λ (e : StreamEnd _). modules_in s e.stack) c.get_mut-end.ensures.value ∙ sym (modules-are s c.args.self.now c.args.side)) ∙
+          c.requires.may_stand
+          ),
+      (
+        rw c.get_mut-end.ensures.value (c.requires.held.beside c.args.side).stack,
+        (
+          rw (c.get_mut-end.ensures.value, c.first_list.ensures.list) (c.requires.held.beside c.args.side).owned,
+          (
+            rw (c.get_mut-end.ensures.value, c.first_list.ensures.list) (c.requires.held.beside c.args.side).spare,
+            rw (c.get_mut-end.ensures.value, c.first_list.ensures.list) (c.requires.held.beside c.args.side).shelf,
+          ),
+        ),
+      ),
     ),
-    (rw c.get_mut-end.ensures.value (c.requires.held.beside c.args.side).stack,
-    (rw (c.get_mut-end.ensures.value, c.first_list.ensures.list) (c.requires.held.beside c.args.side).owned,
-    (rw (c.get_mut-end.ensures.value, c.first_list.ensures.list) (c.requires.held.beside c.args.side).spare,
-    rw (c.get_mut-end.ensures.value, c.first_list.ensures.list) (c.requires.held.beside c.args.side).shelf))))))
+  ),
+)
 
 pub returns-clause-state : goal.returns-clause-state
 returns-clause-state g c =

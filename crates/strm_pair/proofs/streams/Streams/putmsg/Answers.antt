@@ -38,17 +38,21 @@ with_written-book-requires g c =
     omega (arith, book-low c.args.side old c.requires.may.range, is, sent, stays, same, few, c.len_of.ensures.value, c.len_of-2.ensures.value)
 
 pub deliver_alone-requires : goal.deliver_alone-requires
-deliver_alone-requires g c = (omega arith,
-    ((
+deliver_alone-requires g c = (
+  omega arith,
+  (
+    (
         let sends = c.in-Some.ensures.made in
         made-alone (g.B.Blocks.value c.args.store.now) (g.B.Blocks.value c.make_message.new.store) c.args.self.now c.requires.may.rests (token c.in-Some.message) sends.after sends.chain
-    ),
+        ),
     (
         let made = g.B.Blocks.value c.make_message.new.store in
         let free = parts-free c.args.side c.args.prio (shown c.args.control) (shown c.args.body) c.in-Some.ensures.none in
         may-by made (spare (state_in made c.args.self.now)) (record { side = c.args.side; at = 1; way = Down }) (message_of (in_hand made (token c.in-Some.message)))
         (put_message c.args.prio (shown c.args.control) (shown c.args.body)) 0 c.in-Some.ensures.made.shows (omega (arith, free)) (record { mblks = omega arith; dblks = omega arith }) (omega arith)
-    )))
+        ),
+  ),
+)
 
 pub returns-clause-delivers : goal.returns-clause-delivers
 returns-clause-delivers g c =

@@ -13,14 +13,18 @@ use Rattle.strm_pair.specs.ModuleStacks.{stack-idle}
 use Rattle.strm_pair.specs.Stacks.{modules_in, stack_owns}
 
 pub take_top-requires : goal.take_top-requires
-take_top-requires g c = (omega arith,
-    (rw c.get_mut.ensures.value (c.requires.held.beside c.args.side).stack,
+take_top-requires g c = (
+  omega arith,
+  (
+    rw c.get_mut.ensures.value (c.requires.held.beside c.args.side).stack,
     (
         let s = g.B.Blocks.value c.args.store.now in
         let p = c.args.self.now in
         let side = c.args.side in
         rw c.get_mut.ensures.value (stack-idle s (end_at side p).stack (c.requires.held.beside side).stack (subst AllIdle (modules-are s p side) (c.requires.idle side)))
-    )))
+        ),
+  ),
+)
 
 pub returns-clause-streams : goal.returns-clause-streams
 returns-clause-streams g c = (end-there c.args.self.now c.args.side c.get_mut.result.now c.take_top.new.end c.get_mut.ensures.value c.take_top.ensures.end).1

@@ -14,10 +14,16 @@ use Rattle.strm_pair.proofs.MovingOn.{serves-moves, stays-moves}
 use Rattle.strm_pair.proofs.streams.Streams.turn_module.Goals as goal
 
 pub end_module_turn-requires : goal.end_module_turn-requires
-end_module_turn-requires g c = (omega arith,
-    (search rules,
-    (search rules,
-    let stands = c.call_on-bytes.ensures.treats.stands in let inside = c.in-Serves.ensures.begins.inside in omega arith)))
+end_module_turn-requires g c = (
+  omega arith,
+  (
+    search rules,
+    (
+      search rules,
+      let stands = c.call_on-bytes.ensures.treats.stands in let inside = c.in-Serves.ensures.begins.inside in omega arith,
+    ),
+  ),
+)
 
 -- No more is treated than the first message has.
 pub overflow_cast-result : goal.overflow_cast-result
