@@ -96,15 +96,19 @@ module _ {C : Type 0} where
   module_weight p side x = kind_weight p side x.part + queues_weight p side x.queues
 
   -- A message that is put at it, where so many cells were made before in the direction of what goes up; only pckt makes more. What one of a user's
-  -- own does the behaviour says.
-  abbrev pub module_puts : Behaviour → Cells C → ℕ → Spot → Message C → Standing C → Acted C (Standing C)
-  module_puts K cells made here m x = by x.part
+  -- own does is said beside.
+  abbrev pub puts_by : (Spot → Message C → Own → Acted C Own) → Cells C → ℕ → Spot → Message C → Standing C → Acted C (Standing C)
+  puts_by own cells made here m x = by x.part
     where
       by : Module C → Acted C (Standing C)
       by (OfLdterm l) = done_by (of_kind OfLdterm) (puts_there here m (record { part = l; queues = x.queues }))
       by (OfPtem p) = done_by (of_kind OfPtem) (acts_alone (ptem_puts here m) (record { part = p; queues = x.queues }))
       by (OfPckt p) = done_by (of_kind OfPckt) (acts_alone (λ q. pckt_puts cells made here m) (record { part = p; queues = x.queues }))
-      by (OfOwn o) = done_by (of_kind OfOwn) (acts_alone (K.puts cells here m) (record { part = o; queues = x.queues }))
+      by (OfOwn o) = done_by (of_kind OfOwn) (acts_alone (own here m) (record { part = o; queues = x.queues }))
+
+  -- and by a behaviour
+  abbrev pub module_puts : Behaviour → Cells C → ℕ → Spot → Message C → Standing C → Acted C (Standing C)
+  module_puts K cells made here m x = puts_by (K.puts cells) cells made here m x
 
   -- what the first message of its queue of a way asks before it goes on
   abbrev pub module_asks : Way → Standing C → Asks
