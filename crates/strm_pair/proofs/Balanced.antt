@@ -10,7 +10,7 @@ use Rattle.strm_pair.specs.PairViews.{IsKept}
 use Rattle.strm_pair.specs.Starts.{Start}
 use Rattle.strm_pair.proofs.Steps.{kept-base}
 
-module _ {M : Type 0} (K : Behaviour) (s : StoreValue) (p : Streams M) (j : Journal) (b : Start) (limits : Config) (fates : Fates) (kept : IsKept K s p j b limits fates) (dir : Dir) where
+module _ (K : Behaviour) (s : StoreValue) (p : Streams) (j : Journal) (b : Start) (limits : Config) (fates : Fates) (kept : IsKept K s p j b limits fates) (dir : Dir) where
   -- what was written and made is what stands there and has gone
   pub balance : let st = state_in s p in (book dir st).written + (book dir st).made ≡ queued dir st + (inline dir st + sum_of (fates_of dir fates))
   balance = ((kept-base K s p j b limits fates kept).balanced dir).agree

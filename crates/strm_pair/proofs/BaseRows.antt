@@ -47,7 +47,7 @@ new-has-image = new_has_image
 pub new-room : (mblks : ℕ) → length (image.text (Second, imaged opening no_fates)) ≤ image_room mblks
 new-room mblks = image_length_in (imaged opening no_fates) mblks new-has-image (omega arith) (omega arith)
 
-module _ {M : Type 0} (K : Behaviour) (s : StoreValue) (p : Streams M) (j : Journal) (b : Start) (limits : Config) (fates : Fates) (kept : IsKept K s p j b limits fates) (is : IsStore s)
+module _ (K : Behaviour) (s : StoreValue) (p : Streams) (j : Journal) (b : Start) (limits : Config) (fates : Fates) (kept : IsKept K s p j b limits fates) (is : IsStore s)
     (counts : AreCounts fates) (numbers : AreNumbers (state_in s p)) where
   -- the image of a pair has its room
   pub image-room : length (image.text (Second, imaged (state_in s p) fates)) ≤ image_room limits.mblks

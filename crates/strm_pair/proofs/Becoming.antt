@@ -11,14 +11,14 @@ use Rattle.strm_pair.specs.Pairs.{state_in, end_at, with_end}
 use Rattle.strm_pair.specs.Streams.{stream_in, IsSide}
 use Rattle.strm_pair.proofs.Sides.{head-held, held-with, stream-is}
 
-module _ {M : Type 0} (side : Side) (p : Streams M) (r : StreamEnd M) (there : r ≡ end_at side p) where
+module _ (side : Side) (p : Streams) (r : StreamEnd) (there : r ≡ end_at side p) where
   -- the stream of a side
-  pub side-becomes : (x : StreamEnd M) (becomes : Stream ℕ → Stream ℕ) → ((s : StoreValue) → stream_in s x ≡ becomes (stream_in s r))
+  pub side-becomes : (x : StreamEnd) (becomes : Stream ℕ → Stream ℕ) → ((s : StoreValue) → stream_in s x ≡ becomes (stream_in s r))
       → ((s : StoreValue) → IsSide s (first_list side) r → IsSide s (first_list side) x) → Becomes p (with_end side x p) (λ st. with_stream side (becomes (stream side st)) st)
   side-becomes x becomes is fits = record {
     state = λ s.
         ap (state_with p) (map-set (stream_in s) side x p.ends)
-        ∙ ap (λ y. with_stream side y (state_in s p)) (is s ∙ ap (λ (e : StreamEnd M). becomes (stream_in s e)) there ∙ ap becomes (sym (stream-is s p side)));
+        ∙ ap (λ y. with_stream side y (state_in s p)) (is s ∙ ap (λ (e : StreamEnd). becomes (stream_in s e)) there ∙ ap becomes (sym (stream-is s p side)));
     held = λ s held. held-with s p side x held (fits s (subst (IsSide s (first_list side)) (sym there) (held.beside side)));
   }
 
@@ -34,7 +34,7 @@ module _ {M : Type 0} (side : Side) (p : Streams M) (r : StreamEnd M) (there : r
   }
 
 -- and the number that the next ioctl gets
-pub next-becomes : {M : Type 0} (p q : Streams M) (becomes : State ℕ → State ℕ) (next : ℕ) → next ≡ suc p.next_ioctl → Becomes p q becomes
+pub next-becomes : (p q : Streams) (becomes : State ℕ → State ℕ) (next : ℕ) → next ≡ suc p.next_ioctl → Becomes p q becomes
     → Becomes p (record q { next_ioctl = next }) (λ st. record (becomes st) { next_ioctl = suc st.next_ioctl })
 next-becomes p q becomes next is one = record {
   state = λ s. ap (λ (v : State ℕ). record v { next_ioctl = next }) (one.state s) ∙ ap (λ n. record (becomes (state_in s p)) { next_ioctl = n }) is;

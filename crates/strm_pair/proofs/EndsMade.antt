@@ -78,13 +78,13 @@ names-same (m ∷ ms) = ap (λ ns. module_name (module_now m) ∷ ns) (names-sam
 
 -- ---- what stands there
 
-module _ {M : Type 0} {s a b d : StoreValue} {first : ℕ} {q r : Queue} (K : Behaviour) (text : StreamText) (opened : Openness)
+module _ {s a b d : StoreValue} {first : ℕ} {q r : Queue} (K : Behaviour) (text : StreamText) (opened : Openness)
     (good : IsStreamText K text)
     (h : Fills s a first q) (head_is : queue_in a q ≡ queue_now text.head) (head_spent : Spent s a (queue_blocks (queue_now text.head)))
     (w : Fills a b (first + 1) r) (driver_is : queue_in b r ≡ queue_now text.driver) (driver_spent : Spent a b (queue_blocks (queue_now text.driver)))
-    (stack : Stack (AnyModule M)) (shelf : Option Tables) (stacked : AreStacked b d (first + 2) text.modules.items stack.modules.items shelf)
+    (stack : Stack AnyModule) (shelf : Option Tables) (stacked : AreStacked b d (first + 2) text.modules.items stack.modules.items shelf)
     (head : Head) (is : head.queue ≡ q) (shown : (t : StoreValue) → head_in t head ≡ record (laid_now text).head { queue = queue_in t q }) where
-  abbrev made : StreamEnd M
+  abbrev made : StreamEnd
   made = record { opened = opened; head = head; stack = stack; driver = r; shelf = shelf }
 
   abbrev ms : List ModuleText

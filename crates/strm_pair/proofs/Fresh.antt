@@ -15,11 +15,11 @@ use Rattle.strm_pair.proofs.BaseRows.{new-has-image, new-room}
 use Rattle.strm_pair.proofs.Steps.{led-nowhere}
 
 -- streams as new, beside a store with nothing in it
-pub record AreFresh {M : Type 0} (mblks dblks : ℕ) (p : Streams M) : Type 0 where
+pub record AreFresh (mblks dblks : ℕ) (p : Streams) : Type 0 where
   pub state : state_in (empty_store mblks dblks) p ≡ opening
   pub held : AreHeld (empty_store mblks dblks) p
 
-pub fresh-kept : {M : Type 0} (K : Behaviour) (s : StoreValue) (p : Streams M) (j : Journal) (b : Start) (limits : Config) (fates : Fates) → b ≡ new_start → s ≡ empty_store limits.mblks limits.dblks → AreFresh limits.mblks limits.dblks p
+pub fresh-kept : (K : Behaviour) (s : StoreValue) (p : Streams) (j : Journal) (b : Start) (limits : Config) (fates : Fates) → b ≡ new_start → s ≡ empty_store limits.mblks limits.dblks → AreFresh limits.mblks limits.dblks p
     → journal_of j ≡ [] → j.most_entries ≡ limits.journal_events → j.most_bytes ≡ limits.journal_bytes → fates ≡ no_fates → IsKept K s p j b limits fates
 fresh-kept K s p j b limits fates is blank fresh empty events bytes none = record {
   based = subst (λ (t : Start). IsBase t.state t.fates) (sym is) opening-base;
@@ -36,23 +36,23 @@ fresh-kept K s p j b limits fates is blank fresh empty events bytes none = recor
 }
 
 -- a base at such streams is that of a new pair
-pub fresh-start : {M : Type 0} (s : StoreValue) (p : Streams M) (b : Start) (past : List PlainEntry) (fates : Fates) (mblks dblks : ℕ) → s ≡ empty_store mblks dblks → AreFresh mblks dblks p → fates ≡ no_fates → past ≡ []
+pub fresh-start : (s : StoreValue) (p : Streams) (b : Start) (past : List PlainEntry) (fates : Fates) (mblks dblks : ℕ) → s ≡ empty_store mblks dblks → AreFresh mblks dblks p → fates ≡ no_fates → past ≡ []
     → b ≡ begun_at (state_in s p) fates past → b ≡ new_start
 fresh-start s p b past fates mblks dblks blank fresh none first is =
     is ∙ ap (λ t. begun_at t fates past) (ap (λ v. state_in v p) blank ∙ fresh.state) ∙ ap (λ f. begun_at opening f past) none ∙ ap (λ es. begun_at opening no_fates es) first
 
 -- and they have the image of one, in its room
-pub fresh-has-image : {M : Type 0} (s : StoreValue) (p : Streams M) (fates : Fates) (mblks dblks : ℕ) → s ≡ empty_store mblks dblks → AreFresh mblks dblks p → fates ≡ no_fates → HasImage (imaged (state_in s p) fates)
+pub fresh-has-image : (s : StoreValue) (p : Streams) (fates : Fates) (mblks dblks : ℕ) → s ≡ empty_store mblks dblks → AreFresh mblks dblks p → fates ≡ no_fates → HasImage (imaged (state_in s p) fates)
 fresh-has-image s p fates mblks dblks blank fresh none =
     subst (λ f. HasImage (imaged (state_in s p) f)) (sym none) (subst (λ t. HasImage (imaged t no_fates)) (sym (ap (λ v. state_in v p) blank ∙ fresh.state)) new-has-image)
 
-pub fresh-room : {M : Type 0} (s : StoreValue) (p : Streams M) (fates : Fates) (mblks dblks : ℕ) → s ≡ empty_store mblks dblks → AreFresh mblks dblks p → fates ≡ no_fates
+pub fresh-room : (s : StoreValue) (p : Streams) (fates : Fates) (mblks dblks : ℕ) → s ≡ empty_store mblks dblks → AreFresh mblks dblks p → fates ≡ no_fates
     → length (image.text (Second, imaged (state_in s p) fates)) ≤ image_room mblks
 fresh-room s p fates mblks dblks blank fresh none =
     subst (λ f. length (image.text (Second, imaged (state_in s p) f)) ≤ image_room mblks) (sym none)
     (subst (λ t. length (image.text (Second, imaged t no_fates)) ≤ image_room mblks) (sym (ap (λ v. state_in v p) blank ∙ fresh.state)) (new-room mblks))
 
-pub fresh-shown : {M : Type 0} (s : StoreValue) (p : Streams M) (j : Journal) (b : Start) (limits : Config) (fates : Fates) → b ≡ new_start → s ≡ empty_store limits.mblks limits.dblks → AreFresh limits.mblks limits.dblks p → journal_of j ≡ [] → fates ≡ no_fates → pair_of s p j b limits fates ≡ new_pair limits
+pub fresh-shown : (s : StoreValue) (p : Streams) (j : Journal) (b : Start) (limits : Config) (fates : Fates) → b ≡ new_start → s ≡ empty_store limits.mblks limits.dblks → AreFresh limits.mblks limits.dblks p → journal_of j ≡ [] → fates ≡ no_fates → pair_of s p j b limits fates ≡ new_pair limits
 fresh-shown s p j b limits fates is blank fresh empty none =
     ap (λ v. pair_of v p j b limits fates) blank
     ∙ rw (none, fresh.state, empty, is, free-empty limits.mblks limits.dblks) refl

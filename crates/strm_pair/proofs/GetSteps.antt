@@ -27,10 +27,10 @@ part-size None = refl
 part-size (Some bytes) = refl
 
 -- what a get takes of a side's head
-abbrev pub got_at : {M : Type 0} → Side → Wanted → ℕ → ℕ → StoreValue → Streams M → Got ℕ
+abbrev pub got_at : Side → Wanted → ℕ → ℕ → StoreValue → Streams → Got ℕ
 got_at side wanted cmax dmax s p = head_get wanted (min cmax READ_MAX) (min dmax READ_MAX) (stream side (state_in s p)).head.queue.messages
 
-pub gives-is : {M : Type 0} (side : Side) (wanted : Wanted) (cmax dmax most most_data : ℕ) (s : StoreValue) (p : Streams M) → most ≡ min cmax READ_MAX → most_data ≡ min dmax READ_MAX
+pub gives-is : (side : Side) (wanted : Wanted) (cmax dmax most most_data : ℕ) (s : StoreValue) (p : Streams) → most ≡ min cmax READ_MAX → most_data ≡ min dmax READ_MAX
     → (got : Gotten) (out : List ℕ) → Gives got out (head_get wanted most most_data (messages_on s (end_at side p).head.queue.list)) → Gives got out (got_at side wanted cmax dmax s p)
 gives-is side wanted cmax dmax most most_data s p most_is data_is got out gives =
     subst (λ (h : plain_state.Head ℕ). Gives got out (head_get wanted (min cmax READ_MAX) (min dmax READ_MAX) h.queue.messages)) (sym (head-is s p side))
@@ -60,7 +60,7 @@ module _ (got : Gotten) (out : List ℕ) (g : Got ℕ) (gives : Gives got out g)
   got-filled = ap answer_len shape ∙ reply-size (reply_of g) ∙ ap (λ (xs : List ℕ). length xs) (sym gives.given)
 
 -- how much is got
-module _ {M : Type 0} (got : Gotten) (out : List ℕ) (side : Side) (wanted : Wanted) (cmax dmax : ℕ) (s : StoreValue) (p : Streams M) (gives : Gives got out (got_at side wanted cmax dmax s p)) where
+module _ (got : Gotten) (out : List ℕ) (side : Side) (wanted : Wanted) (cmax dmax : ℕ) (s : StoreValue) (p : Streams) (gives : Gives got out (got_at side wanted cmax dmax s p)) where
   abbrev g : Got ℕ
   g = got_at side wanted cmax dmax s p
 

@@ -9,7 +9,7 @@ use Rattle.strm_pair.specs.Framing.{rests, same-state, same-beside}
 use Rattle.strm_pair.specs.Pairs.{state_in, Stays, kept_by}
 use Rattle.strm_pair.proofs.Leading.{pool-both}
 
-module _ {M : Type 0} (s t : StoreValue) (p : Streams M) (at_rest : AreAtRest s p) (i : ℕ) (after : t ≡ held s i (in_hand t i)) where
+module _ (s t : StoreValue) (p : Streams) (at_rest : AreAtRest s p) (i : ℕ) (after : t ≡ held s i (in_hand t i)) where
   -- nothing is kept
   none-moved : Stays s t (kept_by p)
   none-moved = record {
@@ -30,7 +30,7 @@ module _ {M : Type 0} (s t : StoreValue) (p : Streams M) (at_rest : AreAtRest s 
   }
 
   -- what a delivery of it led to, by the message that it stands for
-  pub made-leads : (K : Behaviour) (u : StoreValue) (q : Streams M) (f f' : Fates) (to : Spot) (m : Message ℕ) → message_of (in_hand t i) ≡ m
+  pub made-leads : (K : Behaviour) (u : StoreValue) (q : Streams) (f f' : Fates) (to : Spot) (m : Message ℕ) → message_of (in_hand t i) ≡ m
       → (let is = delivered K plain to (message_of (in_hand t i)) (state_in t p) in Leads t u q f f' is.state is.gone)
       → (let is = delivered K plain to m (state_in s p) in Leads s u q f f' is.state is.gone)
   made-leads K u q f f' to m shows leads =
@@ -44,6 +44,6 @@ module _ {M : Type 0} (s t : StoreValue) (p : Streams M) (at_rest : AreAtRest s 
       }
 
   -- and what the books have left behind it, where that message becomes so many packets at most
-  pub made-left : (u : StoreValue) (q : Streams M) (to : Spot) (m : Message ℕ) (n : ℕ) → message_of (in_hand t i) ≡ m → most_of to m ≤ n
+  pub made-left : (u : StoreValue) (q : Streams) (to : Spot) (m : Message ℕ) (n : ℕ) → message_of (in_hand t i) ≡ m → most_of to m ≤ n
       → Takes t u (spare (state_in t p)) (spare (state_in u q)) (most_of to (message_of (in_hand t i))) 0 → spare (state_in s p) ≤ spare (state_in u q) + n
   made-left u q to m n shows few takes = omega (arith, takes.spare, ap spare made-state, ap (most_of to) shows, few)

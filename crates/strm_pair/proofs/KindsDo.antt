@@ -23,7 +23,7 @@ later-same : (again : Bool) (m n : ℕ) (sent : List (Parcel ℕ)) → (again �
 later-same true m n sent same = ap (λ k. later_cost true k sent) (same refl)
 later-same false m n sent same = refl
 
-module _ {M X P : Type 0} (wrap : X → AnyModule M) (made : P → Module ℕ) (in_itself : StoreValue → X → P)
+module _ {M X P : Type 0} (wrap : X → AnyModule) (made : P → Module ℕ) (in_itself : StoreValue → X → P)
     (IsHeld : StoreValue → X → Option QueuePair → Type 0) (keeps : X → ℕ → ℕ) where
   pub record IsKind : Type 0 where
     pub shows : (s : StoreValue) (x : X) → kind_in s (wrap x) ≡ made (in_itself s x)
@@ -38,7 +38,7 @@ module _ {M X P : Type 0} (wrap : X → AnyModule M) (made : P → Module ℕ) (
     kind-stands s x q = ap (λ (p : Module ℕ). stood p (queues_in s q)) (kind.shows s x)
 
     -- it fits where one of any kind does
-    pub kind-fits : (s : StoreValue) (any : AnyModule M) (x : X) (q : Option QueuePair) → any ≡ wrap x → Fits IsKindHeld s (standing any q)
+    pub kind-fits : (s : StoreValue) (any : AnyModule) (x : X) (q : Option QueuePair) → any ≡ wrap x → Fits IsKindHeld s (standing any q)
         → Fits IsHeld s (standing x q)
     kind-fits s any x q is held = record { queues = held.queues; itself = kind.back s x q (subst (λ m. IsKindHeld s m q) is held.itself) }
 
@@ -100,18 +100,18 @@ module _ {M X P : Type 0} (wrap : X → AnyModule M) (made : P → Module ℕ) (
             }
 
 -- the kinds
-pub ldterm-kind : {M : Type 0} → let wrap : Ldterm
-    → AnyModule M = kinds.Ldterm in IsKind wrap OfLdterm stands.own_in stands.HasInHand stands.keeps_itself
+pub ldterm-kind : let wrap : Ldterm
+    → AnyModule = kinds.Ldterm in IsKind wrap OfLdterm stands.own_in stands.HasInHand stands.keeps_itself
 ldterm-kind = record { shows = λ s x. refl; fits = λ s x queues held. held; back = λ s x queues held. held; keeps_same = λ x. refl }
 
-pub ptem-kind : {M : Type 0} → let wrap : Ptem
-    → AnyModule M = kinds.Ptem in IsKind wrap OfPtem (λ (s : StoreValue) (x : Ptem). ptem_in x) (λ s x queues. queues ≡ None) (λ x i. 0)
+pub ptem-kind : let wrap : Ptem
+    → AnyModule = kinds.Ptem in IsKind wrap OfPtem (λ (s : StoreValue) (x : Ptem). ptem_in x) (λ s x queues. queues ≡ None) (λ x i. 0)
 ptem-kind = record { shows = λ s x. refl; fits = λ s x queues held. held; back = λ s x queues held. held; keeps_same = λ x. refl }
 
-pub pckt-kind : {M : Type 0} → let wrap : Pckt
-    → AnyModule M = kinds.Pckt in IsKind wrap OfPckt (λ (s : StoreValue) (x : Pckt). pckt_in) (λ s x queues. queues ≡ None) (λ x i. 0)
+pub pckt-kind : let wrap : Pckt
+    → AnyModule = kinds.Pckt in IsKind wrap OfPckt (λ (s : StoreValue) (x : Pckt). pckt_in) (λ s x queues. queues ≡ None) (λ x i. 0)
 pckt-kind = record { shows = λ s x. refl; fits = λ s x queues held. held; back = λ s x queues held. held; keeps_same = λ x. refl }
 
-pub own-kind : {M : Type 0} → let wrap : Own
-    → AnyModule M = kinds.Own in IsKind wrap OfOwn (λ (s : StoreValue) (x : Own). x) (λ s x queues. queues ≡ None) (λ x i. 0)
+pub own-kind : let wrap : Own
+    → AnyModule = kinds.Own in IsKind wrap OfOwn (λ (s : StoreValue) (x : Own). x) (λ s x queues. queues ≡ None) (λ x i. 0)
 own-kind = record { shows = λ s x. refl; fits = λ s x queues held. held; back = λ s x queues held. held; keeps_same = λ x. refl }

@@ -9,11 +9,11 @@ pub pool-both : (s t u : StoreValue) → SamePool s t → SamePool t u → SameP
 pool-both s t u first second = record { mblks = second.mblks ∙ first.mblks; dblks = second.dblks ∙ first.dblks }
 
 -- where nothing changes
-pub leads-nowhere : {M : Type 0} (s : StoreValue) (p : Streams M) (f : Fates) → AreHeld s p → Leads s s p f f (state_in s p) []
+pub leads-nowhere : (s : StoreValue) (p : Streams) (f : Fates) → AreHeld s p → Leads s s p f f (state_in s p) []
 leads-nowhere s p f held = record { state = refl; tells = refl; held = held; pool = record { mblks = refl; dblks = refl } }
 
 -- two steps
-pub leads-both : {M : Type 0} (s t u : StoreValue) (p q : Streams M) (f g h : Fates) (a b : Carried ℕ (State ℕ)) → Leads s t p f g a.state a.gone → Leads t u q g h b.state b.gone
+pub leads-both : (s t u : StoreValue) (p q : Streams) (f g h : Fates) (a b : Carried ℕ (State ℕ)) → Leads s t p f g a.state a.gone → Leads t u q g h b.state b.gone
     → Leads s u q f h b.state (a.gone ++ b.gone)
 leads-both s t u p q f g h a b first second = record {
   state = second.state;
@@ -23,13 +23,13 @@ leads-both s t u p q f g h a b first second = record {
 }
 
 -- the second of what the first led to
-pub leads-then : {M : Type 0} (step : State ℕ → Carried ℕ (State ℕ)) (s t u : StoreValue) (p q : Streams M) (f g h : Fates) (a : Carried ℕ (State ℕ)) → Leads s t p f g a.state a.gone
+pub leads-then : (step : State ℕ → Carried ℕ (State ℕ)) (s t u : StoreValue) (p q : Streams) (f g h : Fates) (a : Carried ℕ (State ℕ)) → Leads s t p f g a.state a.gone
     → Leads t u q g h (step (state_in t p)).state (step (state_in t p)).gone → Leads s u q f h (step a.state).state (a.gone ++ (step a.state).gone)
 leads-then step s t u p q f g h a first second =
     leads-both s t u p q f g h a (step a.state) first (subst (λ x. Leads t u q g h (step x).state (step x).gone) first.state second)
 
 -- nothing goes in the second
-pub leads-quietly : {M : Type 0} (step : State ℕ → State ℕ) (s t u : StoreValue) (p q : Streams M) (f g : Fates) (a : Carried ℕ (State ℕ)) → Leads s t p f g a.state a.gone
+pub leads-quietly : (step : State ℕ → State ℕ) (s t u : StoreValue) (p q : Streams) (f g : Fates) (a : Carried ℕ (State ℕ)) → Leads s t p f g a.state a.gone
     → Leads t u q g g (step (state_in t p)) [] → Leads s u q f g (step a.state) a.gone
 leads-quietly step s t u p q f g a first second = record {
   state = second.state ∙ ap step first.state;
@@ -39,7 +39,7 @@ leads-quietly step s t u p q f g a first second = record {
 }
 
 -- the streams alone change behind it
-pub leads-becoming : {M : Type 0} (step : State ℕ → State ℕ) (s t : StoreValue) (p q : Streams M) (f g : Fates) (a : Carried ℕ (State ℕ)) → Leads s t p f g a.state a.gone → Becomes p q step
+pub leads-becoming : (step : State ℕ → State ℕ) (s t : StoreValue) (p q : Streams) (f g : Fates) (a : Carried ℕ (State ℕ)) → Leads s t p f g a.state a.gone → Becomes p q step
     → Leads s t q f g (step a.state) a.gone
 leads-becoming step s t p q f g a leads becomes = record {
   state = becomes.state t ∙ ap step leads.state;
@@ -49,9 +49,9 @@ leads-becoming step s t p q f g a leads becomes = record {
 }
 
 -- the streams alone change
-pub leads-alone : {M : Type 0} (step : State ℕ → State ℕ) (s : StoreValue) (p q : Streams M) (f : Fates) → AreHeld s p → Becomes p q step → Leads s s q f f (step (state_in s p)) []
+pub leads-alone : (step : State ℕ → State ℕ) (s : StoreValue) (p q : Streams) (f : Fates) → AreHeld s p → Becomes p q step → Leads s s q f f (step (state_in s p)) []
 leads-alone step s p q f held becomes = leads-becoming step s s p q f f (record { state = state_in s p; gone = [] }) (leads-nowhere s p f held) becomes
 
 -- the streams are at rest behind it where nothing of a turn is under way
-pub rests-behind : {M : Type 0} (s t : StoreValue) (p : Streams M) (f g : Fates) (led : State ℕ) (gone : List (Fate ℕ)) → Leads s t p f g led gone → AreIdle led → AreAtRest t p
+pub rests-behind : (s t : StoreValue) (p : Streams) (f g : Fates) (led : State ℕ) (gone : List (Fate ℕ)) → Leads s t p f g led gone → AreIdle led → AreAtRest t p
 rests-behind s t p f g led gone leads idle = record { held = leads.held; idle = subst AreIdle (sym leads.state) idle }

@@ -41,7 +41,7 @@ module _ (s : StoreValue) where
   one-none (Some pair) is k = absurd (false≢true (sym is))
 
   -- modules among which none has a name of such with queues own no list
-  no-queues : {M : Type 0} (xs : List (AnyStanding M)) → AllByRecursion (IsHeld s) xs → stands module_name names.Ldterm (map (module_in s) xs) ≡ false → (k : ℕ) → all_of owns xs k ≡ 0
+  no-queues : (xs : List AnyStanding) → AllByRecursion (IsHeld s) xs → stands module_name names.Ldterm (map (module_in s) xs) ≡ false → (k : ℕ) → all_of owns xs k ≡ 0
   no-queues [] held none k = refl
   no-queues (x ∷ xs) held none k =
       let name = module_name (module_in s x) in
@@ -49,7 +49,7 @@ module _ (s : StoreValue) where
       omega (arith, sum_by-cons (λ y. owns y k) x xs, one-none x.queues (any-has s x held.0 ∙ bare name apart.0) k, no-queues xs held.1 apart.1 k)
 
   -- where one with queues may be pushed no other one has any
-  pub queues-alone : {M : Type 0} (K : Behaviour) (kind : ModuleName) (xs : List (AnyStanding M)) → AllByRecursion (IsHeld s) xs → may_stand (named_by K (Some kind)) (map (module_in s) xs) ≡ true → have_queues kind ≡ true
+  pub queues-alone : (K : Behaviour) (kind : ModuleName) (xs : List AnyStanding) → AllByRecursion (IsHeld s) xs → may_stand (named_by K (Some kind)) (map (module_in s) xs) ≡ true → have_queues kind ≡ true
       → (k : ℕ) → all_of owns xs k ≡ 0
   queues-alone K names.Ldterm xs held may is k =
       let ms = map (module_in s) xs in
@@ -58,12 +58,12 @@ module _ (s : StoreValue) where
   queues-alone K names.Pckt xs held may is k = absurd (cc)
   queues-alone K (names.Own n) xs held may is k = absurd (cc)
 
-  module _ {M : Type 0} (K : Behaviour) (first : ℕ) (kind : ModuleName) (a b : Stack (AnyModule M)) (x : AnyStanding M)
+  module _ (K : Behaviour) (first : ℕ) (kind : ModuleName) (a b : Stack AnyModule) (x : AnyStanding)
       (before : AreHeld IsHeld owns s a.modules.items)
       (may : may_stand (named_by K (Some kind)) (map (module_in s) a.modules.items) ≡ true)
       (spare : (k : ℕ) → first + 2 ≤ k → k < first + 4 → all_of owns a.modules.items k ≡ 0 → list_at s k ≡ [])
       (made : IsMade K kind x.module) (given : GivenFor kind (first + 2) x.queues)
-      {U : Type 0} (r : Result U (AnyStanding M))
+      {U : Type 0} (r : Result U AnyStanding)
       (pushed : MatchResult r (λ _. (may_push module_name (module_in s x) (map (module_in s) a.modules.items) ≡ true) × (b.modules.items ≡ x ∷ a.modules.items)) (λ back. (may_push module_name (module_in s x) (map (module_in s) a.modules.items) ≡ false) × ((back ≡ x) × (b ≡ a)))) where
     may-be : may_push module_name (module_in s x) (map (module_in s) a.modules.items) ≡ true
     may-be = may-named K kind (module_in s x) (map (module_in s) a.modules.items) (ap kind_name (made.made s) ∙ kind-is K kind) may
@@ -90,7 +90,7 @@ module _ (s : StoreValue) where
     is : b.modules.items ≡ x ∷ a.modules.items
     is = by r pushed
       where
-        by : (r : Result U (AnyStanding M)) → MatchResult r (λ _. (may_push module_name (module_in s x) (map (module_in s) a.modules.items) ≡ true) × (b.modules.items ≡ x ∷ a.modules.items)) (λ back. (may_push module_name (module_in s x) (map (module_in s) a.modules.items) ≡ false) × ((back ≡ x) × (b ≡ a))) → b.modules.items ≡ x ∷ a.modules.items
+        by : (r : Result U AnyStanding) → MatchResult r (λ _. (may_push module_name (module_in s x) (map (module_in s) a.modules.items) ≡ true) × (b.modules.items ≡ x ∷ a.modules.items)) (λ back. (may_push module_name (module_in s x) (map (module_in s) a.modules.items) ≡ false) × ((back ≡ x) × (b ≡ a))) → b.modules.items ≡ x ∷ a.modules.items
         by (Ok u) pushed = pushed.1
         by (Err back) pushed = absurd (let never = sym pushed.0 ∙ may-be in cc)
 

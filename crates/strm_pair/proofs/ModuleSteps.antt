@@ -32,7 +32,7 @@ none : (n : ℕ) → (0 < n → ⊥) → n ≡ 0
 none zero not = refl
 none (suc n) not = absurd (not (omega arith))
 
-module _ {M : Type 0} (s t : StoreValue) (first : ℕ) (e : StreamEnd M) (x : Stack M) (is : IsSide s first e) (own : OnlyOwn s t (stack_owns e.stack) (stack_owns x)) where
+module _ (s t : StoreValue) (first : ℕ) (e : StreamEnd) (x : Stack) (is : IsSide s first e) (own : OnlyOwn s t (stack_owns e.stack) (stack_owns x)) where
   -- a list that isn't one of the two for the modules of this side
   apart : (k : ℕ) → (first + 2 ≤ k → k < first + 4 → ⊥) → list_at t k ≡ list_at s k
   apart k away = own.lists k (none (stack_owns e.stack k) (λ some. let within = is.owned k some in away within.0 within.1))
@@ -63,7 +63,7 @@ module _ {M : Type 0} (s t : StoreValue) (first : ℕ) (e : StreamEnd M) (x : St
       ∙ ap (λ d. record (stream_in s e) { modules = ms; driver = record { queue = d } }) (queue-same s t e.driver driver-apart)
 
 -- what the other side's stack keeps stays, as it is apart from what goes and from what this one keeps
-pub other-stays : {M : Type 0} (side : Side) (s t : StoreValue) (p : Streams M) (gone keeps sent : ℕ → ℕ) → IsStore s → AreIn s gone (kept_by p)
+pub other-stays : (side : Side) (s t : StoreValue) (p : Streams) (gone keeps sent : ℕ → ℕ) → IsStore s → AreIn s gone (kept_by p)
     → Handles s t gone (stack_keeps (end_at side p).stack) keeps sent → SamePool s t → Stays s t (stack_keeps (end_at (other side) p).stack)
 other-stays side s t p gone keeps sent store can hands pool = record {
   mblks = pool.mblks;
@@ -74,7 +74,7 @@ other-stays side s t p gone keeps sent store can hands pool = record {
 }
 
 -- what both stacks keep
-pub joint-hands : {M : Type 0} (side : Side) (s t : StoreValue) (p : Streams M) (x : Stack M) (gone sent : ℕ → ℕ)
+pub joint-hands : (side : Side) (s t : StoreValue) (p : Streams) (x : Stack) (gone sent : ℕ → ℕ)
     → Handles s t gone (stack_keeps (end_at side p).stack) (stack_keeps x) sent → Handles s t gone (kept_by p) (kept_by (with_end side (record (end_at side p) { stack = x }) p)) sent
 joint-hands side s t p x gone sent hands =
     let e = record (end_at side p) { stack = x } in
@@ -83,7 +83,7 @@ joint-hands side s t p x gone sent hands =
       others = λ i none kept some. hands.others i none (omega (arith, kept, kept-parts side p i)) some;
     }
 
-module _ {M : Type 0} (s t : StoreValue) (p : Streams M) (x : Stack M) (beside : AreBeside s p) where
+module _ (s t : StoreValue) (p : Streams) (x : Stack) (beside : AreBeside s p) where
   -- the stack of a side changed
   module _ (side : Side) (own : OnlyOwn s t (stack_owns (end_at side p).stack) (stack_owns x)) (stays : Stays s t (stack_keeps (end_at (other side) p).stack)) where
     elsewhere : OtherStays s t p beside side
@@ -102,23 +102,23 @@ module _ {M : Type 0} (s t : StoreValue) (p : Streams M) (x : Stack M) (beside :
         ∙ ap (λ (y : Stream ℕ). with_stream side (record y { modules = ms }) (state_in s p)) (sym (stream-is s p side))
 
 -- the modules of a side whose stack is another one
-pub stack-modules : {M : Type 0} (side : Side) (t : StoreValue) (p : Streams M) (x : Stack M) (names : List QueueName) (books : Both Book)
+pub stack-modules : (side : Side) (t : StoreValue) (p : Streams) (x : Stack) (names : List QueueName) (books : Both Book)
     → (stream side (state_in t (record (with_end side (record (end_at side p) { stack = x }) p) { enabled = names; books = books }))).modules ≡ modules_in t x
 stack-modules side t p x names books =
     let e = record (end_at side p) { stack = x } in
     ap (λ (y : Stream ℕ). y.modules) (get-map (stream_in t) side (set side e p.ends) ∙ ap (stream_in t) (get-set-same side e p.ends))
 
 -- A stack acted at a place: the streams stand for what its modules did, what they said of their queues is noted, and what they made is booked.
-pub record ActsIn {M : Type 0} (s t : StoreValue) (p q : Streams M) (gone sent : ℕ → ℕ) (is : State ℕ) : Type 0 where
+pub record ActsIn (s t : StoreValue) (p q : Streams) (gone sent : ℕ → ℕ) (is : State ℕ) : Type 0 where
   pub state : state_in t q ≡ is
   pub beside : AreBeside t q
   pub hands : Handles s t gone (kept_by p) (kept_by q) sent
 
-module _ {M : Type 0} (s t : StoreValue) (p q : Streams M) (x : Stack M) (here : Spot) (gone sent : ℕ → ℕ) where
+module _ (s t : StoreValue) (p q : Streams) (x : Stack) (here : Spot) (gone sent : ℕ → ℕ) where
   abbrev st : State ℕ
   st = state_in s p
 
-  abbrev old : Stack M
+  abbrev old : Stack
   old = (end_at here.side p).stack
 
   pub stack-acts : (did : Acted ℕ (List (Standing ℕ))) (place : Option Place) (earlier : Way → Option QueueName) (notes : List Note) (m n : ℕ) → IsStore s → AreIn s gone (kept_by p) → AreBeside s p
@@ -153,7 +153,7 @@ module _ {M : Type 0} (s t : StoreValue) (p q : Streams M) (x : Stack M) (here :
       }
 
 -- a module takes the message
-pub module-by : {M : Type 0} (K : Behaviour) (s t : StoreValue) (p q : Streams M) (x : Stack M) (i : ℕ) (to : Spot) (place : Option Place) (earlier : Way → Option QueueName) (acts : Acts) (f f' : Fates) (a b : ℕ)
+pub module-by : (K : Behaviour) (s t : StoreValue) (p q : Streams) (x : Stack) (i : ℕ) (to : Spot) (place : Option Place) (earlier : Way → Option QueueName) (acts : Acts) (f f' : Fates) (a b : ℕ)
     → let m = message_in s i in let st = state_in s p in let ms = (stream to.side st).modules in IsStore s → CanPut s i (kept_by p)
     → place ≡ slice_index_or (places_of ms) (to.at - 1) None → ((way : Way) → earlier way ≡ earlier_at to.side to.at st way) → AreBeside s p
     → StackTakes K s t (end_at to.side p).stack x i to acts f f' → a ≡ made_in MasterToSlave (taken_at K to m ms).gone → b ≡ made_in SlaveToMaster (taken_at K to m ms).gone

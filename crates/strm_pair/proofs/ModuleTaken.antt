@@ -48,8 +48,7 @@ name_or None = names.Ldterm
 name_or (Some name) = name
 
 -- no module stands on a stack that has no name on top
-pub none-top : {M : Type 0} (s : StoreValue) (xs : List (AnyStanding M)) → top_name module_name (map (module_in s) xs) ≡ None → map (module_in s) xs
-    ≡ []
+pub none-top : (s : StoreValue) (xs : List AnyStanding) → top_name module_name (map (module_in s) xs) ≡ None → map (module_in s) xs ≡ []
 none-top s [] none = refl
 none-top s (x ∷ xs) none = absurd (cc)
 
@@ -82,14 +81,12 @@ module _ (s t : StoreValue) (side : Side) (rule : Rule) where
   cleared-queues None (Some y) k is some = absurd (cc (is))
   cleared-queues (Some x) (Some y) k is some = cleared-pair x y k is some
 
-  cleared-list : {M : Type 0} (x y : AnyStanding M) (k : ℕ) → module_in t y ≡ (let_go_of side rule (module_in s x)).state → 0 < owns y k
-      → list_at t k ≡ []
+  cleared-list : (x y : AnyStanding) (k : ℕ) → module_in t y ≡ (let_go_of side rule (module_in s x)).state → 0 < owns y k → list_at t k ≡ []
   cleared-list x y k is some = cleared-queues x.queues y.queues k (ap (λ (p : Standing ℕ). p.queues) is) some
 
-  module _ {M : Type 0} (told told' : Fates) (taken : Taken) (a b c : Stack (AnyModule M)) where
+  module _ (told told' : Fates) (taken : Taken) (a b c : Stack AnyModule) where
     -- the stack before it, behind the clearing, and without the module
-    took-these : (x : AnyStanding M) (xs : List (AnyStanding M)) (y : AnyStanding M) → a.modules.items ≡ x ∷ xs → b.modules.items
-        ≡ y ∷ c.modules.items
+    took-these : (x : AnyStanding) (xs : List AnyStanding) (y : AnyStanding) → a.modules.items ≡ x ∷ xs → b.modules.items ≡ y ∷ c.modules.items
         → taken.name ≡ module_name (module_in s x)
         → map (module_in t) b.modules.items ≡ (act_among (let_go_of side rule) 0 (map (module_in s) a.modules.items)).state
         → taken.notes.items ≡ (act_among (let_go_of side rule) 0 (map (module_in s) a.modules.items)).notes
@@ -126,12 +123,11 @@ module _ (s t : StoreValue) (side : Side) (rule : Rule) where
         → told' ≡ tallied (act_among (let_go_of side rule) 0 (map (module_in s) a.modules.items)).gone told
         → AreHeld IsHeld owns t b.modules.items → ((i : ℕ) → all_of keeps b.modules.items i ≡ 0)
         → OnlyOwn s t (all_of owns a.modules.items) (all_of owns b.modules.items) → SameHand s t → FreesBlocks s t
-        → ((y : AnyStanding M) (ys : List (AnyStanding M)) → b.modules.items ≡ y ∷ ys → c.modules.items ≡ ys)
+        → ((y : AnyStanding) (ys : List AnyStanding) → b.modules.items ≡ y ∷ ys → c.modules.items ≡ ys)
         → TookTop side rule s t a c told told' taken
     took-top top state notes tells held rests own hand frees rest = by a.modules.items refl b.modules.items refl
       where
-        by : (l : List (AnyStanding M)) → a.modules.items ≡ l → (m : List (AnyStanding M)) → b.modules.items ≡ m
-            → TookTop side rule s t a c told told' taken
+        by : (l : List AnyStanding) → a.modules.items ≡ l → (m : List AnyStanding) → b.modules.items ≡ m → TookTop side rule s t a c told told' taken
         by [] none m is = absurd (let e = sym top ∙ ap (λ l. top_name module_name (map (module_in s) l)) none in cc)
         by (x ∷ xs) before [] none = absurd (let e = sym (ap (map (module_in t)) none) ∙ state ∙ ap (λ l. (act_among (let_go_of side rule) 0 (map (module_in s) l)).state) before in cc)
         by (x ∷ xs) before (y ∷ ys) is =

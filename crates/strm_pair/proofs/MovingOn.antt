@@ -42,15 +42,15 @@ module _ (here : Spot) where
   pair-full s l None = (tt, tt)
   pair-full s l (Some pair) = (full-first (list_at s pair.read.list), full-first (list_at s pair.write.list))
 
-  full-one : {M : Type 0} (s : StoreValue) (x : AnyStanding M) → IsHeld s x → Full (module_in s x)
+  full-one : (s : StoreValue) (x : AnyStanding) → IsHeld s x → Full (module_in s x)
   full-one s x held = let full = pair-full s (ldterm_of (kind_in s x.module)) x.queues in (full.0, full.1, any-has s x held)
 
-  full-among : {M : Type 0} (s : StoreValue) (i : ℕ) (xs : List (AnyStanding M)) → AllByRecursion (IsHeld s) xs → Full (slice_index_or (map (module_in s) xs) i none_there)
+  full-among : (s : StoreValue) (i : ℕ) (xs : List AnyStanding) → AllByRecursion (IsHeld s) xs → Full (slice_index_or (map (module_in s) xs) i none_there)
   full-among s i [] held = (tt, tt, refl)
   full-among s zero (x ∷ xs) held = full-one s x held.0
   full-among s (suc i) (x ∷ xs) held = full-among s i xs held.1
 
-  pub full-at : {M : Type 0} (s : StoreValue) (p : Streams M) → IsStackHeld s (end_at here.side p).stack → Full (module_at here (state_in s p))
+  pub full-at : (s : StoreValue) (p : Streams) → IsStackHeld s (end_at here.side p).stack → Full (module_at here (state_in s p))
   full-at s p held =
       subst (λ ms. Full (slice_index_or ms (here.at - 1) none_there)) (sym (modules-are s p here.side)) (full-among s (here.at - 1) (end_at here.side p).stack.modules.items held.each)
 

@@ -67,7 +67,7 @@ named-have [] has = refl
 named-have (p ∷ ps) has = ap (λ b. b ∷ all_have ps) has.0 ∙ ap (λ all. have_queues (module_name p) ∷ all) (named-have ps has.1)
 
 -- on streams whose modules of a side have the names that they had
-pub before-stays : {M : Type 0} (s t : StoreValue) (p q : Streams M) (side : Side) (way : Way) (at : ℕ) → IsStackHeld s (end_at side p).stack → IsStackHeld t (end_at side q).stack
+pub before-stays : (s t : StoreValue) (p q : Streams) (side : Side) (way : Way) (at : ℕ) → IsStackHeld s (end_at side p).stack → IsStackHeld t (end_at side q).stack
     → SameNames (modules_in t (end_at side q).stack) (modules_in s (end_at side p).stack) → before_at side way at (state_in t q) ≡ before_at side way at (state_in s p)
 before-stays s t p q side way at before behind same =
     let ps = modules_in t (end_at side q).stack in

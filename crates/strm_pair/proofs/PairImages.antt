@@ -13,7 +13,7 @@ use Rattle.strm_pair.proofs.Shown.{in-use}
 use Rattle.strm_pair.proofs.Steps.{kept-base, led-idle}
 use Rattle.strm_pair.proofs.WideQueues.{state-banded, state-small}
 
-module _ {M : Type 0} (K : Behaviour) (s : StoreValue) (p : Streams M) (j : Journal) (b : Start) (limits : Config) (fates : Fates) (kept : IsKept K s p j b limits fates) (is : IsStore s)
+module _ (K : Behaviour) (s : StoreValue) (p : Streams) (j : Journal) (b : Start) (limits : Config) (fates : Fates) (kept : IsKept K s p j b limits fates) (is : IsStore s)
     (counts : AreCounts fates) (numbers : AreNumbers (state_in s p)) where
   -- a store has 65,536 blocks at most
   short : AreShort (state_in s p)

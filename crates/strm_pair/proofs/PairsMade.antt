@@ -22,29 +22,28 @@ module _ (s : StoreValue) (lists : s.lists ≡ replicate 8 []) where
   pub blank-last : IsBlank s 4
   blank-last = record { head = list-none 4 refl; driver = list-none 5 refl; up = list-none 6 refl; down = list-none 7 refl }
 
-module _ {M : Type 0} {s t u : StoreValue} {p q : Stream ℕ} {m n : ℕ} {e f : StreamEnd M} (master : IsStood s t 0 p m e) (slave : IsStood t u 4 q n f)
-  where
-    -- the master's lists stay
-    stays : Stays t u (stack_keeps e.stack)
-    stays = still t u (stack_keeps e.stack) slave.hand slave.mblks slave.dblks
+module _ {s t u : StoreValue} {p q : Stream ℕ} {m n : ℕ} {e f : StreamEnd} (master : IsStood s t 0 p m e) (slave : IsStood t u 4 q n f) where
+  -- the master's lists stay
+  stays : Stays t u (stack_keeps e.stack)
+  stays = still t u (stack_keeps e.stack) slave.hand slave.mblks slave.dblks
 
-    stay : (k : ℕ) → 0 ≤ k → k < 0 + 4 → list_at u k ≡ list_at t k
-    stay k low high = slave.before k high
+  stay : (k : ℕ) → 0 ≤ k → k < 0 + 4 → list_at u k ≡ list_at t k
+  stay k low high = slave.before k high
 
-    pub master-stream : stream_in u e ≡ p
-    master-stream = stream-stays t u 0 e master.side stays stay ∙ master.stream
+  pub master-stream : stream_in u e ≡ p
+  master-stream = stream-stays t u 0 e master.side stays stay ∙ master.stream
 
-    pub both-sides : AreSides u (record { master = e; slave = f })
-    both-sides = each-side (λ side x. IsSide u (first_list side) x) (record { master = e; slave = f }) (side-stays t u 0 e master.side stays stay) slave.side
+  pub both-sides : AreSides u (record { master = e; slave = f })
+  both-sides = each-side (λ side x. IsSide u (first_list side) x) (record { master = e; slave = f }) (side-stays t u 0 e master.side stays stay) slave.side
 
-    pub both-spent : Spent s u (m + n)
-    both-spent = record {
-      mblks = omega (arith, master.spent.mblks, slave.spent.mblks);
-      dblks = omega (arith, master.spent.dblks, slave.spent.dblks);
-    }
+  pub both-spent : Spent s u (m + n)
+  both-spent = record {
+    mblks = omega (arith, master.spent.mblks, slave.spent.mblks);
+    dblks = omega (arith, master.spent.dblks, slave.spent.dblks);
+  }
 
 -- the slave's lists are empty till then
-module _ {M : Type 0} {s t : StoreValue} {p : Stream ℕ} {m : ℕ} {e : StreamEnd M} (master : IsStood s t 0 p m e) where
+module _ {s t : StoreValue} {p : Stream ℕ} {m : ℕ} {e : StreamEnd} (master : IsStood s t 0 p m e) where
   pub blank-behind : IsBlank s 4 → IsBlank t 4
   blank-behind blank = record {
     head = master.behind 4 (omega arith) ∙ blank.head;

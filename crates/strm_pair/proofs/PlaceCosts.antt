@@ -38,7 +38,7 @@ module _ (K : Behaviour) (to : Spot) (m : Message ℕ) (s : State ℕ) (small : 
 pub sent-most : (all : Stands) → StandOnce all → (ps : List (Parcel ℕ)) → cost_of (budget (costs all) HOPS) ps ≤ cost_of most ps
 sent-most all once ps = cost-under (budget (costs all) HOPS) most (keeps-most all once) ps
 
-pub once-stands : {M : Type 0} (s : StoreValue) (p : Streams M) → AreBeside s p → StandOnce (stands_of (state_in s p))
+pub once-stands : (s : StoreValue) (p : Streams) → AreBeside s p → StandOnce (stands_of (state_in s p))
 once-stands s p beside = each-side (λ sd on. EachOnce on) (stands_of (state_in s p)) (beside Master).once (beside Slave).once
 
 -- a message that stands for one of which is known what it takes at most

@@ -120,11 +120,11 @@ can-alone : (s : StoreValue) (m : ℕ) (keeps : ℕ → ℕ) → CanPut s m keep
 can-alone s m keeps can = record { apart = λ i. omega (arith, can.apart i) }
 
 -- the stacks stay where a head changes, or a driver
-kept-head : {M : Type 0} (p : Streams M) (side : Side) (h : heads.Head) (i : ℕ) → kept_by (with_end side (record (end_at side p) { head = h }) p) i
+kept-head : (p : Streams) (side : Side) (h : heads.Head) (i : ℕ) → kept_by (with_end side (record (end_at side p) { head = h }) p) i
     ≡ kept_by p i
 kept-head p side h i = kept-with side (record (end_at side p) { head = h }) p i ∙ sym (kept-parts side p i)
 
-kept-driver : {M : Type 0} (p : Streams M) (side : Side) (d : Queue) (i : ℕ) → kept_by (with_end side (record (end_at side p) { driver = d }) p) i
+kept-driver : (p : Streams) (side : Side) (d : Queue) (i : ℕ) → kept_by (with_end side (record (end_at side p) { driver = d }) p) i
     ≡ kept_by p i
 kept-driver p side d i = kept-with side (record (end_at side p) { driver = d }) p i ∙ sym (kept-parts side p i)
 
@@ -149,12 +149,12 @@ at_head side s t = record {
 open-is : (side : Side) (here : Spot) (m : Message ℕ) (s : State ℕ) → is_open (stream side s).opened ≡ true → put_at_head side here m s ≡ at_head side s (head_put here m (stream side s).head)
 open-is side here m s opened = rw opened refl
 
-module _ {M : Type 0} (side : Side) (s t : StoreValue) (p : Streams M) (h : heads.Head) (i : ℕ) (to : Spot) (m : Message ℕ) (lets_go : Bool) (down : Option heads_down.Down) (f f' : Fates) where
+module _ (side : Side) (s t : StoreValue) (p : Streams) (h : heads.Head) (i : ℕ) (to : Spot) (m : Message ℕ) (lets_go : Bool) (down : Option heads_down.Down) (f f' : Fates) where
   -- what the head did
   abbrev Did : Acted ℕ (Head ℕ)
   Did = head_put to m (head_in s (end_at side p).head)
 
-  abbrev behind : Streams M
+  abbrev behind : Streams
   behind = record (with_end side (record (end_at side p) { head = h }) p) { enabled = enable_some lets_go (before_head side (state_in s p)) p.enabled }
 
   came-at : IsStore s → CanPut s i (kept_by p) → AreBeside s p → head_in t h ≡ Did.state → notes_of lets_go ≡ Did.notes → sent_down to down ≡ Did.sent → f' ≡ tallied Did.gone f
@@ -177,7 +177,7 @@ module _ {M : Type 0} (side : Side) (s t : StoreValue) (p : Streams M) (h : head
         blocks = none;
       }
 
-  pub came-by : (q : Streams M) → to.side ≡ side → IsStore s → CanPut s i (kept_by p) → AreBeside s p → is_open (stream to.side (state_in s p)).opened ≡ true
+  pub came-by : (q : Streams) → to.side ≡ side → IsStore s → CanPut s i (kept_by p) → AreBeside s p → is_open (stream to.side (state_in s p)).opened ≡ true
       → head_in t h ≡ Did.state → notes_of lets_go ≡ Did.notes → sent_down to down ≡ Did.sent → f' ≡ tallied Did.gone f
       → Changes (dropped s i) t (end_at side p).head.queue h.queue → HoldsReadable (list_at t h.queue.list) → FreesBlocks s t → (is_held (message_in s i).kind ≡ true → FreesNone s t)
       → q ≡ behind
@@ -253,7 +253,7 @@ driver-room way s i chain room =
     record { mblks = (let a = room.mblks in omega (arith, a, low)); dblks = (let a = room.dblks in omega (arith, a, low)) }
 
 -- the driver takes the message
-pub driver-by : {M : Type 0} (side : Side) (s t : StoreValue) (p q : Streams M) (d : Queue) (i : ℕ) (to : Spot) (at : ℕ) (across : Across) (acts : Acts) (f f' : Fates)
+pub driver-by : (side : Side) (s t : StoreValue) (p q : Streams) (d : Queue) (i : ℕ) (to : Spot) (at : ℕ) (across : Across) (acts : Acts) (f f' : Fates)
     → let m = message_in s i in let st = state_in s p in let did = driver_put to.side across (record to { at = at }) m (queue_in s (end_at side p).driver) in
     IsStore s → CanPut s i (kept_by p) → IsChain (in_hand s i) → to.side ≡ side → at ≡ driver_place to.side st → across ≡ across_of to.side st → AreBeside s p → queue_in t d ≡ did.state → acts.notes.items ≡ did.notes → parcels_in t (sent_of acts.sent) ≡ did.sent
     → f' ≡ tallied did.gone f → OnlyQueue s t (end_at side p).driver d → AreChains t (sent_of acts.sent) → Hands s t i (λ _. 0) (λ _. 0) (λ j. times_sent j (sent_of acts.sent))
@@ -297,7 +297,7 @@ driver-by side s t p q d i to at across acts f f' store can chain is at_is acros
     })
 
 -- a message goes, and the streams stay
-pub swaps-put : {M : Type 0} (s t : StoreValue) (p : Streams M) (m n k : ℕ) (made : List Sent) (ps : List (Parcel ℕ)) (f f' : Fates)
+pub swaps-put : (s t : StoreValue) (p : Streams) (m n k : ℕ) (made : List Sent) (ps : List (Parcel ℕ)) (f f' : Fates)
     (is : Took ℕ (State ℕ))
     → IsStore s → CanPut s m (kept_by p) → AreBeside s p → Swaps s t m n made ps → n ≤ k → state_in s p ≡ is.state → ps ≡ is.sent → f' ≡ tallied is.gone f → PutBy s t p p m k made f f' is
 swaps-put s t p m n k made ps f f' is store can beside swaps le stays sends tells =
@@ -314,7 +314,7 @@ swaps-put s t p m n k made ps f f' is store can beside swaps le stays sends tell
     }
 
 -- the message itself goes on
-pub passed-put : {M : Type 0} (s : StoreValue) (p : Streams M) (x : Sent) (sent_on : List Sent) (f : Fates) (to : Spot) → AreBeside s p → IsChain (in_hand s (token x.message)) → x.to ≡ record to { at = modules_on to.side (state_in s p) } → sent_on ≡ x ∷ []
+pub passed-put : (s : StoreValue) (p : Streams) (x : Sent) (sent_on : List Sent) (f : Fates) (to : Spot) → AreBeside s p → IsChain (in_hand s (token x.message)) → x.to ≡ record to { at = modules_on to.side (state_in s p) } → sent_on ≡ x ∷ []
     → PutBy s s p p (token x.message) 0 sent_on f f (passed_up to (message_in s (token x.message)) (state_in s p))
 passed-put s p x sent_on f to beside chain on one = record {
   state = refl;
@@ -328,7 +328,7 @@ passed-put s p x sent_on f to beside chain on one = record {
 }
 
 -- what takes no more than so much takes no more than what is more
-put-more : {M : Type 0} (s t : StoreValue) (p q : Streams M) (m takes all : ℕ) (sent_on : List Sent) (f f' : Fates) (is : Took ℕ (State ℕ)) → takes
+put-more : (s t : StoreValue) (p q : Streams) (m takes all : ℕ) (sent_on : List Sent) (f f' : Fates) (is : Took ℕ (State ℕ)) → takes
     ≤ all
     → PutBy s t p q m takes sent_on f f' is → PutBy s t p q m all sent_on f f' is
 put-more s t p q m takes all sent_on f f' is low put = record {
@@ -343,7 +343,7 @@ put-more s t p q m takes all sent_on f f' is low put = record {
 }
 
 -- a put at a spot
-abbrev PutIn : {M : Type 0} (s t : StoreValue) (p q : Streams M) (i : ℕ) (to : Spot) (sent_on : List Sent) (f f' : Fates) → Took ℕ (State ℕ) → Type 0
+abbrev PutIn : (s t : StoreValue) (p q : Streams) (i : ℕ) (to : Spot) (sent_on : List Sent) (f f' : Fates) → Took ℕ (State ℕ) → Type 0
 PutIn s t p q i to sent_on f f' is = PutBy s t p q i (own to (shape_of (message_in s i)) (state_in s p)) sent_on f f' is
 
 -- at the head
@@ -353,7 +353,7 @@ head-room s i to st chain top room =
     let at : (to.at == 0) ≡ true = grind (arith, nat_tests) in
     room-for s (own to (shape_of m) st) (head_takes m) (omega (arith, turned-low s i chain, head-own to (shape_of m) st at)) room
 
-pub head-put : {M : Type 0} (K : Behaviour) (s t : StoreValue) (p q : Streams M) (i : ℕ) (to : Spot) (sent_on : List Sent) (f f' : Fates) → let m = message_in s i in IsChain (in_hand s i) → to.at ≡ 0
+pub head-put : (K : Behaviour) (s t : StoreValue) (p q : Streams) (i : ℕ) (to : Spot) (sent_on : List Sent) (f f' : Fates) → let m = message_in s i in IsChain (in_hand s i) → to.at ≡ 0
     → PutBy s t p q i (head_takes m) sent_on f f' (put_at_head to.side to m (state_in s p)) → PutIn s t p q i to sent_on f f' (put_in K cells.plain to m (state_in s p))
 head-put K s t p q i to sent_on f f' chain top put =
     let m = message_in s i in
@@ -363,7 +363,7 @@ head-put K s t p q i to sent_on f f' chain top put =
     (put-more s t p q i (head_takes m) (own to (shape_of m) st) sent_on f f' (put_at_head to.side to m st) (omega (arith, turned-low s i chain, head-own to (shape_of m) st at)) put)
 
 -- below the head, by whether a module stands at the place
-below-put : {M : Type 0} (K : Behaviour) (s t : StoreValue) (p q : Streams M) (i : ℕ) (to : Spot) (sent_on : List Sent) (f f' : Fates) (stands : Bool) → let m = message_in s i in let st = state_in s p in
+below-put : (K : Behaviour) (s t : StoreValue) (p q : Streams) (i : ℕ) (to : Spot) (sent_on : List Sent) (f f' : Fates) (stands : Bool) → let m = message_in s i in let st = state_in s p in
     (to.at ≡ 0 → ⊥) → nat_le to.at (modules_on to.side st) ≡ stands
     → PutIn s t p q i to sent_on f f' (cond stands (put_at_module K cells.plain to m st) (put_behind to.way to m st)) → PutIn s t p q i to sent_on f f' (put_in K cells.plain to m st)
 below-put K s t p q i to sent_on f f' stands inside place put =
@@ -373,7 +373,7 @@ below-put K s t p q i to sent_on f f' stands inside place put =
     subst (λ b. PutIn s t p q i to sent_on f f' (cond b (put_at_head to.side to m st) (put_below K cells.plain to.way to m st))) (sym below)
     (subst (λ b. PutIn s t p q i to sent_on f f' (cond b (put_at_module K cells.plain to m st) (put_behind to.way to m st))) (sym place) put)
 
-pub module-put : {M : Type 0} (K : Behaviour) (s t : StoreValue) (p q : Streams M) (i : ℕ) (to : Spot) (sent_on : List Sent) (f f' : Fates) → let m = message_in s i in let st = state_in s p in
+pub module-put : (K : Behaviour) (s t : StoreValue) (p q : Streams) (i : ℕ) (to : Spot) (sent_on : List Sent) (f f' : Fates) → let m = message_in s i in let st = state_in s p in
     let ms = (stream to.side st).modules in (to.at ≡ 0 → ⊥) → nat_le to.at (modules_on to.side st) ≡ true
     → PutBy s t p q i (at_place (module_takes to m) 0 to.at ms) sent_on f f' (put_at_module K cells.plain to m st)
     → PutIn s t p q i to sent_on f f' (put_in K cells.plain to m st)
@@ -406,7 +406,7 @@ pub behind-room : (way : Way) (s : StoreValue) (i : ℕ) (to : Spot) (st : State
     → HasRoom s (own to (shape_of (message_in s i)) st) → HasRoom s (behind_takes way to (message_in s i))
 behind-room way s i to st is inside past room = subst (λ (n : ℕ). HasRoom s n) (behind-is way to (message_in s i) st is inside past) room
 
-pub behind-put : {M : Type 0} (K : Behaviour) (way : Way) (s t : StoreValue) (p q : Streams M) (i : ℕ) (to : Spot) (sent_on : List Sent) (f f' : Fates) → let m = message_in s i in let st = state_in s p in
+pub behind-put : (K : Behaviour) (way : Way) (s t : StoreValue) (p q : Streams) (i : ℕ) (to : Spot) (sent_on : List Sent) (f f' : Fates) → let m = message_in s i in let st = state_in s p in
     to.way ≡ way → (to.at ≡ 0 → ⊥) → nat_le to.at (modules_on to.side st) ≡ false
     → PutBy s t p q i (behind_takes way to m) sent_on f f' (put_behind way to m st) → PutIn s t p q i to sent_on f f' (put_in K cells.plain to m st)
 behind-put K way s t p q i to sent_on f f' is inside past put =
@@ -417,7 +417,7 @@ behind-put K way s t p q i to sent_on f f' is inside past put =
     (subst (λ w. PutBy s t p q i (behind_takes way to m) sent_on f f' (put_behind w to m st)) (sym is) put))
 
 -- what a head sends down is made
-pub came-put : {M : Type 0} (s t u : StoreValue) (p q : Streams M) (m n k : ℕ) (down : List (Parcel ℕ)) (made : List Sent) (f f' : Fates)
+pub came-put : (s t u : StoreValue) (p q : Streams) (m n k : ℕ) (down : List (Parcel ℕ)) (made : List Sent) (f f' : Fates)
     (is : Took ℕ (State ℕ))
     → CanPut s m (kept_by p) → CameBy s t p q m down f f' is → Makes t u n made down → n ≤ k → PutBy s u p q m k made f f' is
 came-put s t u p q m n k down made f f' is can came makes le =

@@ -19,7 +19,7 @@ pushed-once None new old may is each = absurd (cc)
 pushed-once (Some p) new old may is each = subst AreApart (sym is) (push-once p old may each)
 
 module _ (s : StoreValue) where
-  side-put : {M : Type 0} (first : ℕ) (e : StreamEnd M) (y : Stack M) (z : Option Tables) → IsSide s first e → IsStackHeld s y → AreApart (modules_in s y) → ((k : ℕ) → 0 < stack_owns y k → (first + 2 ≤ k) × (k < first + 4)) → ((k : ℕ) → first + 2 ≤ k → k < first + 4 → stack_owns y k ≡ 0 → list_at s k ≡ []) → (stack_owns y (first + 2) ≡ 0 → is_some z ≡ true) → IsSide s first (record e { stack = y; shelf = z })
+  side-put : (first : ℕ) (e : StreamEnd) (y : Stack) (z : Option Tables) → IsSide s first e → IsStackHeld s y → AreApart (modules_in s y) → ((k : ℕ) → 0 < stack_owns y k → (first + 2 ≤ k) × (k < first + 4)) → ((k : ℕ) → first + 2 ≤ k → k < first + 4 → stack_owns y k ≡ 0 → list_at s k ≡ []) → (stack_owns y (first + 2) ≡ 0 → is_some z ≡ true) → IsSide s first (record e { stack = y; shelf = z })
   side-put first e y z is held once owned spare shelf = record {
     head_list = is.head_list;
     driver_list = is.driver_list;
@@ -33,12 +33,12 @@ module _ (s : StoreValue) where
   }
 
   -- one of modules of the same names, whose lists are the same
-  pub side-changed : {M : Type 0} (first : ℕ) (e : StreamEnd M) (y : Stack M) → IsSide s first e → IsStackHeld s y → ((k : ℕ) → stack_owns y k ≡ stack_owns e.stack k) → map module_name (modules_in s y) ≡ map module_name (modules_in s e.stack)
+  pub side-changed : (first : ℕ) (e : StreamEnd) (y : Stack) → IsSide s first e → IsStackHeld s y → ((k : ℕ) → stack_owns y k ≡ stack_owns e.stack k) → map module_name (modules_in s y) ≡ map module_name (modules_in s e.stack)
       → IsSide s first (record e { stack = y })
   side-changed first e y is held owns names =
       side-put first e y e.shelf is held (subst EachOnce (sym names) is.once) (λ k some. is.owned k (omega (arith, some, owns k))) (λ k low high none. is.spare k low high (omega (arith, none, owns k))) (λ none. is.shelf (omega (arith, none, owns (first + 2))))
 
-  pub held-put : {M : Type 0} (p : Streams M) (side : Side) (y : Stack M) (z : Option Tables) → AreHeld s p → IsStackHeld s y → AreApart (modules_in s y) → ((k : ℕ) → 0 < stack_owns y k → (first_list side + 2 ≤ k) × (k < first_list side + 4))
+  pub held-put : (p : Streams) (side : Side) (y : Stack) (z : Option Tables) → AreHeld s p → IsStackHeld s y → AreApart (modules_in s y) → ((k : ℕ) → 0 < stack_owns y k → (first_list side + 2 ≤ k) × (k < first_list side + 4))
       → ((k : ℕ) → first_list side + 2 ≤ k → k < first_list side + 4 → stack_owns y k ≡ 0 → list_at s k ≡ []) → (stack_owns y (first_list side + 2) ≡ 0 → is_some z ≡ true) → AreHeld s (with_end side (record (end_at side p) { stack = y; shelf = z }) p)
   held-put p side y z held fits once owned spare shelf = record {
     hand = held.hand;
@@ -46,7 +46,7 @@ module _ (s : StoreValue) where
   }
 
   -- what the streams stand for with it
-  pub put-state : {M : Type 0} (p : Streams M) (side : Side) (y : Stack M) (z : Option Tables) (o : Option (Standing ℕ)) → IfSome o (λ q. modules_in s y ≡ q ∷ modules_in s (end_at side p).stack)
+  pub put-state : (p : Streams) (side : Side) (y : Stack) (z : Option Tables) (o : Option (Standing ℕ)) → IfSome o (λ q. modules_in s y ≡ q ∷ modules_in s (end_at side p).stack)
       → IfSome o (λ q. state_in s (with_end side (record (end_at side p) { stack = y; shelf = z }) p) ≡ with_modules side (q ∷ (stream side (state_in s p)).modules) (state_in s p))
   put-state p side y z None is = tt
   put-state p side y z (Some q) is =

@@ -10,7 +10,7 @@ use Rattle.strm_pair.specs.Pairs.{state_in, end_at, with_end, AreBeside, kept_by
 use Rattle.strm_laws.specs.Calls.{read_at}
 use Rattle.strm_pair.proofs.Sides.{head-changed, head-state, head-is, only-kept}
 
-module _ {M : Type 0} (side : Side) (s : StoreValue) (p : Streams M) (most n : ℕ) (most_is : most ≡ min n READ_MAX) where
+module _ (side : Side) (s : StoreValue) (p : Streams) (most n : ℕ) (most_is : most ≡ min n READ_MAX) where
   -- the head as it stands
   abbrev here : heads.Head ℕ
   here = head_in s (end_at side p).head
@@ -29,7 +29,7 @@ module _ {M : Type 0} (side : Side) (s : StoreValue) (p : Streams M) (most n : �
 
   module _ (t : StoreValue) (h : Head) (lets_go : Bool) (beside : AreBeside s p) (keeps : Keeps s t (end_at side p).head.queue h.queue) (modes : h ≡ record (end_at side p).head { queue = h.queue }) where
     -- the streams behind it
-    abbrev behind : Streams M
+    abbrev behind : Streams
     behind = record (with_end side (record (end_at side p) { head = h }) p) { enabled = enable_some lets_go (before_head side (state_in s p)) p.enabled }
 
     pub read-beside : IsHeadQueue t h.queue → AreBeside t behind

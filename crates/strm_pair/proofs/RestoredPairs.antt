@@ -40,7 +40,7 @@ module _ (bytes : List ℕ) (i : ImageText) (found : IsTextOf image bytes (image
 abbrev pub start_of : Imaged → Start
 start_of x = record { state = x.state; fates = fates_in x; past = [] }
 
-module _ {M : Type 0} (s : StoreValue) (p : Streams M) (j : Journal) (b : Start) (limits : Config) (fates : Fates) (x : Imaged)
+module _ (s : StoreValue) (p : Streams) (j : Journal) (b : Start) (limits : Config) (fates : Fates) (x : Imaged)
     (begins : b ≡ start_of x) (state : state_in s p ≡ x.state) (none : journal_of j ≡ []) (gone : fates ≡ fates_in x) where
   pub restored-kept : (K : Behaviour) → IsBase x.state (fates_in x) → AreHeld s p → s.mblks ≡ limits.mblks → s.dblks ≡ limits.dblks → j.most_entries ≡ limits.journal_events → j.most_bytes ≡ limits.journal_bytes → IsKept K s p j b limits fates
   restored-kept K based held mblks dblks events bytes = record {
@@ -69,7 +69,7 @@ left-free s t n m d all spent =
 
 -- ---- its image
 
-module _ {M : Type 0} (s : StoreValue) (p : Streams M) (x : Imaged) (fates : Fates) (state : state_in s p ≡ x.state) (gone : fates ≡ fates_in x) (held : AreHeld s p) (has : HasImage x) where
+module _ (s : StoreValue) (p : Streams) (x : Imaged) (fates : Fates) (state : state_in s p ≡ x.state) (gone : fates ≡ fates_in x) (held : AreHeld s p) (has : HasImage x) where
   imaged-same : imaged (state_in s p) fates ≡ x
   imaged-same = ap (λ t. imaged t fates) state ∙ ap (λ f. imaged x.state f) gone
 

@@ -114,21 +114,21 @@ module _ (here : Spot) (again : Bool) (call : Call) (st : State ℕ) (tells : Te
       ∙ between-counts f.made_from_slave (made_in SlaveToMaster told_in) few (omega (arith, made-fits may SlaveToMaster))
 
 -- what the stack of a side keeps is in hand, where all that is in hand is kept
-pub kept-in : {M : Type 0} (side : Side) (s : StoreValue) (p : Streams M) → IsKeptAll s p → AreIn s (λ _. 0) (stack_keeps (end_at side p).stack)
+pub kept-in : (side : Side) (s : StoreValue) (p : Streams) → IsKeptAll s p → AreIn s (λ _. 0) (stack_keeps (end_at side p).stack)
 kept-in side s p all = record { apart = λ i. omega (arith, all i, kept-parts side p i) }
 
-pub all-in : {M : Type 0} (s : StoreValue) (p : Streams M) → IsKeptAll s p → AreIn s (λ _. 0) (kept_by p)
+pub all-in : (s : StoreValue) (p : Streams) → IsKeptAll s p → AreIn s (λ _. 0) (kept_by p)
 all-in s p all = record { apart = λ i. omega (arith, all i) }
 
 -- as many modules stand there, whatever the store
-pub within-any : {M : Type 0} (s t : StoreValue) (p : Streams M) (side : Side) (at : ℕ) → at ≤ length (stream side (state_in s p)).modules → at ≤ length (stream side (state_in t p)).modules
+pub within-any : (s t : StoreValue) (p : Streams) (side : Side) (at : ℕ) → at ≤ length (stream side (state_in s p)).modules → at ≤ length (stream side (state_in t p)).modules
 within-any s t p side at low = omega (arith, low, stack-long s t (end_at side p).stack, ap (λ (ms : List (Standing ℕ)). length ms) (modules-are s p side), ap (λ (ms : List (Standing ℕ)). length ms) (modules-are t p side))
 
-module _ {M : Type 0} (s t : StoreValue) (p q : Streams M) (x : Stack M) (here : Spot) (again : Bool) (served : Served) (f f' : Fates) where
+module _ (s t : StoreValue) (p q : Streams) (x : Stack) (here : Spot) (again : Bool) (served : Served) (f f' : Fates) where
   abbrev st : State ℕ
   st = state_in s p
 
-  abbrev old : Stack M
+  abbrev old : Stack
   old = (end_at here.side p).stack
 
   abbrev ms : List (Standing ℕ)
@@ -219,7 +219,7 @@ next-room s t true sent next next' same room spends = record { mblks = omega (ar
 next-room s t false sent next next' same room spends = tt
 
 -- a call whose messages are delivered
-module _ {M : Type 0} (r s : StoreValue) (o p : Streams M) (here : Spot) (again : Bool) (call : Call) (sent_on : List Sent) (f f' : Fates)
+module _ (r s : StoreValue) (o p : Streams) (here : Spot) (again : Bool) (call : Call) (sent_on : List Sent) (f f' : Fates)
     (inside : 0 < here.at) (begins : Begins here.way again (discipline_of (module_at here (state_in r o)))) (low : here.at - 1 < length (stream here.side (state_in r o)).modules)
     (a : ActsAs r s o p here again call sent_on f f') where
   -- what its messages take, by the modules that stand there
@@ -256,7 +256,7 @@ module _ {M : Type 0} (r s : StoreValue) (o p : Streams M) (here : Spot) (again 
           stays-few s t STOP_BLOCKS (blocks (subst (λ v. StaysAlone ComesToStand v (parcels_in s sent_on)) (sym a.state) (subst (λ ps. StaysAlone ComesToStand w.state ps) (sym a.sent) stays))) few
       at false is few = tt
 
-  pub calls-by : (K : Behaviour) (t : StoreValue) (q : Streams M) (f'' : Fates) → IsKeptAll r o → (StaysAlone ComesToStand (state_in s p) (parcels_in s sent_on) → FreesNone s t)
+  pub calls-by : (K : Behaviour) (t : StoreValue) (q : Streams) (f'' : Fates) → IsKeptAll r o → (StaysAlone ComesToStand (state_in s p) (parcels_in s sent_on) → FreesNone s t)
       → (let u = in_turn (carried (put_in K plain) HOPS) (parcels_in s sent_on) (state_in s p) in f'' ≡ tallied u.gone f')
       → (let u = in_turn (carried (put_in K plain) HOPS) (parcels_in s sent_on) (state_in s p) in state_in t q ≡ u.state)
       → AreBeside t q → Handles s t (λ i. times_sent i sent_on) (kept_by p) (kept_by q) (λ _. 0)

@@ -20,8 +20,7 @@ all-joined P [] ys all more = more
 all-joined P (x ∷ xs) ys all more = (all.0, all-joined P xs ys all.1 more)
 
 -- what a side's lists show of its stream, while nothing of a turn is under way
-module _ {M : Type 0} (s : StoreValue) (first : ℕ) (e : StreamEnd M) (is : IsSide s first e)
-    (idle : AllByRecursion (λ p. IsAtRest p) (modules_in s e.stack)) where
+module _ (s : StoreValue) (first : ℕ) (e : StreamEnd) (is : IsSide s first e) (idle : AllByRecursion (λ p. IsAtRest p) (modules_in s e.stack)) where
   lists-for : AreFor s (first + 2) (stack_owns e.stack)
   lists-for = record {
     owned = λ k some. let own = is.owned k some in (own.0, omega (arith, own.1));
@@ -68,7 +67,7 @@ no-chain : (q : List (List Block)) → length q ≡ 0 → q ≡ []
 no-chain [] none = refl
 no-chain (c ∷ q) none = absurd (omega arith)
 
-module _ {M : Type 0} (s : StoreValue) (p : Streams M) (held : AreHeld s p) (idle : AreIdle (state_in s p)) where
+module _ (s : StoreValue) (p : Streams) (held : AreHeld s p) (idle : AreIdle (state_in s p)) where
   -- each queue is in order
   pub ordered : AreOrdered (state_in s p)
   ordered = all-joined (λ (q : Queue ℕ). IsOrdered q.messages) (stream_queues (stream_in s p.ends.master)) (stream_queues (stream_in s p.ends.slave))

@@ -23,13 +23,13 @@ use Rattle.strm_pair.specs.Renewed.{RenewsHead}
 use Rattle.strm_pair.specs.Stacks.{modules_in, IsStackHeld, Stack, stack_owns, stack_keeps}
 
 -- the driver of a side is ready, and so is the head
-pub driver-ready : {M : Type 0} (s : StoreValue) (p : Streams M) → AreBeside s p → (side : Side) → IsReady s (end_at side p).driver
+pub driver-ready : (s : StoreValue) (p : Streams) → AreBeside s p → (side : Side) → IsReady s (end_at side p).driver
 driver-ready s p beside side = (beside side).driver
 
-pub head-queue : {M : Type 0} (s : StoreValue) (p : Streams M) → AreBeside s p → (side : Side) → IsHeadQueue s (end_at side p).head.queue
+pub head-queue : (s : StoreValue) (p : Streams) → AreBeside s p → (side : Side) → IsHeadQueue s (end_at side p).head.queue
 head-queue s p beside side = (beside side).head
 
-pub stack-held : {M : Type 0} (s : StoreValue) (p : Streams M) → AreBeside s p → (side : Side) → IsStackHeld s (end_at side p).stack
+pub stack-held : (s : StoreValue) (p : Streams) → AreBeside s p → (side : Side) → IsStackHeld s (end_at side p).stack
 stack-held s p beside side = (beside side).stack
 
 -- a list that stays has a message still, or none
@@ -83,7 +83,7 @@ pub queue-same : (s t : StoreValue) (q : Queue) → list_at t q.list ≡ list_at
 queue-same s t q same = ap (λ l. record { messages = map message_of l; flows = plain_flows q.flows; want_read = q.want_read; no_enable = q.no_enable }) same
 
 -- a stream by its two queues and its modules
-abbrev pub stream_of : {M : Type 0} → StreamEnd M → state.Queue ℕ → List (stacked.Standing ℕ) → state.Queue ℕ → streams.Stream ℕ
+abbrev pub stream_of : StreamEnd → state.Queue ℕ → List (stacked.Standing ℕ) → state.Queue ℕ → streams.Stream ℕ
 stream_of e h ms d = record {
   opened = e.opened;
   head = record { queue = h; read_mode = e.head.read_mode; control_mode = e.head.control_mode; tostop = e.head.tostop; group = e.head.group; hung_up = e.head.hung_up; signals = e.head.signals; ioctl = plain_slot e.head.ioctl };
@@ -91,7 +91,7 @@ stream_of e h ms d = record {
   driver = record { queue = d };
 }
 
-module _ {M : Type 0} (s t : StoreValue) (first : ℕ) (e : StreamEnd M) (is : IsSide s first e) (stays : Stays s t (stack_keeps e.stack)) where
+module _ (s t : StoreValue) (first : ℕ) (e : StreamEnd) (is : IsSide s first e) (stays : Stays s t (stack_keeps e.stack)) where
   -- all lists of the side stay
   abbrev Stay : Type 0
   Stay = (k : ℕ) → first ≤ k → k < first + 4 → list_at t k ≡ list_at s k
@@ -181,7 +181,7 @@ module _ {M : Type 0} (s t : StoreValue) (first : ℕ) (e : StreamEnd M) (is : I
         ∙ ap (λ ms. record { opened = e.opened; head = head_in t h; modules = ms; driver = record { queue = queue_in s e.driver } }) (stack-same s t first e is stays head-apart).0
 
 -- a stream that was closed has the same driver
-as-side : {M : Type 0} (t : StoreValue) (first : ℕ) (e e' : StreamEnd M) → e'.driver ≡ e.driver → e'.stack ≡ e.stack → e'.shelf ≡ e.shelf → IsSide t first (record e { head = e'.head }) → IsSide t first e'
+as-side : (t : StoreValue) (first : ℕ) (e e' : StreamEnd) → e'.driver ≡ e.driver → e'.stack ≡ e.stack → e'.shelf ≡ e.shelf → IsSide t first (record e { head = e'.head }) → IsSide t first e'
 as-side t first e e' same stays shelf is = record {
   head_list = is.head_list;
   driver_list = ap (λ d. d.list) same ∙ is.driver_list;
@@ -212,27 +212,27 @@ never-both Master k low high above below = omega (arith, high, above)
 never-both Slave k low high above below = omega (arith, low, below)
 
 -- the streams as the state has them
-pub stream-is : {M : Type 0} (s : StoreValue) (p : Streams M) (side : Side) → stream side (state_in s p) ≡ stream_in s (end_at side p)
+pub stream-is : (s : StoreValue) (p : Streams) (side : Side) → stream side (state_in s p) ≡ stream_in s (end_at side p)
 stream-is s p side = get-map (stream_in s) side p.ends
 
-pub modules-are : {M : Type 0} (s : StoreValue) (p : Streams M) (side : Side) → (stream side (state_in s p)).modules
+pub modules-are : (s : StoreValue) (p : Streams) (side : Side) → (stream side (state_in s p)).modules
     ≡ modules_in s (end_at side p).stack
 modules-are s p side = ap (λ (x : streams.Stream ℕ). x.modules) (stream-is s p side)
 
 -- behind another stream of a side with the same stack the same modules stand there
-pub modules-behind : {M : Type 0} (s : StoreValue) (p : Streams M) (side : Side) (e : StreamEnd M) → e.stack ≡ (end_at side p).stack → (stream side (state_in s (with_end side e p))).modules ≡ (stream side (state_in s p)).modules
+pub modules-behind : (s : StoreValue) (p : Streams) (side : Side) (e : StreamEnd) → e.stack ≡ (end_at side p).stack → (stream side (state_in s (with_end side e p))).modules ≡ (stream side (state_in s p)).modules
 modules-behind s p side e same =
     modules-are s (with_end side e p) side
-    ∙ ap (λ (x : StreamEnd _). modules_in s x.stack) (get-set-same side e p.ends)
+    ∙ ap (λ (x : StreamEnd). modules_in s x.stack) (get-set-same side e p.ends)
     ∙ ap (modules_in s) same
     ∙ sym (modules-are s p side)
 
 -- a stream that fits may stand on its side
-pub held-with : {M : Type 0} (s : StoreValue) (p : Streams M) (side : Side) (e : StreamEnd M) → AreHeld s p → IsSide s (first_list side) e → AreHeld s (with_end side e p)
+pub held-with : (s : StoreValue) (p : Streams) (side : Side) (e : StreamEnd) → AreHeld s p → IsSide s (first_list side) e → AreHeld s (with_end side e p)
 held-with s p side e held is = record { hand = held.hand; beside = set-all (λ sd x. IsSide s (first_list sd) x) side e p.ends is held.beside }
 
 -- so does one whose head has the same queue
-pub head-held : {M : Type 0} (s : StoreValue) (p : Streams M) (side : Side) (r : StreamEnd M) (h : Head) → r ≡ end_at side p → h.queue ≡ r.head.queue → AreHeld s p → AreHeld s (with_end side (record r { head = h }) p)
+pub head-held : (s : StoreValue) (p : Streams) (side : Side) (r : StreamEnd) (h : Head) → r ≡ end_at side p → h.queue ≡ r.head.queue → AreHeld s p → AreHeld s (with_end side (record r { head = h }) p)
 head-held s p side r h is same held =
     let fits : IsSide s (first_list side) r = subst (IsSide s (first_list side)) (sym is) (held.beside side) in
     held-with s p side (record r { head = h }) held (record {
@@ -248,35 +248,35 @@ head-held s p side r h is same held =
     })
 
 -- a stream whose stack alone is another one
-pub stack-there : {M : Type 0} (p : Streams M) (side : Side) (r : StreamEnd M) (y : Stack M) → r ≡ end_at side p
+pub stack-there : (p : Streams) (side : Side) (r : StreamEnd) (y : Stack) → r ≡ end_at side p
     → let q = with_end side (record r { stack = y }) p in ((end_at side q).stack ≡ y) × (q ≡ with_end side (record (end_at side p) { stack = (end_at side q).stack }) p)
 stack-there p side r y is =
-    let there = ap (λ (e : StreamEnd _). e.stack) (get-set-same side (record r { stack = y }) p.ends) in (
+    let there = ap (λ (e : StreamEnd). e.stack) (get-set-same side (record r { stack = y }) p.ends) in (
       there,
-      ap (λ (e : StreamEnd _). with_end side (record e { stack = y }) p) is ∙ ap (λ z. with_end side (record (end_at side p) { stack = z }) p)
+      ap (λ (e : StreamEnd). with_end side (record e { stack = y }) p) is ∙ ap (λ z. with_end side (record (end_at side p) { stack = z }) p)
           (sym there),
     )
 
 -- a stream that is put where it stands
-pub same-end : {M : Type 0} (side : Side) (p : Streams M) → with_end side (end_at side p) p ≡ p
+pub same-end : (side : Side) (p : Streams) → with_end side (end_at side p) p ≡ p
 same-end Master p = refl
 same-end Slave p = refl
 
 -- a stream whose stack and shelf alone are others
-pub end-there : {M : Type 0} (p : Streams M) (side : Side) (r e : StreamEnd M) → r ≡ end_at side p → e ≡ record r { stack = e.stack; shelf = e.shelf }
+pub end-there : (p : Streams) (side : Side) (r e : StreamEnd) → r ≡ end_at side p → e ≡ record r { stack = e.stack; shelf = e.shelf }
     → let q = with_end side e p in (end_at side q ≡ e) × (q ≡ with_end side (record (end_at side p) { stack = (end_at side q).stack; shelf = (end_at side q).shelf }) p)
 end-there p side r e is only =
     let there = get-set-same side e p.ends in (
       there,
-      ap (λ x. with_end side x p) only ∙ ap (λ (x : StreamEnd _). with_end side (record x { stack = e.stack; shelf = e.shelf }) p) is
-          ∙ ap (λ (x : StreamEnd _). with_end side (record (end_at side p) { stack = x.stack; shelf = x.shelf }) p) (sym there),
+      ap (λ x. with_end side x p) only ∙ ap (λ (x : StreamEnd). with_end side (record x { stack = e.stack; shelf = e.shelf }) p) is
+          ∙ ap (λ (x : StreamEnd). with_end side (record (end_at side p) { stack = x.stack; shelf = x.shelf }) p) (sym there),
     )
 
 -- the state with another stream of a side
-pub set-state : {M : Type 0} (s : StoreValue) (p : Streams M) (side : Side) (e : StreamEnd M) → state_in s (with_end side e p) ≡ with_stream side (stream_in s e) (state_in s p)
+pub set-state : (s : StoreValue) (p : Streams) (side : Side) (e : StreamEnd) → state_in s (with_end side e p) ≡ with_stream side (stream_in s e) (state_in s p)
 set-state s p side e = ap (state_with p) (map-set (stream_in s) side e p.ends)
 
-module _ {M : Type 0} (s t : StoreValue) (p : Streams M) (beside : AreBeside s p) (side : Side) where
+module _ (s t : StoreValue) (p : Streams) (beside : AreBeside s p) (side : Side) where
   -- the lists of the other side stay, and what its stack keeps
   pub record OtherStays : Type 0 where
     pub lists : (k : ℕ) → first_list (other side) ≤ k → k < first_list (other side) + 4 → list_at t k ≡ list_at s k
@@ -286,18 +286,18 @@ module _ {M : Type 0} (s t : StoreValue) (p : Streams M) (beside : AreBeside s p
   other-same stays = stream-stays s t (first_list (other side)) (end_at (other side) p) (beside (other side)) stays.keeps stays.lists
 
   -- one side changed
-  pub one-beside : (e : StreamEnd M) → IsSide t (first_list side) e → OtherStays → AreBeside t (with_end side e p)
+  pub one-beside : (e : StreamEnd) → IsSide t (first_list side) e → OtherStays → AreBeside t (with_end side e p)
   one-beside e is stays = side-and-other (λ sd x. IsSide t (first_list sd) x) side (set side e p.ends)
       (subst (IsSide t (first_list side)) (sym (get-set-same side e p.ends)) is)
       (subst (IsSide t (first_list (other side))) (sym (get-set-other side e p.ends)) (side-stays s t (first_list (other side)) (end_at (other side) p) (beside (other side)) stays.keeps stays.lists))
 
-  pub one-state : (e : StreamEnd M) (x : streams.Stream ℕ) → stream_in t e ≡ x → OtherStays → state_in t (with_end side e p) ≡ with_stream side x (state_in s p)
+  pub one-state : (e : StreamEnd) (x : streams.Stream ℕ) → stream_in t e ≡ x → OtherStays → state_in t (with_end side e p) ≡ with_stream side x (state_in s p)
   one-state e x is stays = ap (state_with p)
       (map-set (stream_in t) side e p.ends
       ∙ ap (λ y. set side y (map_both (stream_in t) p.ends)) is
       ∙ set-same side x (map_both (stream_in t) p.ends) (map_both (stream_in s) p.ends) (get-map (stream_in t) (other side) p.ends ∙ other-same stays ∙ sym (get-map (stream_in s) (other side) p.ends)))
 
-module _ {M : Type 0} (s t : StoreValue) (p : Streams M) (beside : AreBeside s p) (stays : Stays s t (kept_by p)) where
+module _ (s t : StoreValue) (p : Streams) (beside : AreBeside s p) (stays : Stays s t (kept_by p)) where
   -- one queue of a side changed
   pub only-here : (side : Side) (q q' : Queue) → first_list side ≤ q.list → q.list < first_list side + 4 → OnlyQueue s t q q' → OtherStays s t p beside side
   only-here side q q' low high only = record {
@@ -336,7 +336,7 @@ module _ {M : Type 0} (s t : StoreValue) (p : Streams M) (beside : AreBeside s p
       ∙ ap (λ (x : streams.Stream ℕ). with_stream side (record x { head = head_in t h }) (state_in s p)) (sym (stream-is s p side))
 
 -- the same while nobody is in a call
-pub driver-held : {M : Type 0} (s t : StoreValue) (p : Streams M) (side : Side) (q : Queue) → AreHeld s p → OnlyQueue s t (end_at side p).driver q → t.hand ≡ s.hand → t.mblks ≡ s.mblks → t.dblks ≡ s.dblks
+pub driver-held : (s t : StoreValue) (p : Streams) (side : Side) (q : Queue) → AreHeld s p → OnlyQueue s t (end_at side p).driver q → t.hand ≡ s.hand → t.mblks ≡ s.mblks → t.dblks ≡ s.dblks
     → AreHeld t (with_end side (record (end_at side p) { driver = q }) p)
 driver-held s t p side q held only hand mblks dblks = record {
   hand = hand ∙ held.hand;
@@ -344,16 +344,16 @@ driver-held s t p side q held only hand mblks dblks = record {
 }
 
 -- the queue of a side's driver, as the state has it
-pub driver-is : {M : Type 0} (s : StoreValue) (p : Streams M) (side : Side) → (stream side (state_in s p)).driver.queue
+pub driver-is : (s : StoreValue) (p : Streams) (side : Side) → (stream side (state_in s p)).driver.queue
     ≡ queue_in s (end_at side p).driver
 driver-is s p side = ap (λ (x : streams.Stream ℕ). x.driver.queue) (stream-is s p side)
 
 -- and its head
-pub head-is : {M : Type 0} (s : StoreValue) (p : Streams M) (side : Side) → (stream side (state_in s p)).head ≡ head_in s (end_at side p).head
+pub head-is : (s : StoreValue) (p : Streams) (side : Side) → (stream side (state_in s p)).head ≡ head_in s (end_at side p).head
 head-is s p side = ap (λ (x : streams.Stream ℕ). x.head) (stream-is s p side)
 
 -- a side whose head's queue was emptied, and whose driver stays
-module _ {M : Type 0} (s t : StoreValue) (p : Streams M) (e : StreamEnd M) (beside : AreBeside s p) (side : Side) (openness : Openness) (renews : RenewsHead s t (end_at side p) e openness) where
+module _ (s t : StoreValue) (p : Streams) (e : StreamEnd) (beside : AreBeside s p) (side : Side) (openness : Openness) (renews : RenewsHead s t (end_at side p) e openness) where
   all-kept : Stays s t (kept_by p)
   all-kept = still s t (kept_by p) renews.keeps.hand renews.keeps.mblks renews.keeps.dblks
 
@@ -382,7 +382,7 @@ module _ {M : Type 0} (s t : StoreValue) (p : Streams M) (e : StreamEnd M) (besi
       ∙ ap (λ (h : heads.Head ℕ). with_stream side (record (stream side (state_in s p)) { opened = openness; head = h }) (state_in s p)) renews.head
 
 -- the queue of a side's head, or of its driver, once messages went from it, and a writer before it
-module _ {M : Type 0} (s t : StoreValue) (p : Streams M) (beside : AreBeside s p) (q q' : Queue) (plain : state.Queue ℕ) (goes goes' : Bool) (changes : Changes s t q q') where
+module _ (s t : StoreValue) (p : Streams) (beside : AreBeside s p) (q q' : Queue) (plain : state.Queue ℕ) (goes goes' : Bool) (changes : Changes s t q q') where
   keeps-all : Stays s t (kept_by p)
   keeps-all = still s t (kept_by p) changes.hand changes.mblks changes.dblks
 

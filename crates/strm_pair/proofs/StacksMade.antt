@@ -58,7 +58,7 @@ module _ (first k : ℕ) where
 
 -- ---- with one module more
 
-module _ {M : Type 0} {s t : StoreValue} {first : ℕ} {ms : List ModuleText} {xs : List (AnyStanding M)} {was : Option Tables} (so_far : AreStacked s t first ms xs was) where
+module _ {s t : StoreValue} {first : ℕ} {ms : List ModuleText} {xs : List AnyStanding} {was : Option Tables} (so_far : AreStacked s t first ms xs was) where
   -- an ldterm finds its lists empty
   pub free-for : (m : ModuleText) → sum_by is_ldterm ms + is_ldterm m ≤ 1 → IsFreeFor t first was m
   free-for (texts.Ldterm l) few = so_far.free (omega (arith, so_far.own first, all-few first first ms, few))
@@ -66,7 +66,7 @@ module _ {M : Type 0} {s t : StoreValue} {first : ℕ} {ms : List ModuleText} {x
   free-for texts.Pckt few = tt
   free-for (texts.Own o) few = tt
 
-  module _ {u : StoreValue} {m : ModuleText} {x : AnyStanding M} {is : Option Tables} (placed : IsPlaced t u first was is m x) (few : sum_by is_ldterm ms + is_ldterm m ≤ 1) where
+  module _ {u : StoreValue} {m : ModuleText} {x : AnyStanding} {is : Option Tables} (placed : IsPlaced t u first was is m x) (few : sum_by is_ldterm ms + is_ldterm m ≤ 1) where
     -- it has no list while another one has
     none-own : (k : ℕ) → 0 < all_of owns xs k → owns x first ≡ 0
     none-own k some = omega (arith, some, so_far.own k, all-few first k ms, few, own-few first first m, placed.own first)
@@ -151,7 +151,7 @@ module _ (f k : ℕ) where
 
 -- ---- where the first one is to be placed
 
-pub stacked-none : {M : Type 0} (s : StoreValue) (first : ℕ) (shelf : Option Tables) (xs : List (AnyStanding M)) → xs ≡ [] → list_at s first ≡ [] → list_at s (first + 1) ≡ [] → is_some shelf ≡ true → AreStacked s s first [] xs shelf
+pub stacked-none : (s : StoreValue) (first : ℕ) (shelf : Option Tables) (xs : List AnyStanding) → xs ≡ [] → list_at s first ≡ [] → list_at s (first + 1) ≡ [] → is_some shelf ≡ true → AreStacked s s first [] xs shelf
 stacked-none s first shelf xs none reads writes there = subst (λ ys. AreStacked s s first [] ys shelf) (sym none) (record {
   state = refl;
   held = record { each = tt; apart = λ k. omega arith };
@@ -172,7 +172,7 @@ module _ (ms : List ModuleText) (i : ℕ) (m : ModuleText) (at : m ≡ get_or ms
     dblks = omega (arith, room.dblks, spent.dblks, sum_by_more_le module_blocks ms i m within, ap module_blocks at);
   }
 
-  pub stacked-more : {M : Type 0} {s t u : StoreValue} {first : ℕ} {xs ys : List (AnyStanding M)} {x : AnyStanding M} {was is : Option Tables} → EachOnce (names_now ms) → AreStacked s t first (take i ms) xs was → IsPlaced t u first was is m x → ys ≡ xs ++ x ∷ []
+  pub stacked-more : {s t u : StoreValue} {first : ℕ} {xs ys : List AnyStanding} {x : AnyStanding} {was is : Option Tables} → EachOnce (names_now ms) → AreStacked s t first (take i ms) xs was → IsPlaced t u first was is m x → ys ≡ xs ++ x ∷ []
       → AreStacked s u first (take (i + 1) ms) ys is
   stacked-more {s} {t} {u} {first} {xs} {ys} {x} {was} {is} each so_far placed pushed =
       let more : take (i + 1) ms ≡ take i ms ++ m ∷ [] = take_more ms i m within ∙ ap (λ k. take i ms ++ k ∷ []) (sym at) in
@@ -181,7 +181,7 @@ module _ (ms : List ModuleText) (i : ℕ) (m : ModuleText) (at : m ≡ get_or ms
 
 -- ---- a module without queues
 
-pub placed-bare : {M : Type 0} (s : StoreValue) (first : ℕ) (shelf : Option Tables) (t : ModuleText) (x : AnyStanding M) → module_in s x ≡ module_now t → IsHeld s x → ((i : ℕ) → keeps x i ≡ 0) → ((k : ℕ) → owns x k ≡ own_of first k t) → module_blocks t ≡ 0
+pub placed-bare : (s : StoreValue) (first : ℕ) (shelf : Option Tables) (t : ModuleText) (x : AnyStanding) → module_in s x ≡ module_now t → IsHeld s x → ((i : ℕ) → keeps x i ≡ 0) → ((k : ℕ) → owns x k ≡ own_of first k t) → module_blocks t ≡ 0
     → IsPlaced s s first shelf shelf t x
 placed-bare s first shelf t x is held rests own none = record {
   state = is;
@@ -195,10 +195,10 @@ placed-bare s first shelf t x is held rests own none = record {
 
 -- ---- an ldterm
 
-pub placed-ldterm : {M : Type 0} (s t : StoreValue) (first : ℕ) (was is : Option Tables) (text : ModuleText) (l : LdtermText) (x : Ldterm) (pair : QueuePair) → text ≡ texts.Ldterm l → own_in t x ≡ own_now l → pair_in t pair ≡ pair_now l
+pub placed-ldterm : (s t : StoreValue) (first : ℕ) (was is : Option Tables) (text : ModuleText) (l : LdtermText) (x : Ldterm) (pair : QueuePair) → text ≡ texts.Ldterm l → own_in t x ≡ own_now l → pair_in t pair ≡ pair_now l
     → HasInHand t x (Some pair) → IsPairReady t pair → ((i : ℕ) → keeps_itself x i ≡ 0) → ((k : ℕ) → queues_own (Some pair) k ≡ once first k + once (first + 1) k) → FillsTwo s t first → Spent s t (ldterm_blocks l)
-    → let y : AnyStanding M = standing (kinds.Ldterm x) (Some pair) in IsPlaced s t first was is text y
-placed-ldterm {M} s t first was is text l x pair e own_is pair_is held ready rests own fills spent = subst (λ m. IsPlaced {M = M} s t first was is m (standing (kinds.Ldterm x) (Some pair))) (sym e) (record {
+    → let y : AnyStanding = standing (kinds.Ldterm x) (Some pair) in IsPlaced s t first was is text y
+placed-ldterm {M} s t first was is text l x pair e own_is pair_is held ready rests own fills spent = subst (λ m. IsPlaced s t first was is m (standing (kinds.Ldterm x) (Some pair))) (sym e) (record {
   state = ap (λ part. stood (OfLdterm part) (Some (pair_in t pair))) own_is ∙ ap (λ queues. stood (OfLdterm (own_now l)) (Some queues)) pair_is;
   held = record { queues = ready; itself = held };
   rests = rests;

@@ -20,12 +20,12 @@ pub led-nowhere : (K : Behaviour) (b : Start) (j : Journal) → journal_of j ≡
 led-nowhere K b j empty = ap (λ js. replay K plain b.state js) empty
 
 -- where the journal has gained an entry, it leads to the state behind the entry
-pub led-on : {M : Type 0} (K : Behaviour) (s : StoreValue) (p : Streams M) (j k : Journal) (b : Start) (limits : Config) (fates : Fates) (entry : PlainEntry) → IsKept K s p j b limits fates → journal_of k ≡ journal_of j ++ entry ∷ [] → led_to K b k ≡ after K plain (state_in s p) entry
+pub led-on : (K : Behaviour) (s : StoreValue) (p : Streams) (j k : Journal) (b : Start) (limits : Config) (fates : Fates) (entry : PlainEntry) → IsKept K s p j b limits fates → journal_of k ≡ journal_of j ++ entry ∷ [] → led_to K b k ≡ after K plain (state_in s p) entry
 led-on K s p j k b limits fates entry kept added =
     ap (λ js. replay K plain b.state js) added ∙ replay-append K plain b.state (journal_of j) (entry ∷ []) ∙ ap (λ t. after K plain t entry) (sym kept.replayed)
 
 -- a step to the state behind an entry is one to what the blocks stand for
-pub step-shown : {M : Type 0} (K : Behaviour) (s new : StoreValue) (p q : Streams M) (entry : PlainEntry) → state_in new q
+pub step-shown : (K : Behaviour) (s new : StoreValue) (p q : Streams) (entry : PlainEntry) → state_in new q
     ≡ after K plain (state_in s p) entry
     → Step K plain (state_in s p) entry (after K plain (state_in s p) entry) → Step K plain (state_in s p) entry (state_in new q)
 step-shown K s new p q entry stands step = subst (λ t. Step K plain (state_in s p) entry t) (sym stands) step
@@ -40,7 +40,7 @@ within-on : (es : List PlainEntry) (e : PlainEntry) → AreWithinEntries es → 
 within-on [] e all one = (one, tt)
 within-on (x ∷ es) e all one = (all.0, within-on es e all.1 one)
 
-pub kept-step : {M : Type 0} (K : Behaviour) (s new : StoreValue) (p q : Streams M) (j k : Journal) (b : Start) (limits : Config) (fates fates' : Fates) (entry : PlainEntry) → IsKept K s p j b limits fates
+pub kept-step : (K : Behaviour) (s new : StoreValue) (p q : Streams) (j k : Journal) (b : Start) (limits : Config) (fates fates' : Fates) (entry : PlainEntry) → IsKept K s p j b limits fates
     → Step K plain (state_in s p) entry (after K plain (state_in s p) entry) → IsWithinEntry entry
     → Leads s new q fates fates' (after K plain (state_in s p) entry) (gone K plain (state_in s p) entry) → FewBooked (state_in new q)
     → journal_of k ≡ journal_of j ++ entry ∷ [] → k.most_entries ≡ j.most_entries → k.most_bytes ≡ j.most_bytes → IsKept K new q k b limits fates'
@@ -63,26 +63,26 @@ kept-step K s new p q j k b limits fates fates' entry kept step within leads few
 }
 
 -- what the blocks stand for is a base, with what has gone
-pub kept-base : {M : Type 0} (K : Behaviour) (s : StoreValue) (p : Streams M) (j : Journal) (b : Start) (limits : Config) (fates : Fates) → IsKept K s p j b limits fates → IsBase (state_in s p) fates
+pub kept-base : (K : Behaviour) (s : StoreValue) (p : Streams) (j : Journal) (b : Start) (limits : Config) (fates : Fates) → IsKept K s p j b limits fates → IsBase (state_in s p) fates
 kept-base K s p j b limits fates kept =
     let there = base-on K b.state b.fates (journal_of j) kept.based kept.within kept.legal (subst FewBooked kept.replayed kept.few) in
     subst (λ f. IsBase (state_in s p) f) (sym kept.told) (subst (λ t. IsBase t (told_by K plain b.state (journal_of j) b.fates)) (sym kept.replayed) there)
 
 -- nothing of a turn is under way at any module between calls
-pub led-idle : {M : Type 0} (K : Behaviour) (s : StoreValue) (p : Streams M) (j : Journal) (b : Start) (limits : Config) (fates : Fates) → IsKept K s p j b limits fates → AreIdle (state_in s p)
+pub led-idle : (K : Behaviour) (s : StoreValue) (p : Streams) (j : Journal) (b : Start) (limits : Config) (fates : Fates) → IsKept K s p j b limits fates → AreIdle (state_in s p)
 led-idle K s p j b limits fates kept = (kept-base K s p j b limits fates kept).restorable.idle
 
-pub led-rests : {M : Type 0} (K : Behaviour) (s : StoreValue) (p : Streams M) (j : Journal) (b : Start) (limits : Config) (fates : Fates) → IsKept K s p j b limits fates → AreAtRest s p
+pub led-rests : (K : Behaviour) (s : StoreValue) (p : Streams) (j : Journal) (b : Start) (limits : Config) (fates : Fates) → IsKept K s p j b limits fates → AreAtRest s p
 led-rests K s p j b limits fates kept = record { held = kept.held; idle = led-idle K s p j b limits fates kept }
 
 -- what the blocks stand for, with what has gone, is where the journal leads
-pub on-told : {M : Type 0} (K : Behaviour) (s : StoreValue) (p : Streams M) (j : Journal) (b : Start) (limits : Config) (fates : Fates) (past : List PlainEntry) → IsKept K s p j b limits fates
+pub on-told : (K : Behaviour) (s : StoreValue) (p : Streams) (j : Journal) (b : Start) (limits : Config) (fates : Fates) (past : List PlainEntry) → IsKept K s p j b limits fates
     → past ≡ b.past ++ journal_of j → begun_at (state_in s p) fates past ≡ led_on K (journal_of j) b
 on-told K s p j b limits fates past kept is =
     ap (λ t. begun_at t fates past) kept.replayed ∙ ap (λ f. begun_at (led_to K b j) f past) kept.told ∙ ap (λ es. begun_at (led_to K b j) (told_by K plain b.state (journal_of j) b.fates) es) is
 
 -- a base that has gone on to where the journal led, and an empty journal
-module _ {M : Type 0} (K : Behaviour) (s : StoreValue) (p : Streams M) (j k : Journal) (b c : Start) (limits : Config) (fates : Fates)
+module _ (K : Behaviour) (s : StoreValue) (p : Streams) (j k : Journal) (b c : Start) (limits : Config) (fates : Fates)
     (kept : IsKept K s p j b limits fates)
     (on : c ≡ led_on K (journal_of j) b) (empty : journal_of k ≡ []) where
   here : c.state ≡ state_in s p

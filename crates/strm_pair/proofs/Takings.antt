@@ -21,12 +21,12 @@ zero-if zero never = refl
 zero-if (suc n) never = absurd (let one : 0 < suc n = omega arith in omega (arith, never one))
 
 module _ (s t : StoreValue) where
-  module _ {M : Type 0} (first : ℕ) (e : StreamEnd M) (is : IsSide s first e) where
+  module _ (first : ℕ) (e : StreamEnd) (is : IsSide s first e) where
     -- a stack owns no list but its two
     pub unowned : (k : ℕ) → (first + 2 ≤ k → k < first + 4 → ⊥) → stack_owns e.stack k ≡ 0
     unowned k away = zero-if (stack_owns e.stack k) (λ some. let own = is.owned k some in absurd (away own.0 own.1))
 
-    module _ (side : Side) (rule : Rule) (told told' : Fates) (taken : Taken) (y : Stack M) (z : Option Tables) (shelf : stack_owns y (first + 2) ≡ 0 → is_some z ≡ true) (took : TookTop side rule s t e.stack y told told' taken) where
+    module _ (side : Side) (rule : Rule) (told told' : Fates) (taken : Taken) (y : Stack) (z : Option Tables) (shelf : stack_owns y (first + 2) ≡ 0 → is_some z ≡ true) (took : TookTop side rule s t e.stack y told told' taken) where
       head-beside : list_at t e.head.queue.list ≡ list_at s e.head.queue.list
       head-beside = took.others e.head.queue.list (unowned e.head.queue.list (λ low high. omega (arith, is.head_list, low)))
 
@@ -59,8 +59,8 @@ module _ (s t : StoreValue) where
           ∙ ap (λ ms. stream_of e (queue_in s e.head.queue) ms (queue_in t e.driver)) took.stays
           ∙ ap (λ d. stream_of e (queue_in s e.head.queue) took.rest d) (queue-same s t e.driver driver-beside)
 
-  module _ {M : Type 0} (p : Streams M) (beside : AreBeside s p) (rule : Rule) (told told' : Fates) (taken : Taken) where
-    module _ (side : Side) (y : Stack M) (z : Option Tables) (shelf : stack_owns y (first_list side + 2) ≡ 0 → is_some z ≡ true) (took : TookTop side rule s t (end_at side p).stack y told told' taken) where
+  module _ (p : Streams) (beside : AreBeside s p) (rule : Rule) (told told' : Fates) (taken : Taken) where
+    module _ (side : Side) (y : Stack) (z : Option Tables) (shelf : stack_owns y (first_list side + 2) ≡ 0 → is_some z ≡ true) (took : TookTop side rule s t (end_at side p).stack y told told' taken) where
       elsewhere : OtherStays s t p beside side
       elsewhere = record {
         lists = λ k low high. took.others k (unowned (first_list side) (end_at side p) (beside side) k (λ above below. never-both side k (omega (arith, above)) below low high));
@@ -76,9 +76,9 @@ module _ (s t : StoreValue) where
           (took-stream (first_list side) (end_at side p) (beside side) side rule told told' taken y z shelf took) elsewhere
           ∙ ap (λ (x : Stream ℕ). with_stream side (record x { modules = took.rest }) (state_in s p)) (sym (stream-is s p side))
 
-module _ {M : Type 0} (side : Side) (rule : Rule) (s : StoreValue) (p : Streams M) (held : AreHeld s p) (told : Fates) where
+module _ (side : Side) (rule : Rule) (s : StoreValue) (p : Streams) (held : AreHeld s p) (told : Fates) where
   -- the module on top went, and these queues are enabled behind it
-  pub top-went : (t : StoreValue) (q : Streams M) (told' : Fates) (taken : Taken) (names : List QueueName) → q ≡ with_end side (record (end_at side p) { stack = (end_at side q).stack; shelf = (end_at side q).shelf }) p → (stack_owns (end_at side q).stack (first_list side + 2) ≡ 0 → is_some (end_at side q).shelf ≡ true)
+  pub top-went : (t : StoreValue) (q : Streams) (told' : Fates) (taken : Taken) (names : List QueueName) → q ≡ with_end side (record (end_at side p) { stack = (end_at side q).stack; shelf = (end_at side q).shelf }) p → (stack_owns (end_at side q).stack (first_list side + 2) ≡ 0 → is_some (end_at side q).shelf ≡ true)
       → TookTop side rule s t (end_at side p).stack (end_at side q).stack told told' taken
       → names ≡ without_module side taken.name (noted side (place_of taken.name) (earlier_at side 1 (state_in s p)) taken.notes.items p.enabled)
       → WithoutTop side rule s t p (record q { enabled = names }) told told' (Some taken.name)
@@ -95,7 +95,7 @@ module _ {M : Type 0} (side : Side) (rule : Rule) (s : StoreValue) (p : Streams 
         name_is = ap (λ n. Some n) took.name ∙ sym (ap (λ ms. top_name module_name ms) these);
         leads = record {
           state =
-              ap (λ (r : Streams M). state_in t (record r { enabled = names })) same
+              ap (λ (r : Streams). state_in t (record r { enabled = names })) same
               ∙ ap (λ (x : State ℕ). record x { enabled = names }) (took-state s t p held.beside rule told told' taken side y z shelf took)
               ∙ ap (λ (ns : List QueueName). record (with_modules side took.rest st) { enabled = ns }) enabled
               ∙ sym (ap (λ ms. (top_taken rule side ms st).state) these);
@@ -110,7 +110,7 @@ module _ {M : Type 0} (side : Side) (rule : Rule) (s : StoreValue) (p : Streams 
       }
 
 -- no module stood there
-pub none-went : {M : Type 0} (side : Side) (rule : Rule) (s t : StoreValue) (p q : Streams M) (told told' : Fates) → AreHeld s p → q ≡ p
+pub none-went : (side : Side) (rule : Rule) (s t : StoreValue) (p q : Streams) (told told' : Fates) → AreHeld s p → q ≡ p
     → TookNone s t (end_at side p).stack (end_at side q).stack told told' → WithoutTop side rule s t p q told told' None
 none-went side rule s t p q told told' held same took =
     let st = state_in s p in

@@ -27,7 +27,7 @@ use Rattle.strm_pair.proofs.Peeked.{seen-before}
 pub only-dequeued : (s t : StoreValue) (q q' : Queue) (i : ℕ) → Dequeued s t q q' i → OnlyQueue s t q q'
 only-dequeued s t q q' i d = record { ready = d.ready; list = d.list; others = d.others }
 
-took-first : {M : Type 0} (side : Side) (s t : StoreValue) (p : Streams M) (q : Queue) (i : ℕ) → AreBeside s p → AreIdle (state_in s p) → Dequeued s t (end_at side p).driver q i → TookFirst side s t p (with_end side (record (end_at side p) { driver = q }) p) i
+took-first : (side : Side) (s t : StoreValue) (p : Streams) (q : Queue) (i : ℕ) → AreBeside s p → AreIdle (state_in s p) → Dequeued s t (end_at side p).driver q i → TookFirst side s t p (with_end side (record (end_at side p) { driver = q }) p) i
 took-first side s t p q i beside idle d =
     let stays : Stays s t (kept_by p) = record { mblks = d.mblks; dblks = d.dblks; kept = λ j some. absurd (omega (arith, some, rests s p beside idle j)) } in
     let only = only-dequeued s t (end_at side p).driver q i d in
@@ -49,7 +49,7 @@ took-first side s t p q i beside idle d =
 pub taken-idle : (side : Side) (q : plain.Queue ℕ) (s : State ℕ) → AreIdle s → AreIdle (with_driver side q s)
 taken-idle side q s idle = idle-with side _ s (idle side) idle
 
-pub took : {M : Type 0} (side : Side) (s t : StoreValue) (p : Streams M) (q : Queue) (result : Option InHand) → AreBeside s p → AreIdle (state_in s p)
+pub took : (side : Side) (s t : StoreValue) (p : Streams) (q : Queue) (result : Option InHand) → AreBeside s p → AreIdle (state_in s p)
     → MatchOption result (NoneTaken s t (end_at side p).driver q) (λ m. Dequeued s t (end_at side p).driver q (token m))
     → MatchOption result (messages_on s (end_at side p).driver.list ≡ []) (λ m. TookFirst side s t p (with_end side (record (end_at side p) { driver = q }) p) (token m))
 took side s t p q None beside idle none = none.none
@@ -112,32 +112,32 @@ serves-closed : (K : Behaviour) (side : Side) (m : Message ℕ) (rest : List (Me
 serves-closed K side m rest st closed = rw closed refl
 
 -- what is seen of both ends is what the state has
-opened-at : {M : Type 0} (s : StoreValue) (p : Streams M) (side : Side) → (stream side (state_in s p)).opened ≡ (end_at side p).opened
+opened-at : (s : StoreValue) (p : Streams) (side : Side) → (stream side (state_in s p)).opened ≡ (end_at side p).opened
 opened-at s p side = ap (λ (x : Stream ℕ). x.opened) (stream-is s p side)
 
-stands-on : {M : Type 0} (s : StoreValue) (p : Streams M) (side : Side) (e : StreamEnd M) → e ≡ end_at side p → (stream side (state_in s p)).driver.queue.messages ≡ messages_on s e.driver.list
-stands-on s p side e is = ap (λ (q : plain.Queue ℕ). q.messages) (driver-is s p side) ∙ ap (λ (y : StreamEnd _). messages_on s y.driver.list) (sym is)
+stands-on : (s : StoreValue) (p : Streams) (side : Side) (e : StreamEnd) → e ≡ end_at side p → (stream side (state_in s p)).driver.queue.messages ≡ messages_on s e.driver.list
+stands-on s p side e is = ap (λ (q : plain.Queue ℕ). q.messages) (driver-is s p side) ∙ ap (λ (y : StreamEnd). messages_on s y.driver.list) (sym is)
 
 -- nothing stands there, or the other side isn't open
-pub turned-none : {M : Type 0} (K : Behaviour) (s : StoreValue) (p : Streams M) (side : Side) (e : StreamEnd M) → e ≡ end_at side p
+pub turned-none : (K : Behaviour) (s : StoreValue) (p : Streams) (side : Side) (e : StreamEnd) → e ≡ end_at side p
     → list_at s e.driver.list ≡ []
     → driver_turned K cells.plain side (state_in s p) ≡ stayed_put Idle (with_driver side (record (stream side (state_in s p)).driver.queue { want_read = true }) (state_in s p))
 turned-none K s p side e is none = ap (λ ms. driver_serves K cells.plain side ms (state_in s p)) (stands-on s p side e is ∙ ap (map message_of) none)
 
-pub turned-closed : {M : Type 0} (K : Behaviour) (s : StoreValue) (p : Streams M) (side : Side) (e x : StreamEnd M) → e ≡ end_at side p → x ≡ end_at (other side) p → is_open x.opened ≡ false
+pub turned-closed : (K : Behaviour) (s : StoreValue) (p : Streams) (side : Side) (e x : StreamEnd) → e ≡ end_at side p → x ≡ end_at (other side) p → is_open x.opened ≡ false
     → (peek : Peek) → PeekedFirst s e.driver.list peek → driver_turned K cells.plain side (state_in s p) ≡ stayed_put Blocked (with_driver side (held_back (stream side (state_in s p)).driver.queue) (state_in s p))
 turned-closed K s p side e x e_is x_is closed peek seen =
     ap (λ ms. driver_serves K cells.plain side ms (state_in s p)) (stands-on s p side e e_is ∙ seen-before s e.driver.list peek seen)
-    ∙ serves-closed K side (message_of seen.message) (map message_of seen.rest) (state_in s p) (ap is_open (opened-at s p (other side) ∙ ap (λ (y : StreamEnd _). y.opened) (sym x_is)) ∙ closed)
+    ∙ serves-closed K side (message_of seen.message) (map message_of seen.rest) (state_in s p) (ap is_open (opened-at s p (other side) ∙ ap (λ (y : StreamEnd). y.opened) (sym x_is)) ∙ closed)
 
 -- whether the next queue above a driver has no room for a band
 abbrev full_above : Side → State ℕ → ℕ → Bool
 full_above side st band = not (has_room_past (other side) Up (driver_place (other side) st) band st)
 
-module _ {M : Type 0} (s : StoreValue) (p : Streams M) (side : Side) (e x : StreamEnd M) (e_is : e ≡ end_at side p) (x_is : x ≡ end_at (other side) p) (opened : is_open x.opened ≡ true)
+module _ (s : StoreValue) (p : Streams) (side : Side) (e x : StreamEnd) (e_is : e ≡ end_at side p) (x_is : x ≡ end_at (other side) p) (opened : is_open x.opened ≡ true)
     (peek : Peek) (seen : PeekedFirst s e.driver.list peek) (stops : Bool) (asked : stops ≡ (is_held peek.kind && full_above side (state_in s p) peek.band.0)) where
   is-open-there : is_open (stream (other side) (state_in s p)).opened ≡ true
-  is-open-there = ap is_open (opened-at s p (other side) ∙ ap (λ (y : StreamEnd M). y.opened) (sym x_is)) ∙ opened
+  is-open-there = ap is_open (opened-at s p (other side) ∙ ap (λ (y : StreamEnd). y.opened) (sym x_is)) ∙ opened
 
   stands : (stream side (state_in s p)).driver.queue.messages ≡ message_of seen.message ∷ map message_of seen.rest
   stands = stands-on s p side e e_is ∙ seen-before s e.driver.list peek seen

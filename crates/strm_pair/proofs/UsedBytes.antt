@@ -108,7 +108,7 @@ module _ (s : StoreValue) where
         ap bytes_of shows.down,
       )
 
-  pub state-bytes : {M : Type 0} (p : Streams M) → AreHeld s p → AreIdle (state_in s p) → IsStore s → bytes_in (state_in s p) ≤ 256 * s.mblks
+  pub state-bytes : (p : Streams) → AreHeld s p → AreIdle (state_in s p) → IsStore s → bytes_in (state_in s p) ≤ 256 * s.mblks
   state-bytes p held idle is =
       let m = stream_in s p.ends.master in
       let n = stream_in s p.ends.slave in

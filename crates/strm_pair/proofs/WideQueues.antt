@@ -51,8 +51,7 @@ module _ (s : StoreValue) (is : IsStore s) where
     bytes = omega (arith, few-bytes s is q.list 0, bytes-same (list_at s q.list) ready.messages.chains);
   }
 
-  modules-wide : {M : Type 0} (xs : List (AnyStanding M)) → AllByRecursion (IsHeld s) xs
-      → AllByRecursion IsWide (queues_of_modules (map (module_in s) xs))
+  modules-wide : (xs : List AnyStanding) → AllByRecursion (IsHeld s) xs → AllByRecursion IsWide (queues_of_modules (map (module_in s) xs))
   modules-wide [] held = tt
   modules-wide (x ∷ xs) held = by x.queues held.0.queues (modules-wide xs held.1)
     where
@@ -61,13 +60,13 @@ module _ (s : StoreValue) (is : IsStore s) where
       by None ready below = below
       by (Some pair) ready below = (ready-wide pair.read ready.read, (ready-wide pair.write ready.write, below))
 
-  stream-wide : {M : Type 0} (first : ℕ) (e : StreamEnd M) → IsSide s first e → AllByRecursion IsWide (stream_queues (stream_in s e))
+  stream-wide : (first : ℕ) (e : StreamEnd) → IsSide s first e → AllByRecursion IsWide (stream_queues (stream_in s e))
   stream-wide first e side = (
     ready-wide e.head.queue side.head.ready,
     all-joined IsWide (queues_of_modules (modules_in s e.stack)) (queue_in s e.driver ∷ []) (modules-wide e.stack.modules.items side.stack.each) (ready-wide e.driver side.driver, tt),
   )
 
-  module _ {M : Type 0} (p : Streams M) (held : AreHeld s p) where
+  module _ (p : Streams) (held : AreHeld s p) where
     state-wide : AllByRecursion IsWide (queues_of (state_in s p))
     state-wide = all-joined IsWide (stream_queues (stream_in s p.ends.master)) (stream_queues (stream_in s p.ends.slave))
         (stream-wide 0 p.ends.master (held.beside Master)) (stream-wide 4 p.ends.slave (held.beside Slave))

@@ -5,7 +5,7 @@ use Rattle.strm_pair.specs.declared.streams.Streams.{Streams}
 use Rattle.strm_pair.specs.Pairs.{state_in, AreBeside}
 
 -- It alone is in hand, the streams fit the store, and nothing of a turn is under way at any module.
-pub record IsAlone {M : Type 0} (s : StoreValue) (p : Streams M) (name : ℕ) : Type 0 where
+pub record IsAlone (s : StoreValue) (p : Streams) (name : ℕ) : Type 0 where
   pub hand : s.hand ≡ record { name = name; chain = in_hand s name } ∷ []
   pub chain : IsChain (in_hand s name)
   pub beside : AreBeside s p

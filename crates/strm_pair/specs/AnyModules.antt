@@ -30,65 +30,65 @@ abbrev pub kind_cost : Spot → Bool → Module ℕ → ℕ
 kind_cost here again p = bounds.turn_cost here again (ldterm_of p)
 
 -- what it stands for
-abbrev pub kind_in : {M : Type 0} → StoreValue → AnyModule M → Module ℕ
+abbrev pub kind_in : StoreValue → AnyModule → Module ℕ
 kind_in s (kinds.Ldterm x) = OfLdterm (stands.own_in s x)
 kind_in s (kinds.Ptem x) = OfPtem (ptem_in x)
 kind_in s (kinds.Pckt x) = OfPckt pckt_in
 kind_in s (kinds.Own o) = OfOwn o
 
 -- what it has in hand fits the store and its queues; ldterm alone has any
-abbrev pub IsKindHeld : {M : Type 0} → StoreValue → AnyModule M → Option frame.QueuePair → Type 0
+abbrev pub IsKindHeld : StoreValue → AnyModule → Option frame.QueuePair → Type 0
 IsKindHeld s (kinds.Ldterm x) queues = stands.HasInHand s x queues
 IsKindHeld s (kinds.Ptem x) queues = queues ≡ None
 IsKindHeld s (kinds.Pckt x) queues = queues ≡ None
 IsKindHeld s (kinds.Own o) queues = queues ≡ None
 
 -- how often it keeps a message of a name in hand
-abbrev pub kind_keeps : {M : Type 0} → AnyModule M → ℕ → ℕ
+abbrev pub kind_keeps : AnyModule → ℕ → ℕ
 kind_keeps (kinds.Ldterm x) i = stands.keeps_itself x i
 kind_keeps (kinds.Ptem x) i = 0
 kind_keeps (kinds.Pckt x) i = 0
 kind_keeps (kinds.Own o) i = 0
 
 -- One that was just made keeps nothing in hand, and fits any queues where those of its name have queues, and else none.
-abbrev pub FitsAny : {M : Type 0} → Bool → AnyModule M → Type 0
+abbrev pub FitsAny : Bool → AnyModule → Type 0
 FitsAny b x = (s : StoreValue) (queues : Option frame.QueuePair) → is_some queues ≡ b → IsKindHeld s x queues
 
-pub record IsFresh {M : Type 0} (name : ModuleName) (x : AnyModule M) : Type 0 where
+pub record IsFresh (name : ModuleName) (x : AnyModule) : Type 0 where
   pub held : FitsAny (have_queues name) x
   pub rests : (i : ℕ) → kind_keeps x i ≡ 0
 
 -- There are modules of a name, and one was just made.
-pub record IsMade {M : Type 0} (K : Behaviour) (name : ModuleName) (x : AnyModule M) : Type 0 where
+pub record IsMade (K : Behaviour) (name : ModuleName) (x : AnyModule) : Type 0 where
   pub known : is_known K name ≡ true
   pub made : (s : StoreValue) → kind_in s x ≡ kind_named K name
   pub fresh : IsFresh name x
 
 -- nothing of an unfinished line is left in it
-abbrev pub IsBare : {M : Type 0} → AnyModule M → Type 0
+abbrev pub IsBare : AnyModule → Type 0
 IsBare (kinds.Ldterm x) = x.line ≡ []
 IsBare (kinds.Ptem x) = Unit {0}
 IsBare (kinds.Pckt x) = Unit {0}
 IsBare (kinds.Own o) = Unit {0}
 
 -- the same of a module where it stands, with its queues
-abbrev pub AnyStanding : Type 0 → Type 0
-AnyStanding M = standing.Standing (AnyModule M)
+abbrev pub AnyStanding : Type 0
+AnyStanding = standing.Standing AnyModule
 
-abbrev pub module_in : {M : Type 0} → StoreValue → AnyStanding M → Standing ℕ
+abbrev pub module_in : StoreValue → AnyStanding → Standing ℕ
 module_in s x = standing_in kind_in s x
 
-abbrev pub IsHeld : {M : Type 0} → StoreValue → AnyStanding M → Type 0
+abbrev pub IsHeld : StoreValue → AnyStanding → Type 0
 IsHeld s x = Fits IsKindHeld s x
 
-abbrev pub keeps : {M : Type 0} → AnyStanding M → ℕ → ℕ
+abbrev pub keeps : AnyStanding → ℕ → ℕ
 keeps x i = keeps_of kind_keeps x i
 
 abbrev pub turn_cost : Spot → Bool → Standing ℕ → ℕ
 turn_cost here again x = kind_cost here again x.part
 
 -- It stands for the same, and fits, where its queues' lists are the same and what it keeps is.
-pub module-frame : {M : Type 0} (s t : StoreValue) (x : AnyModule M) (queues others : Option frame.QueuePair) → lists_of others ≡ lists_of queues
+pub module-frame : (s t : StoreValue) (x : AnyModule) (queues others : Option frame.QueuePair) → lists_of others ≡ lists_of queues
     → SameOwn s t (queues_own queues) (kind_keeps x) → IsKindHeld s x queues → (kind_in t x ≡ kind_in s x) × IsKindHeld t x others
 module-frame s t (kinds.Ldterm x) queues others lists same held =
     let r = own-frame s t x queues others lists (record { lists = same.lists; mblks = same.mblks; dblks = same.dblks; kept = same.kept }) held in (ap OfLdterm r.0, r.1)
@@ -97,14 +97,14 @@ module-frame s t (kinds.Pckt x) queues others lists same held = (refl, none-same
 module-frame s t (kinds.Own o) queues others lists same held = (refl, none-same queues others lists held)
 
 -- and where it keeps nothing, whatever stands on them
-pub module-rested : {M : Type 0} (s t : StoreValue) (x : AnyModule M) (queues others : Option frame.QueuePair) → lists_of others ≡ lists_of queues
+pub module-rested : (s t : StoreValue) (x : AnyModule) (queues others : Option frame.QueuePair) → lists_of others ≡ lists_of queues
     → ((i : ℕ) → kind_keeps x i ≡ 0) → IsKindHeld s x queues → (kind_in t x ≡ kind_in s x) × IsKindHeld t x others
 module-rested s t (kinds.Ldterm x) queues others lists none held = let r = own-rested s t x queues others lists none held in (ap OfLdterm r.0, r.1)
 module-rested s t (kinds.Ptem x) queues others lists none held = (refl, none-same queues others lists held)
 module-rested s t (kinds.Pckt x) queues others lists none held = (refl, none-same queues others lists held)
 module-rested s t (kinds.Own o) queues others lists none held = (refl, none-same queues others lists held)
 
-pub any-frame : {M : Type 0} (s t : StoreValue) (x : AnyStanding M) → SameOwn s t (owns x) (keeps x) → IsHeld s x
+pub any-frame : (s t : StoreValue) (x : AnyStanding) → SameOwn s t (owns x) (keeps x) → IsHeld s x
     → (module_in t x ≡ module_in s x) × IsHeld t x
 any-frame s t x same held = standing-frame kind_in IsKindHeld kind_keeps module-frame s t x same held
 
@@ -112,23 +112,23 @@ any-frame s t x same held = standing-frame kind_in IsKindHeld kind_keeps module-
 abbrev pub HasAsNamed : Standing ℕ → Type 0
 HasAsNamed p = has_queues p ≡ have_queues (module_name p)
 
-kind-has : {M : Type 0} (s : StoreValue) (x : AnyModule M) (queues : Option frame.QueuePair) → IsKindHeld s x queues → is_some (queues_in s queues) ≡ have_queues (kind_name (kind_in s x))
+kind-has : (s : StoreValue) (x : AnyModule) (queues : Option frame.QueuePair) → IsKindHeld s x queues → is_some (queues_in s queues) ≡ have_queues (kind_name (kind_in s x))
 kind-has s (kinds.Ldterm x) None held = absurd held
 kind-has s (kinds.Ldterm x) (Some pair) held = refl
 kind-has s (kinds.Ptem x) queues held = ap (λ o. is_some (queues_in s o)) held
 kind-has s (kinds.Pckt x) queues held = ap (λ o. is_some (queues_in s o)) held
 kind-has s (kinds.Own x) queues held = ap (λ o. is_some (queues_in s o)) held
 
-pub any-has : {M : Type 0} (s : StoreValue) (x : AnyStanding M) → IsHeld s x → HasAsNamed (module_in s x)
+pub any-has : (s : StoreValue) (x : AnyStanding) → IsHeld s x → HasAsNamed (module_in s x)
 any-has s x held = kind-has s x.module x.queues held.itself
 
-pub all-have : {M : Type 0} (s : StoreValue) (xs : List (AnyStanding M)) → AllByRecursion (IsHeld s) xs
+pub all-have : (s : StoreValue) (xs : List AnyStanding) → AllByRecursion (IsHeld s) xs
     → AllByRecursion HasAsNamed (map (module_in s) xs)
 all-have s [] held = tt
 all-have s (x ∷ xs) held = (any-has s x held.0, all-have s xs held.1)
 
 -- where a turn may begin it keeps nothing
-pub serves-rests : {M : Type 0} (s : StoreValue) (x : AnyModule M) (queues : Option frame.QueuePair) (way : Way) (i : ℕ) → IsKindHeld s x queues → MayServe way false (kind_in s x) → kind_keeps x i ≡ 0
+pub serves-rests : (s : StoreValue) (x : AnyModule) (queues : Option frame.QueuePair) (way : Way) (i : ℕ) → IsKindHeld s x queues → MayServe way false (kind_in s x) → kind_keeps x i ≡ 0
 serves-rests s (kinds.Ldterm x) queues way i held may = own-rests s x queues way i held may
 serves-rests s (kinds.Ptem x) queues way i held may = refl
 serves-rests s (kinds.Pckt x) queues way i held may = refl

@@ -23,7 +23,7 @@ pub still : (s t : StoreValue) (keeps : ℕ → ℕ) → t.hand ≡ s.hand → t
 still s t keeps hand mblks dblks = record { mblks = mblks; dblks = dblks; kept = λ i some. ap (λ h. in_hand (record s { hand = h }) i) hand }
 
 -- a stream with these modules
-abbrev pub stream_with : {M : Type 0} → StoreValue → StreamEnd M → List (plain.Standing ℕ) → state.Stream ℕ
+abbrev pub stream_with : StoreValue → StreamEnd → List (plain.Standing ℕ) → state.Stream ℕ
 stream_with s e modules = record {
   opened = e.opened;
   head = head_in s e.head;
@@ -32,7 +32,7 @@ stream_with s e modules = record {
 }
 
 -- a state by its streams
-abbrev pub state_with : {M : Type 0} → Streams M → Both (state.Stream ℕ) → State ℕ
+abbrev pub state_with : Streams → Both (state.Stream ℕ) → State ℕ
 state_with p ends = record {
   ends = ends;
   locked = p.locked;
@@ -42,28 +42,27 @@ state_with p ends = record {
 }
 
 -- a stack that rests keeps nothing
-none-kept : {M : Type 0} (s : StoreValue) (first : ℕ) (e : StreamEnd M) → IsSide s first e → AllByRecursion (λ p. IsAtRest p) (modules_in s e.stack) → (i : ℕ) → stack_keeps e.stack i ≡ 0
+none-kept : (s : StoreValue) (first : ℕ) (e : StreamEnd) → IsSide s first e → AllByRecursion (λ p. IsAtRest p) (modules_in s e.stack) → (i : ℕ) → stack_keeps e.stack i ≡ 0
 none-kept s first e is idle i = stack-idle s e.stack is.stack idle i
 
-pub rests : {M : Type 0} (s : StoreValue) (p : Streams M) → AreBeside s p → AreIdle (state_in s p) → (i : ℕ) → kept_by p i ≡ 0
+pub rests : (s : StoreValue) (p : Streams) → AreBeside s p → AreIdle (state_in s p) → (i : ℕ) → kept_by p i ≡ 0
 rests s p beside idle i = omega (arith, none-kept s 0 p.ends.master (beside Master) (idle Master) i, none-kept s 4 p.ends.slave (beside Slave) (idle Slave) i)
 
 -- what the stack of a side keeps, and the other one's
-pub kept-parts : {M : Type 0} (side : Side) (p : Streams M) (i : ℕ) → kept_by p i
-    ≡ stack_keeps (end_at side p).stack i + stack_keeps (end_at (other side) p).stack i
+pub kept-parts : (side : Side) (p : Streams) (i : ℕ) → kept_by p i ≡ stack_keeps (end_at side p).stack i + stack_keeps (end_at (other side) p).stack i
 kept-parts Master p i = refl
 kept-parts Slave p i = omega arith
 
-pub kept-with : {M : Type 0} (side : Side) (e : StreamEnd M) (p : Streams M) (i : ℕ) → kept_by (with_end side e p) i ≡ stack_keeps e.stack i + stack_keeps (end_at (other side) p).stack i
+pub kept-with : (side : Side) (e : StreamEnd) (p : Streams) (i : ℕ) → kept_by (with_end side e p) i ≡ stack_keeps e.stack i + stack_keeps (end_at (other side) p).stack i
 kept-with Master e p i = refl
 kept-with Slave e p i = omega arith
 
 module _ (s t : StoreValue) where
-  pub stays-at : {M : Type 0} (side : Side) (p : Streams M) → Stays s t (kept_by p) → Stays s t (stack_keeps (end_at side p).stack)
+  pub stays-at : (side : Side) (p : Streams) → Stays s t (kept_by p) → Stays s t (stack_keeps (end_at side p).stack)
   stays-at side p stays = record { mblks = stays.mblks; dblks = stays.dblks; kept = λ i some. stays.kept i (omega (arith, some, kept-parts side p i)) }
 
   -- a stack stands for the same, and fits, where its lists are the same and what it keeps is
-  pub stack-same : {M : Type 0} (first : ℕ) (e : StreamEnd M) → IsSide s first e → Stays s t (stack_keeps e.stack) → ((k : ℕ) → first + 2 ≤ k → k < first + 4 → list_at t k ≡ list_at s k) → (modules_in t e.stack ≡ modules_in s e.stack) × IsStackHeld t e.stack
+  pub stack-same : (first : ℕ) (e : StreamEnd) → IsSide s first e → Stays s t (stack_keeps e.stack) → ((k : ℕ) → first + 2 ≤ k → k < first + 4 → list_at t k ≡ list_at s k) → (modules_in t e.stack ≡ modules_in s e.stack) × IsStackHeld t e.stack
   stack-same first e is stays same = stack-frame s t e.stack (record {
     lists = λ k some. let own = is.owned k some in same k own.0 own.1;
     mblks = stays.mblks;
@@ -75,7 +74,7 @@ module _ (s t : StoreValue) where
     at : (k : ℕ) → list_at t k ≡ list_at s k
     at k = ap (λ ls. slice_index_or ls k []) same
 
-    side-fits : {M : Type 0} (first : ℕ) (e : StreamEnd M) → IsSide s first e → Stays s t (stack_keeps e.stack) → IsSide t first e
+    side-fits : (first : ℕ) (e : StreamEnd) → IsSide s first e → Stays s t (stack_keeps e.stack) → IsSide t first e
     side-fits first e is stays = record {
       head_list = is.head_list;
       driver_list = is.driver_list;
@@ -88,20 +87,19 @@ module _ (s t : StoreValue) where
       shelf = is.shelf;
     }
 
-    side-same : {M : Type 0} (first : ℕ) (e : StreamEnd M) → IsSide s first e → Stays s t (stack_keeps e.stack) → stream_in t e ≡ stream_in s e
+    side-same : (first : ℕ) (e : StreamEnd) → IsSide s first e → Stays s t (stack_keeps e.stack) → stream_in t e ≡ stream_in s e
     side-same first e is stays =
         ap (λ ls. stream_with (record s { lists = ls }) e (modules_in t e.stack)) same
         ∙ ap (stream_with s e) (stack-same first e is stays (λ k low high. at k)).0
 
-    pub same-state : {M : Type 0} (p : Streams M) → AreBeside s p → Stays s t (kept_by p) → state_in t p ≡ state_in s p
+    pub same-state : (p : Streams) → AreBeside s p → Stays s t (kept_by p) → state_in t p ≡ state_in s p
     same-state p beside stays =
         ap (state_with p) (map-same (stream_in t) (stream_in s) p.ends (λ side. side-same (first_list side) (end_at side p) (beside side) (stays-at side p stays)))
 
-    pub same-beside : {M : Type 0} (p : Streams M) → AreBeside s p → Stays s t (kept_by p) → AreBeside t p
+    pub same-beside : (p : Streams) → AreBeside s p → Stays s t (kept_by p) → AreBeside t p
     same-beside p beside stays = λ side. side-fits (first_list side) (end_at side p) (beside side) (stays-at side p stays)
 
-pub streams-frame : {M : Type 0} (s t : StoreValue) (p : Streams M) → SameFor s t (kept_by p) → AreBeside s p
-    → (state_in t p ≡ state_in s p) × AreBeside t p
+pub streams-frame : (s t : StoreValue) (p : Streams) → SameFor s t (kept_by p) → AreBeside s p → (state_in t p ≡ state_in s p) × AreBeside t p
 streams-frame s t p same beside =
     let stays : Stays s t (kept_by p) = record { mblks = same.mblks; dblks = same.dblks; kept = same.kept } in
     (same-state s t same.lists p beside stays, same-beside s t same.lists p beside stays)

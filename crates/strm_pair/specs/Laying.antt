@@ -1,7 +1,6 @@
 -- Streams of a text in a store.
 use Rattle.std.specs.Prelude.{ℕ, ◌≡◌, ◌≤◌, ◌<◌, ◌+◌, length}
 use Rattle.strm_pair.specs.Prelude.{IOCTL_MAX, Openness, AreSignals, is_part_kind, Stream, StoreValue, list_at, StreamText, queue_now, laid_now}
-use Rattle.strm_pair.specs.Prelude.{Behaviour}
 use Rattle.strm_types.specs.Slots.{answer_bytes, map_slot}
 use Rattle.strm_laws.specs.Restorable.{GoodQueue}
 use Rattle.strm_image.specs.Image.{stream_of}
@@ -12,9 +11,9 @@ use Rattle.strm_pair.specs.Stacks.{stack_keeps}
 use Rattle.strm_pair.specs.Streams.{IsSide, stream_in}
 
 -- what the text of a stream has as its format says: what readers may read, modules, signals, and the answer of an ioctl
-pub record IsStreamText (K : Behaviour) (t : StreamText) : Type 0 where
+pub record IsStreamText (t : StreamText) : Type 0 where
   pub head : GoodQueue is_part_kind (queue_now t.head)
-  pub modules : AreModuleTexts K t.modules.items
+  pub modules : AreModuleTexts t.modules.items
   pub signals : AreSignals t.signals.now
   pub answer : length (answer_bytes (map_slot (λ b. b.now) t.slot)) ≤ IOCTL_MAX
 
@@ -23,7 +22,7 @@ abbrev pub stream_now : Openness → StreamText → Stream ℕ
 stream_now opened t = stream_of opened (laid_now t)
 
 -- A stream stands on four lists of a store, from a number on, and no other list changed. It keeps nothing in hand, and its messages take so many blocks.
-pub record IsStood {M : Type 0} (old new : StoreValue) (first : ℕ) (plain : Stream ℕ) (blocks : ℕ) (e : StreamEnd M) : Type 0 where
+pub record IsStood (old new : StoreValue) (first : ℕ) (plain : Stream ℕ) (blocks : ℕ) (e : StreamEnd) : Type 0 where
   pub stream : stream_in new e ≡ plain
   pub side : IsSide new first e
   pub rests : (i : ℕ) → stack_keeps e.stack i ≡ 0

@@ -41,25 +41,23 @@ no-list (Some pair) none = let k = pair.read.list in absurd (omega (arith, none 
 
 module _ (s : StoreValue) (first : ℕ) where
   -- modules without lists of their own have no queues
-  first-none : {M : Type 0} (x : AnyStanding M) (xs : List (AnyStanding M)) → ((k : ℕ) → all_of owns (x ∷ xs) k ≡ 0) → x.queues ≡ None
+  first-none : (x : AnyStanding) (xs : List AnyStanding) → ((k : ℕ) → all_of owns (x ∷ xs) k ≡ 0) → x.queues ≡ None
   first-none x xs none = no-list x.queues (λ k. omega (arith, none k, sum_by-cons (λ y. owns y k) x xs))
 
-  none-queue : {M : Type 0} (xs : List (AnyStanding M)) → ((k : ℕ) → all_of owns xs k ≡ 0) → queues_of_modules (map (module_in s) xs) ≡ []
+  none-queue : (xs : List AnyStanding) → ((k : ℕ) → all_of owns xs k ≡ 0) → queues_of_modules (map (module_in s) xs) ≡ []
   none-queue [] none = refl
   none-queue (x ∷ xs) none =
       ap (λ queues. queues_of_modules (map (module_in s) (standing x.module queues ∷ xs))) (first-none x xs none)
       ∙ none-queue xs (λ k. omega (arith, none k, sum_by-cons (λ y. owns y k) x xs))
 
-  none-queued : {M : Type 0} (way : Way) (xs : List (AnyStanding M)) → ((k : ℕ) → all_of owns xs k ≡ 0) → messages_queued way (map (module_in s) xs)
-      ≡ []
+  none-queued : (way : Way) (xs : List AnyStanding) → ((k : ℕ) → all_of owns xs k ≡ 0) → messages_queued way (map (module_in s) xs) ≡ []
   none-queued way [] none = refl
   none-queued way (x ∷ xs) none =
       ap (λ queues. messages_queued way (map (module_in s) (standing x.module queues ∷ xs))) (first-none x xs none)
       ∙ none-queued way xs (λ k. omega (arith, none k, sum_by-cons (λ y. owns y k) x xs))
 
   -- where the lists of a pair of queues stand
-  module _ {M : Type 0} (x : AnyModule M) (pair : QueuePair) (xs : List (AnyStanding M))
-      (are : AreFor s first (all_of owns (standing x (Some pair) ∷ xs))) where
+  module _ (x : AnyModule) (pair : QueuePair) (xs : List AnyStanding) (are : AreFor s first (all_of owns (standing x (Some pair) ∷ xs))) where
     abbrev reads : ℕ
     reads = pair.read.list
 
@@ -120,7 +118,7 @@ module _ (s : StoreValue) (first : ℕ) where
           }
 
   -- below a module without lists of its own
-  module _ {M : Type 0} (x : AnyStanding M) (xs : List (AnyStanding M)) (none : (k : ℕ) → owns x k ≡ 0) where
+  module _ (x : AnyStanding) (xs : List AnyStanding) (none : (k : ℕ) → owns x k ≡ 0) where
     same-below : (k : ℕ) → all_of owns (x ∷ xs) k ≡ all_of owns xs k
     same-below k = omega (arith, sum_by-cons (λ y. owns y k) x xs, none k)
 
@@ -133,8 +131,7 @@ module _ (s : StoreValue) (first : ℕ) where
       spare = λ k low high none. are.spare k low high (omega (arith, none, same-below k));
     }
 
-  pub stack-shown : {M : Type 0} (xs : List (AnyStanding M)) → AreHeld IsHeld owns s xs → AreFor s first (all_of owns xs)
-      → AreShown s first (map (module_in s) xs)
+  pub stack-shown : (xs : List AnyStanding) → AreHeld IsHeld owns s xs → AreFor s first (all_of owns xs) → AreShown s first (map (module_in s) xs)
   stack-shown [] held are =
       let none = are.spare first (omega arith) (omega arith) refl in
       let last = are.spare (first + 1) (omega arith) (omega arith) refl in
@@ -155,6 +152,6 @@ module _ (s : StoreValue) (first : ℕ) where
       by (Some pair) held are below = pair-shown x.module pair xs are held.each.0.queues held.apart
 
 -- without a module no list is owned
-pub none-own : {M : Type 0} (s : StoreValue) (xs : List (AnyStanding M)) → map (module_in s) xs ≡ [] → (k : ℕ) → all_of owns xs k ≡ 0
+pub none-own : (s : StoreValue) (xs : List AnyStanding) → map (module_in s) xs ≡ [] → (k : ℕ) → all_of owns xs k ≡ 0
 none-own s [] none k = refl
 none-own s (x ∷ xs) none k = absurd (cc)

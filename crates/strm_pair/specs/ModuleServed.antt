@@ -45,12 +45,12 @@ abbrev pub MayBook : Spot → Bool → State ℕ → Type 0
 MayBook here again s = call_units (bytes_left here.way again (discipline_of (module_at here s))) ≤ spare s
 
 -- all that is in hand is kept by the stacks
-abbrev pub IsKeptAll : {M : Type 0} → StoreValue → Streams M → Type 0
+abbrev pub IsKeptAll : StoreValue → Streams → Type 0
 IsKeptAll s p = (i : ℕ) → times_in i s.hand ≡ kept_by p i
 
 -- A call of the turn may be made at a place: a module stands there and is at that call, the streams fit the store, which has blocks enough,
 -- and nothing else is in hand.
-pub record MayCall {M : Type 0} (s : StoreValue) (p : Streams M) (here : Spot) (again : Bool) : Type 0 where
+pub record MayCall (s : StoreValue) (p : Streams) (here : Spot) (again : Bool) : Type 0 where
   pub inside : 0 < here.at
   pub within : here.at ≤ length (stream here.side (state_in s p)).modules
   pub begins : Begins here.way again (discipline_of (module_at here (state_in s p)))
@@ -71,7 +71,7 @@ pub record TellsAs (here : Spot) (again : Bool) (call : Call) (s : State ℕ) : 
   pub made : made_of (called here again (stop_in call) (stream here.side s).modules).gone ≤ most_made call.bytes
 
 -- A stack of modules served a call at a place.
-pub record StackServes {M : Type 0} (old new : StoreValue) (x y : Stack M) (here : Spot) (again : Bool) (served : Served) (told told' : Fates) : Type
+pub record StackServes (old new : StoreValue) (x y : Stack) (here : Spot) (again : Bool) (served : Served) (told told' : Fates) : Type
     0 where
   pub state : modules_in new y ≡ (called here again (stop_of served) (modules_in old x)).state
   pub notes : served.acts.notes.items ≡ (called here again (stop_of served) (modules_in old x)).notes
@@ -97,7 +97,7 @@ call_of served = record { bytes = served.bytes; stopped = served.stopped; again 
 
 -- The module at a place did what a call says. What it sent is in hand, beside what the stacks keep, and there are blocks enough for that and
 -- for one more call, where it asks for one.
-pub record ActsAs {M : Type 0} (old new : StoreValue) (p q : Streams M) (here : Spot) (again : Bool) (call : Call) (sent_on : List Sent) (told told' : Fates) : Type 0 where
+pub record ActsAs (old new : StoreValue) (p q : Streams) (here : Spot) (again : Bool) (call : Call) (sent_on : List Sent) (told told' : Fates) : Type 0 where
   pub state : state_in new q ≡ (acts_in here again call (state_in old p)).state
   pub sent : parcels_in new sent_on ≡ (acts_in here again call (state_in old p)).sent
   pub tells : told' ≡ tallied (acts_in here again call (state_in old p)).gone told
@@ -116,7 +116,7 @@ LeavesFew here again call s new =
     OnTrue call.stopped (call.bytes < bytes_left here.way again (discipline_of (module_at here s)) → IsKeptAhead here.way here.side s → least_free new < STOP_BLOCKS)
 
 -- A call did what it says, and what it sent is delivered.
-pub record CallsAs {M : Type 0} (K : Behaviour) (old new : StoreValue) (p q : Streams M) (here : Spot) (again : Bool) (call : Call)
+pub record CallsAs (K : Behaviour) (old new : StoreValue) (p q : Streams) (here : Spot) (again : Bool) (call : Call)
     (told told' : Fates) : Type 0 where
   pub state : state_in new q ≡ (led K here again (stop_in call) (state_in old p)).state
   pub tells : told' ≡ tallied (led K here again (stop_in call) (state_in old p)).gone told

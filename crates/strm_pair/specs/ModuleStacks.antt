@@ -13,33 +13,33 @@ use Rattle.strm_pair.specs.Stacks.{modules_in, IsStackHeld, stack_owns, stack_ke
 use Rattle.strm_pair.specs.Streams.{AreFor, AreShown}
 
 -- modules at rest keep nothing
-rest-keeps : {M : Type 0} (s : StoreValue) (x : AnyModule M) (queues : Option QueuePair) → IsKindHeld s x queues → KindRests (kind_in s x) → (i : ℕ) → kind_keeps x i ≡ 0
+rest-keeps : (s : StoreValue) (x : AnyModule) (queues : Option QueuePair) → IsKindHeld s x queues → KindRests (kind_in s x) → (i : ℕ) → kind_keeps x i ≡ 0
 rest-keeps s (kinds.Ldterm x) queues held rest i = own-rests s x queues Up i held rest
 rest-keeps s (kinds.Ptem x) queues held rest i = refl
 rest-keeps s (kinds.Pckt x) queues held rest i = refl
 rest-keeps s (kinds.Own o) queues held rest i = refl
 
-pub rests-keep : {M : Type 0} (s : StoreValue) (xs : List (AnyStanding M)) → AllByRecursion (IsHeld s) xs → AllByRecursion (λ p. IsAtRest p) (map (module_in s) xs) → (i : ℕ) → all_of keeps xs i ≡ 0
+pub rests-keep : (s : StoreValue) (xs : List AnyStanding) → AllByRecursion (IsHeld s) xs → AllByRecursion (λ p. IsAtRest p) (map (module_in s) xs) → (i : ℕ) → all_of keeps xs i ≡ 0
 rests-keep s [] held rest i = omega arith
 rests-keep s (x ∷ xs) held rest i = omega (arith, sum_by-cons (λ y. keeps y i) x xs, rest-keeps s x.module x.queues held.0.itself rest.0 i, rests-keep s xs held.1 rest.1 i)
 
 -- A stack stands for the same, and fits, wherever its own lists are the same and what it keeps in hand is.
-pub stack-frame : {M : Type 0} (s t : StoreValue) (x : Stack M) → SameOwn s t (stack_owns x) (stack_keeps x) → IsStackHeld s x → (modules_in t x ≡ modules_in s x) × IsStackHeld t x
+pub stack-frame : (s t : StoreValue) (x : Stack) → SameOwn s t (stack_owns x) (stack_keeps x) → IsStackHeld s x → (modules_in t x ≡ modules_in s x) × IsStackHeld t x
 stack-frame s t x same held = stack-stays module_in IsHeld owns keeps any-frame s t x.modules.items same held
 
 -- where nothing of a turn is under way it keeps nothing
-pub stack-idle : {M : Type 0} (s : StoreValue) (x : Stack M) → IsStackHeld s x → AllByRecursion (λ p. IsAtRest p) (modules_in s x) → (i : ℕ)
+pub stack-idle : (s : StoreValue) (x : Stack) → IsStackHeld s x → AllByRecursion (λ p. IsAtRest p) (modules_in s x) → (i : ℕ)
     → stack_keeps x i ≡ 0
 stack-idle s x held idle = rests-keep s x.modules.items held.each idle
 
 -- and the two lists that are for it show its queues
-pub stack-shows : {M : Type 0} (s : StoreValue) (x : Stack M) (first : ℕ) → IsStackHeld s x → AllByRecursion (λ p. IsAtRest p) (modules_in s x) → AreFor s first (stack_owns x) → AreShown s first (modules_in s x)
+pub stack-shows : (s : StoreValue) (x : Stack) (first : ℕ) → IsStackHeld s x → AllByRecursion (λ p. IsAtRest p) (modules_in s x) → AreFor s first (stack_owns x) → AreShown s first (modules_in s x)
 stack-shows s x first held idle are = stack-shown s first x.modules.items held are
 
 -- without a module it owns no list
-pub stack-bare : {M : Type 0} (s : StoreValue) (x : Stack M) → IsStackHeld s x → modules_in s x ≡ [] → (k : ℕ) → stack_owns x k ≡ 0
+pub stack-bare : (s : StoreValue) (x : Stack) → IsStackHeld s x → modules_in s x ≡ [] → (k : ℕ) → stack_owns x k ≡ 0
 stack-bare s x held none = none-own s x.modules.items none
 
 -- as many modules stand there whatever the store
-pub stack-long : {M : Type 0} (s t : StoreValue) (x : Stack M) → length (modules_in t x) ≡ length (modules_in s x)
+pub stack-long : (s t : StoreValue) (x : Stack) → length (modules_in t x) ≡ length (modules_in s x)
 stack-long s t x = length-map x.modules.items (module_in t) ∙ sym (length-map x.modules.items (module_in s))

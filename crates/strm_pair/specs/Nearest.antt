@@ -11,5 +11,5 @@ earlier_of earlier Up = earlier.up
 earlier_of earlier Down = earlier.down
 
 -- the streams behind what a put says of the queues of a place of a side's stream, one note after the other
-abbrev pub noted_on : {M : Type 0} → StoreValue → Side → Option Place → ℕ → List Note → Streams M → Streams M
+abbrev pub noted_on : StoreValue → Side → Option Place → ℕ → List Note → Streams → Streams
 noted_on s side place at notes p = record p { enabled = noted side place (earlier_at side at (state_in s p)) notes p.enabled }

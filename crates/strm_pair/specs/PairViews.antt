@@ -18,7 +18,7 @@ abbrev pub sizes_over : StoreValue → Config → Config
 sizes_over s sizes = record sizes { mblks = s.mblks; dblks = s.dblks }
 
 -- the pair that the store, the streams and the journal from its base stand for
-abbrev pub pair_of : {M : Type 0} → StoreValue → Streams M → Journal → Start → Config → Fates → PairState
+abbrev pub pair_of : StoreValue → Streams → Journal → Start → Config → Fates → PairState
 pair_of s streams journal base limits fates = record {
   state = state_in s streams;
   base = base.state;
@@ -33,7 +33,7 @@ pair_of s streams journal base limits fates = record {
 -- The blocks stand for the state to which the journal leads from the base, each entry of it is a legal step, and names a band that queues have; no more
 -- is booked than a ledger can hold; the numbers that are kept beside the blocks are those of the blocks, and nothing is in hand; what has gone is told
 -- by its rules, from what had gone at the base on; and the sizes are those that the pair was made with.
-pub record IsKept {M : Type 0} (K : Behaviour) (s : StoreValue) (streams : Streams M) (journal : Journal) (base : Start) (limits : Config)
+pub record IsKept (K : Behaviour) (s : StoreValue) (streams : Streams) (journal : Journal) (base : Start) (limits : Config)
     (fates : Fates) : Type 0 where
   pub based : IsBase base.state base.fates
   pub replayed : state_in s streams ≡ led_to K base journal
@@ -42,13 +42,14 @@ pub record IsKept {M : Type 0} (K : Behaviour) (s : StoreValue) (streams : Strea
   pub few : FewBooked (state_in s streams)
   pub told : fates ≡ told_by K plain base.state (journal_of journal) base.fates
   pub held : AreHeld s streams
+  pub known : all_known K (state_in s streams) ≡ true
   pub mblks : s.mblks ≡ limits.mblks
   pub dblks : s.dblks ≡ limits.dblks
   pub events : journal.most_entries ≡ limits.journal_events
   pub bytes : journal.most_bytes ≡ limits.journal_bytes
 
 -- So it is of each pair from the base of its journal, whose text is written.
-pub record IsWhole {M : Type 0} (K : Behaviour) (s : StoreValue) (streams : Streams M) (journal : Journal) (base : Base) (limits : Config)
+pub record IsWhole (K : Behaviour) (s : StoreValue) (streams : Streams) (journal : Journal) (base : Base) (limits : Config)
     (fates : Fates) : Type 0 where
   pub kept : IsKept K s streams journal (start_in base) limits fates
   pub written : IsWritten base limits

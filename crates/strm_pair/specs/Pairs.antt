@@ -8,7 +8,7 @@ use Rattle.strm_pair.specs.Streams.{stream_in, AreSides}
 use Rattle.strm_pair.specs.Stacks.{stack_keeps}
 
 -- the plain state
-abbrev pub state_in : {M : Type 0} → StoreValue → Streams M → State ℕ
+abbrev pub state_in : StoreValue → Streams → State ℕ
 state_in s p = record {
   ends = map_both (stream_in s) p.ends;
   locked = p.locked;
@@ -18,23 +18,23 @@ state_in s p = record {
 }
 
 -- the stream of a side
-abbrev pub end_at : {M : Type 0} → Side → Streams M → StreamEnd M
+abbrev pub end_at : Side → Streams → StreamEnd
 end_at side p = get side p.ends
 
 -- the streams with another stream on a side
-abbrev pub with_end : {M : Type 0} → Side → StreamEnd M → Streams M → Streams M
+abbrev pub with_end : Side → StreamEnd → Streams → Streams
 with_end side e p = record p { ends = set side e p.ends }
 
 -- the store and the streams beside it fit, whatever is in hand
-abbrev pub AreBeside : {M : Type 0} → StoreValue → Streams M → Type 0
+abbrev pub AreBeside : StoreValue → Streams → Type 0
 AreBeside s p = AreSides s p.ends
 
 -- how often the stacks of both sides keep a message of a name in hand
-abbrev pub kept_by : {M : Type 0} → Streams M → ℕ → ℕ
+abbrev pub kept_by : Streams → ℕ → ℕ
 kept_by p i = stack_keeps (end_at Master p).stack i + stack_keeps (end_at Slave p).stack i
 
 -- the same while nobody is in a call: nothing is in hand
-pub record AreHeld {M : Type 0} (s : StoreValue) (p : Streams M) : Type 0 where
+pub record AreHeld (s : StoreValue) (p : Streams) : Type 0 where
   pub hand : s.hand ≡ []
   pub beside : AreBeside s p
 

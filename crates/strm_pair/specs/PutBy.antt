@@ -13,7 +13,7 @@ use Rattle.strm_pair.specs.Stacks.{modules_in, Stack}
 
 -- A put did what a definition says: the message has gone, and what is sent on has come in hand, beside what the stacks keep. No more
 -- blocks of each kind were taken than `takes`.
-pub record PutBy {M : Type 0} (old new : StoreValue) (p q : Streams M) (message takes : ℕ) (sent_on : List Sent) (told told' : Fates) (is : Took ℕ (State ℕ)) : Type 0 where
+pub record PutBy (old new : StoreValue) (p q : Streams) (message takes : ℕ) (sent_on : List Sent) (told told' : Fates) (is : Took ℕ (State ℕ)) : Type 0 where
   pub state : state_in new q ≡ is.state
   pub sent : parcels_in new sent_on ≡ is.sent
   pub tells : told' ≡ tallied is.gone told
@@ -25,7 +25,7 @@ pub record PutBy {M : Type 0} (old new : StoreValue) (p q : Streams M) (message 
 
 -- A put at an open head did what a definition says: the message has gone, and this is to be sent down. No block was taken, the stacks keep what
 -- they did, and an M_DATA or M_PROTO frees none.
-pub record CameBy {M : Type 0} (old new : StoreValue) (p q : Streams M) (message : ℕ) (down : List (Parcel ℕ)) (told told' : Fates) (is : Took ℕ (State ℕ)) : Type 0 where
+pub record CameBy (old new : StoreValue) (p q : Streams) (message : ℕ) (down : List (Parcel ℕ)) (told told' : Fates) (is : Took ℕ (State ℕ)) : Type 0 where
   pub state : state_in new q ≡ is.state
   pub down_is : down ≡ is.sent
   pub tells : told' ≡ tallied is.gone told
@@ -39,7 +39,7 @@ abbrev pub taken_at : (K : Behaviour) → Spot → Message ℕ → List (Standin
 taken_at K to m ms = put_among (module_puts K plain 0) (to.at - 1) to m ms
 
 -- A stack of modules took a message at a place.
-abbrev pub StackTakes : {M : Type 0} (K : Behaviour) (old new : StoreValue) → (x y : Stack M) → (message : ℕ) → Spot → Acts → (told told' : Fates)
+abbrev pub StackTakes : (K : Behaviour) (old new : StoreValue) → (x y : Stack) → (message : ℕ) → Spot → Acts → (told told' : Fates)
     → Type 0
 StackTakes K old new x y message to acts told told' =
     let m = message_in old message in

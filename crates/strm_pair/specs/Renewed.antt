@@ -4,7 +4,7 @@ use Rattle.strm_pair.specs.Prelude.{Openness, new_head, StoreValue, Keeps, head_
 use Rattle.strm_pair.specs.declared.ends.StreamEnd.{StreamEnd}
 
 -- Its head is as new, with nothing on its queue. It is open or closed as said, and all else of it stays.
-pub record RenewsHead {M : Type 0} (old new : StoreValue) (x y : StreamEnd M) (openness : Openness) : Type 0 where
+pub record RenewsHead (old new : StoreValue) (x y : StreamEnd) (openness : Openness) : Type 0 where
   pub head : head_in new y.head ≡ new_head
   pub opened : y.opened ≡ openness
   pub driver : y.driver ≡ x.driver

@@ -1,11 +1,9 @@
 -- Queues of a text in a store.
-use Rattle.std.specs.Prelude.{ℕ, ◌≡◌, ◌≢◌, ◌≤◌, ◌+◌, Bool, false, true, List, length, slice_index_or, sum_by}
-use Rattle.strm_pair.specs.Prelude.{StoreValue, list_at, IsReady, LdtermText, blocks_of, messages_now, Behaviour}
+use Rattle.std.specs.Prelude.{ℕ, ◌≡◌, ◌≢◌, ◌≤◌, ◌+◌, Bool, false, List, length, slice_index_or, sum_by}
+use Rattle.strm_pair.specs.Prelude.{StoreValue, list_at, IsReady, LdtermText, blocks_of, messages_now}
 use Rattle.strm_types.specs.declared.keys.TheConstants.{LINE_MAX}
-use Rattle.strm_types.specs.declared.limits.TheConstants.{SETTINGS_MAX}
 use Rattle.strm_types.specs.declared.output.TheConstants.{COLUMN_MAX}
 use Rattle.strm_types.specs.Queue as plain
-use Rattle.strm_image.specs.declared.modules.OwnText.{OwnText}
 use Rattle.strm_queue.specs.declared.queue.Queue.{Queue}
 
 -- the flow control of a band that there isn't
@@ -35,11 +33,6 @@ ldterm_blocks l = sum_by blocks_of (messages_now l.read_queue.messages) + sum_by
 pub record IsLdtermText (l : LdtermText) : Type 0 where
   pub column : l.column ≤ COLUMN_MAX
   pub line : length l.line.now ≤ LINE_MAX
-
--- what the text of a module of a user's own has, where there are modules of its number
-pub record IsOwnText (K : Behaviour) (o : OwnText) : Type 0 where
-  pub known : K.knows o.number ≡ true
-  pub few : length o.settings.now ≤ SETTINGS_MAX
 
 -- two lists of a store, from a number on, may have changed, and no other one, nor what is in hand
 pub record FillsTwo (old new : StoreValue) (first : ℕ) : Type 0 where

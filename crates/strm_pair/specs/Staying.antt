@@ -14,7 +14,7 @@ pub record ComesToStand (s : State ℕ) (to : Spot) (m : Message ℕ) : Type 0 w
   pub kept : IsKeptAhead to.way to.side s
 
 -- such a message frees no block
-abbrev pub KeepsBlocks : {M : Type 0} (old new : StoreValue) → Streams M → Spot → ℕ → Type 0
+abbrev pub KeepsBlocks : (old new : StoreValue) → Streams → Spot → ℕ → Type 0
 KeepsBlocks old new p to message = ComesToStand (state_in old p) to (message_in old message) → FreesNone old new
 
 -- What is sent on from a spot, where it is one such message or none, stays.

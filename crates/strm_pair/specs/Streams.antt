@@ -23,7 +23,7 @@ pub record AreShown (s : StoreValue) (first : ℕ) (ps : List (plain.Standing �
   pub many : sum_by (λ q. length q.messages) (plain.queues_of_modules ps) ≡ length (list_at s first) + length (list_at s (first + 1))
 
 -- the plain stream of a side
-abbrev pub stream_in : {M : Type 0} → StoreValue → StreamEnd M → Stream ℕ
+abbrev pub stream_in : StoreValue → StreamEnd → Stream ℕ
 stream_in s e = record {
   opened = e.opened;
   head = head_in s e.head;
@@ -45,7 +45,7 @@ AreApart ps = EachOnce (map plain.module_name ps)
 -- A side's queues stand on lists of their own, from a number on: the head's, which has what readers may read alone, and the
 -- driver's, with their kept numbers right; two more are for the queues of a module, and empty where none has them. Each module stands there once. While
 -- no module has the first of the two, the tables for its queues are on the shelf.
-pub record IsSide {M : Type 0} (s : StoreValue) (first : ℕ) (e : StreamEnd M) : Type 0 where
+pub record IsSide (s : StoreValue) (first : ℕ) (e : StreamEnd) : Type 0 where
   pub head_list : e.head.queue.list ≡ first
   pub driver_list : e.driver.list ≡ first + 1
   pub head : IsHeadQueue s e.head.queue
@@ -57,5 +57,5 @@ pub record IsSide {M : Type 0} (s : StoreValue) (first : ℕ) (e : StreamEnd M) 
   pub shelf : stack_owns e.stack (first + 2) ≡ 0 → is_some e.shelf ≡ true
 
 -- Both sides beside their store, whatever is in hand, each on lists of its own.
-abbrev pub AreSides : {M : Type 0} → StoreValue → Both (StreamEnd M) → Type 0
+abbrev pub AreSides : StoreValue → Both StreamEnd → Type 0
 AreSides s ends = AllSides (λ side e. IsSide s (first_list side) e) ends

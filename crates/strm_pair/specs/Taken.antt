@@ -14,14 +14,14 @@ abbrev pub let_go_of : Side → Rule → Standing ℕ → Acted ℕ (Standing �
 let_go_of side rule p = cleared kind_line without_kind_line side rule p
 
 -- No module stood there, and nothing changed.
-pub record TookNone {M : Type 0} (old new : StoreValue) (x y : Stack M) (told told' : Fates) : Type 0 where
+pub record TookNone (old new : StoreValue) (x y : Stack) (told told' : Fates) : Type 0 where
   pub none : modules_in old x ≡ []
   pub store : new ≡ old
   pub stack : y ≡ x
   pub tells : told' ≡ told
 
 -- It was on top of the others, which stay. Its lists are empty now, and the lists that weren't the stack's are as they were.
-pub record TookTop {M : Type 0} (side : Side) (rule : Rule) (old new : StoreValue) (x y : Stack M) (told told' : Fates) (taken : Taken) : Type 0 where
+pub record TookTop (side : Side) (rule : Rule) (old new : StoreValue) (x y : Stack) (told told' : Fates) (taken : Taken) : Type 0 where
   pub top : Standing ℕ
   pub rest : List (Standing ℕ)
   pub was : modules_in old x ≡ top ∷ rest
@@ -38,7 +38,7 @@ pub record TookTop {M : Type 0} (side : Side) (rule : Rule) (old new : StoreValu
   pub frees : FreesBlocks old new
 
 -- The module on top of a side's stream has gone, and its name is told, where one stood there. No block was taken.
-pub record WithoutTop {M : Type 0} (side : Side) (rule : Rule) (old new : StoreValue) (p q : Streams M) (told told' : Fates) (name : Option ModuleName) : Type 0 where
+pub record WithoutTop (side : Side) (rule : Rule) (old new : StoreValue) (p q : Streams) (told told' : Fates) (name : Option ModuleName) : Type 0 where
   pub name_is : name ≡ top_on side (state_in old p)
   pub leads : let st = state_in old p in let is = top_taken rule side (stream side st).modules st in Leads old new q told told' is.state is.gone
   pub frees : FreesBlocks old new

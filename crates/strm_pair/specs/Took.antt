@@ -16,7 +16,7 @@ abbrev pub settling_relieves : ℕ → Queue ℕ → Bool
 settling_relieves size q = not (size == 0) && relieves (turned_queue q)
 
 -- It is in hand, and as many blocks are free as before.
-pub record TookFirst {M : Type 0} (side : Side) (old new : StoreValue) (p q : Streams M) (i : ℕ) : Type 0 where
+pub record TookFirst (side : Side) (old new : StoreValue) (p q : Streams) (i : ℕ) : Type 0 where
   pub rest : List (Message ℕ)
   pub first : (stream side (state_in old p)).driver.queue.messages ≡ message_of (in_hand new i) ∷ rest
   pub state : state_in new q ≡ with_driver side (left_with rest (stream side (state_in old p)).driver.queue) (state_in old p)
@@ -28,7 +28,7 @@ pub record TookFirst {M : Type 0} (side : Side) (old new : StoreValue) (p q : St
   pub frees : FreesBlocks old new
 
 -- A turn moved the first message, with all that this gave rise to.
-pub record MovesAcross {M : Type 0} (K : Behaviour) (side : Side) (old new : StoreValue) (p q : Streams M) (turn : Turn) (told told' : Fates) : Type 0
+pub record MovesAcross (K : Behaviour) (side : Side) (old new : StoreValue) (p q : Streams) (turn : Turn) (told told' : Fates) : Type 0
   where
     pub message : Message ℕ
     pub rest : List (Message ℕ)

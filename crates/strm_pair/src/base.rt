@@ -8,7 +8,6 @@ ghost use Rattle.strm_pair.specs.BaseTexts.{start_in, begun_at, made_of};
 ghost use Rattle.strm_pair.specs.Pairs.{AreHeld, state_in};
 
 use crate::images::whole::image_into;
-use crate::own::OwnModule;
 use crate::past::Past;
 use crate::streams::Streams;
 use crate::zeros::{give_back, shorten};
@@ -37,12 +36,7 @@ impl Drop for Base {
 }
 
 // The image of streams over their store, in memory that takes it. It is written again only where it is longer than what stood there.
-fn text_of<B: Blocks, M: OwnModule>(
-    store: &B,
-    streams: &Streams<M>,
-    fates: &Fates,
-    memory: Vec<u8>,
-) -> Vec<u8>
+fn text_of<B: Blocks>(store: &B, streams: &Streams, fates: &Fates, memory: Vec<u8>) -> Vec<u8>
     requires held { AreHeld (B.value store.now) streams.now }
     requires room { length (image.text (Second, imaged (state_in (B.value store.now) streams.now) fates.now)) ≤ vec_capacity memory }
     ensures text { result.items ≡ image.text (Second, imaged (state_in (B.value store.now) streams.now) fates.now) }
@@ -70,12 +64,7 @@ fn made_of(fates: &Fates) -> Both<u64>
 
 impl Base {
     /// A base at what streams over their store stand for, with what has gone by each rule; no entry led to it. The cost is that of the image.
-    pub fn at<B: Blocks, M: OwnModule>(
-        store: &B,
-        streams: &Streams<M>,
-        fates: &Fates,
-        memory: Vec<u8>,
-    ) -> Base
+    pub fn at<B: Blocks>(store: &B, streams: &Streams, fates: &Fates, memory: Vec<u8>) -> Base
         requires held { AreHeld (B.value store.now) streams.now }
         requires has { HasImage (imaged (state_in (B.value store.now) streams.now) fates.now) }
         requires room { length (image.text (Second, imaged (state_in (B.value store.now) streams.now) fates.now)) ≤ vec_capacity memory }
@@ -92,7 +81,7 @@ impl Base {
 
     /// Goes to what streams over their store stand for, with what has gone by each rule. The memory stays, and the entries before. The cost is
     /// that of the image.
-    pub fn write<B: Blocks, M: OwnModule>(&mut self, store: &B, streams: &Streams<M>, fates: &Fates)
+    pub fn write<B: Blocks>(&mut self, store: &B, streams: &Streams, fates: &Fates)
         requires held { AreHeld (B.value store.now) streams.now }
         requires has { HasImage (imaged (state_in (B.value store.now) streams.now) fates.now) }
         requires room { length (image.text (Second, imaged (state_in (B.value store.now) streams.now) fates.now)) ≤ vec_capacity self.old.text }

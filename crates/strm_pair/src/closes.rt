@@ -15,14 +15,14 @@ use strm_frame::clear_queue;
 use strm_head::make_flush;
 use strm_types::{Answer, Band, Fates, FlushAsked, FlushQueues, Rule, Side, Spot, Way};
 
-impl<M: OwnModule> Streams<M> {
+impl Streams {
     ghost use Rattle.strm_types.specs.declared.names.Side.TheVariants.{Slave};
     ghost use Rattle.strm_pair.specs.Effects.{AreAtRest, Becomes, Delivers, Leads, MayDeliver};
     ghost use Rattle.strm_pair.specs.Pairs.{state_in, AreHeld};
 
     /// Flushes a side's stream: an M_FLUSH goes down from its head, with all that it gives rise to.
     #[inline(never)]
-    pub fn flush<B: Blocks>(
+    pub fn flush<B: Blocks, M: OwnModule>(
         &mut self,
         store: &mut B,
         side: Side,
@@ -41,7 +41,7 @@ impl<M: OwnModule> Streams<M> {
             at: 1,
             way: Way::Down,
         };
-        self.deliver_alone(store, below, message, told);
+        self.deliver_alone::<B, M>(store, below, message, told);
         Answer::Done
     }
 

@@ -5,14 +5,13 @@ ghost use Rattle.strm_types.specs.Queue.{bytes_of};
 ghost use Rattle.strm_pair.specs.Shows.{count_at, first_at, full_at, messages_at};
 
 use crate::named_queues::{count_named, first_size_named, is_full_named, sizes_named};
-use crate::own::OwnModule;
 use crate::streams::Streams;
 use strm_blocks::Blocks;
 use strm_queue::lengths::first_size;
 use strm_queue::standing::{count, is_full, sizes};
 use strm_types::{Band, Place, QueueName, Way};
 
-impl<M: OwnModule> Streams<M> {
+impl Streams {
     ghost use Rattle.strm_pair.specs.Pairs.{state_in, AreHeld};
 
     /// How many bytes count in a band of a queue.

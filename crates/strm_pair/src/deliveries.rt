@@ -15,13 +15,13 @@ use strm_blocks::{Blocks, InHand};
 use strm_frame::deliver;
 use strm_types::{Fates, HOPS, Spot};
 
-impl<M: OwnModule> Streams<M> {
+impl Streams {
     ghost use Rattle.strm_pair.specs.Effects.{Leads};
     ghost use Rattle.strm_pair.specs.Pairs.{state_in};
 
     /// Delivers the one message in hand to a spot, with all that it gives rise to. Nothing is in hand behind it. As each module stands on a
     /// stream once at most, it takes few blocks, and little of the books.
-    pub(crate) fn deliver_alone<B: Blocks>(
+    pub(crate) fn deliver_alone<B: Blocks, M: OwnModule>(
         &mut self,
         store: &mut B,
         to: Spot,
@@ -36,6 +36,6 @@ impl<M: OwnModule> Streams<M> {
         ensures takes { let s = B.value store.old in let t = B.value store.new in
             Takes s t (spare (state_in s self.old)) (spare (state_in t self.new)) (most_of to (message_in s (token message))) 0 }
     {
-        deliver(store, self, HOPS, to, message, told);
+        deliver::<M, B, Streams>(store, self, HOPS, to, message, told);
     }
 }

@@ -43,7 +43,7 @@ fn settle<B: Blocks>(store: &B, queue: &mut Queue, size: usize) -> TurnEnd
     }
 }
 
-impl<M: OwnModule> Streams<M> {
+impl Streams {
     ghost use Rattle.strm_blocks.specs.Blocks.{token};
     ghost use Rattle.strm_pair.specs.Effects.{AreAtRest, Becomes, Delivers, MayDeliver};
     ghost use Rattle.strm_pair.specs.Pairs.{state_in, end_at, AreBeside, AreHeld};
@@ -71,7 +71,12 @@ impl<M: OwnModule> Streams<M> {
     }
 
     // A driver's first message goes up the other side's stream, with all that it gives rise to.
-    fn move_across<B: Blocks>(&mut self, store: &mut B, side: Side, told: &mut Fates) -> Turn
+    fn move_across<B: Blocks, M: OwnModule>(
+        &mut self,
+        store: &mut B,
+        side: Side,
+        told: &mut Fates,
+    ) -> Turn
         requires may { MayDeliver (B.value store.old) self.old 8 }
         requires some { is_none_left (messages_on (B.value store.old) (end_at side self.old).driver.list) ≡ false }
         ensures { MovesAcross M.does side (B.value store.old) (B.value store.new) self.old self.new result told.old told.new }
@@ -89,7 +94,7 @@ impl<M: OwnModule> Streams<M> {
             at: at as u8,
             way: Way::Up,
         };
-        self.deliver_alone(store, up, message, told);
+        self.deliver_alone::<B, M>(store, up, message, told);
         // Behind the delivery: this queue, and the one that is let go, are enabled behind all that the message has enabled.
         self.end_turn(store, side, size);
         Turn::Moved(size as u32)
@@ -115,7 +120,7 @@ impl<M: OwnModule> Streams<M> {
 
     /// A turn of a side's driver, which is off the list of enabled queues: its first message goes up the other side's stream,
     /// unless that isn't open or the next queue there is full.
-    pub(crate) fn turn_driver<B: Blocks>(
+    pub(crate) fn turn_driver<B: Blocks, M: OwnModule>(
         &mut self,
         store: &mut B,
         side: Side,
@@ -142,6 +147,6 @@ impl<M: OwnModule> Streams<M> {
             self.wait_past(above, Way::Up, at, first.band);
             return Turn::Blocked;
         }
-        self.move_across(store, side, told)
+        self.move_across::<B, M>(store, side, told)
     }
 }

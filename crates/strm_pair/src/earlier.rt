@@ -9,7 +9,6 @@ ghost use Rattle.strm_types.specs.Names.{enable_some};
 ghost use Rattle.strm_laws.specs.Puts.{noted};
 ghost use Rattle.strm_pair.specs.Nearest.{earlier_of, noted_on};
 
-use crate::own::OwnModule;
 use crate::stacks::{module_count, place_at};
 use crate::streams::Streams;
 use strm_blocks::Blocks;
@@ -76,7 +75,7 @@ fn before_modules(side: Side, way: Way, count: usize, at: usize) -> Option<Queue
     }
 }
 
-impl<M: OwnModule> Streams<M> {
+impl Streams {
     ghost use Rattle.strm_blocks.specs.Blocks.{StoreValue};
     ghost use Rattle.strm_pair.specs.Pairs.{state_in};
 

@@ -9,7 +9,6 @@ ghost use Rattle.strm_pair.specs.Lists.{first_list};
 ghost use Rattle.strm_types.specs.declared.names.Openness.TheVariants.{Open, Closed};
 ghost use Rattle.strm_queue.specs.Stored.{IsReady};
 
-use crate::own::OwnModule;
 use crate::stacks::{Stack, take_modules};
 use strm_blocks::Blocks;
 use strm_frame::Tables;
@@ -31,16 +30,16 @@ pub(crate) fn first_list(side: Side) -> usize
 /// The stream of one side: its head, its modules and its driver's queue, and whether it was opened. The tables of the bands of all its
 /// queues are made with it, so that a push asks for no memory.
 #[derive(Drop)]
-pub(crate) struct StreamEnd<M: OwnModule> {
+pub(crate) struct StreamEnd {
     pub opened: Openness,
     pub head: Head,
-    pub stack: Stack<M>,
+    pub stack: Stack,
     pub driver: Queue,
     /// The tables for the queues of a module, while no module that has queues stands on the stack.
     pub shelf: Option<Tables>,
 }
 
-impl<M: OwnModule> StreamEnd<M> {
+impl StreamEnd {
     // Makes the head as new, with nothing on its queue.
     fn renew_head<B: Blocks>(&mut self, store: &mut B)
         requires { IsReady (B.value store.old) self.old.head.queue }

@@ -17,7 +17,7 @@ use strm_blocks::Blocks;
 use strm_head::make_ioctl;
 use strm_types::{Answer, Content, Fates, Ioc, Side, Spot, Way, asks_group};
 
-impl<M: OwnModule> Streams<M> {
+impl Streams {
     ghost use Rattle.strm_pair.specs.Effects.{Becomes, Delivers, MayDeliver};
     ghost use Rattle.strm_pair.specs.Pairs.{state_in, AreHeld};
 
@@ -41,7 +41,7 @@ impl<M: OwnModule> Streams<M> {
     }
 
     // An ioctl of the next number is under way, and its M_IOCTL goes down from a side's head, with all that it gives rise to.
-    fn send_ioctl<B: Blocks>(
+    fn send_ioctl<B: Blocks, M: OwnModule>(
         &mut self,
         store: &mut B,
         side: Side,
@@ -62,7 +62,7 @@ impl<M: OwnModule> Streams<M> {
             at: 1,
             way: Way::Down,
         };
-        self.deliver_alone(store, below, message, told);
+        self.deliver_alone::<B, M>(store, below, message, told);
     }
 
     /// Tells what became of the ioctl under way on a side's stream, once: its answer, with its bytes in `out`, or its number
@@ -100,7 +100,7 @@ impl<M: OwnModule> Streams<M> {
     /// An ioctl of the next number: the slave's head answers those of the foreground process group. Else the command is sent down from the
     /// side's head, with these bytes, and its answer is told if it came at once, else its number.
     #[inline(never)]
-    pub fn ioctl<B: Blocks>(
+    pub fn ioctl<B: Blocks, M: OwnModule>(
         &mut self,
         store: &mut B,
         side: Side,
@@ -123,7 +123,7 @@ impl<M: OwnModule> Streams<M> {
         if asks_group(side, command) {
             return self.tell_group(side, command, body, out);
         }
-        self.send_ioctl(store, side, command, body, told);
+        self.send_ioctl::<B, M>(store, side, command, body, told);
         self.tell_ioctl(side, out)
     }
 

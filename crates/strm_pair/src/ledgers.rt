@@ -4,7 +4,6 @@ ghost use Rattle.std.specs.Prelude.{ℕ, ◌≡◌, ◌<◌, ◌≤◌, ◌^◌,
 ghost use Rattle.strm_laws.specs.Ledgers.{inline};
 ghost use Rattle.strm_laws.specs.State.{book};
 
-use crate::own::OwnModule;
 use crate::streams::Streams;
 use strm_blocks::Blocks;
 use strm_types::{Book, Dir, Side};
@@ -20,7 +19,7 @@ pub(crate) fn sum(counts: &[u64]) -> u64
     *first + sum(rest)
 }
 
-impl<M: OwnModule> Streams<M> {
+impl Streams {
     ghost use Rattle.strm_blocks.specs.Blocks.{StoreValue};
     ghost use Rattle.strm_pair.specs.Pairs.{state_in};
 

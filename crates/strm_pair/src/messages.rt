@@ -31,7 +31,7 @@ fn len_of(lent: Option<&[u8]>) -> usize
     }
 }
 
-impl<M: OwnModule> Streams<M> {
+impl Streams {
     ghost use Rattle.strm_pair.specs.Effects.{Becomes, Delivers, Leads, MayDeliver};
     ghost use Rattle.strm_pair.specs.Pairs.{state_in, AreHeld};
 
@@ -45,7 +45,7 @@ impl<M: OwnModule> Streams<M> {
     /// Sends a message of these parts down from a side's head, with all that it gives rise to, and books their bytes as written.
     /// Without either part nothing is sent.
     #[inline(never)]
-    pub fn putmsg<B: Blocks>(
+    pub fn putmsg<B: Blocks, M: OwnModule>(
         &mut self,
         store: &mut B,
         side: Side,
@@ -70,7 +70,7 @@ impl<M: OwnModule> Streams<M> {
             at: 1,
             way: Way::Down,
         };
-        self.deliver_alone(store, below, message, told);
+        self.deliver_alone::<B, M>(store, below, message, told);
         let book = with_written(self.book_of(side), len_of(control) + len_of(body));
         self.keep_book(side, book);
         Answer::Done

@@ -30,7 +30,7 @@ pub(crate) enum Begun {
     Serves(Spot),
 }
 
-impl<M: OwnModule> Streams<M> {
+impl Streams {
     ghost use Rattle.strm_pair.specs.Effects.{AreAtRest, Leads, MayDeliver};
     ghost use Rattle.strm_pair.specs.Pairs.{free_in, state_in, AreBeside, AreHeld, kept_by};
 
@@ -78,7 +78,11 @@ impl<M: OwnModule> Streams<M> {
     /// Begins a turn of a module's queue, which is off the list of enabled queues. Where no module has such a queue, or nothing stands
     /// there, the turn is over as an idle one; where its first message may not go on, as a blocked one, and a writer waits for room
     /// where that is what it asks for. Nothing of a turn is under way.
-    pub(crate) fn begin_module_turn<B: Blocks>(&mut self, store: &B, name: QueueName) -> Begun
+    pub(crate) fn begin_module_turn<B: Blocks, M: OwnModule>(
+        &mut self,
+        store: &B,
+        name: QueueName,
+    ) -> Begun
         requires { AreAtRest (B.value store.now) self.old }
         ensures begins { BeginsAs M.does (state_in (B.value store.now) self.old) (state_in (B.value store.now) self.new)
             name result }
@@ -123,7 +127,7 @@ impl<M: OwnModule> Streams<M> {
 
     /// A turn of a module's queue, which is off the list of enabled queues: its first message is treated, as far as the blocks that are
     /// free allow and for a byte at least where it has any, unless it may not go on.
-    pub(crate) fn turn_module<B: Blocks>(
+    pub(crate) fn turn_module<B: Blocks, M: OwnModule>(
         &mut self,
         store: &mut B,
         name: QueueName,
@@ -137,10 +141,10 @@ impl<M: OwnModule> Streams<M> {
         ensures stops { (owner : ModuleName) → name.place ≡ Module owner →
             MovesOn (state_in (B.value store.old) self.old) (free_in (B.value store.new)) name result }
     {
-        match self.begin_module_turn(store, name) {
+        match self.begin_module_turn::<B, M>(store, name) {
             Begun::Over(turn) => turn,
             Begun::Serves(here) => {
-                let bytes = self.call_on(store, here, told);
+                let bytes = self.call_on::<B, M>(store, here, told);
                 self.end_module_turn(store, name, here, bytes > 0);
                 Turn::Moved(bytes as u32)
             }

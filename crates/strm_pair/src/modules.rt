@@ -8,42 +8,41 @@ ghost use Rattle.strm_laws.specs.Stacked.{OfPtem, without_kind_line};
 ghost use Rattle.strm_blocks.specs.Blocks.{StoreValue};
 ghost use Rattle.strm_pair.specs.AnyModules.{IsBare, IsMade, kind_in};
 
-use crate::own::OwnModule;
-use crate::owned::Owned;
+use crate::own::{Own, OwnModule};
 use strm_blocks::{Blocks, InHand};
-use strm_frame::{Acts, Module, QueuePair, Served};
+use strm_frame::{Acts, Module, PutProcedure, QueuePair, Served};
 use strm_ldterm::Ldterm;
 use strm_pty::{Pckt, Ptem};
 use strm_types::{Asks, Fates, ModuleName, Spot, Way};
 
 /// A module of any kind.
 #[derive(Drop)]
-pub enum AnyModule<M: OwnModule> {
+pub enum AnyModule {
     Ldterm(Ldterm),
     Ptem(Ptem),
     Pckt(Pckt),
-    Own(Owned<M>),
+    Own(Own),
 }
 
-impl<M: OwnModule> Default for AnyModule<M> {
+impl Default for AnyModule {
     ghost is_default = { λ x. (s : StoreValue) → kind_in s x ≡ OfPtem new_ptem };
 
     /// What stands in the unused places of an array.
-    fn default() -> AnyModule<M> {
+    fn default() -> AnyModule {
         AnyModule::Ptem(Ptem::new())
     }
 }
 
-impl<M: OwnModule> AnyModule<M> {
+impl AnyModule {
     /// One as its name makes it. `None` where there are no modules of the name.
-    pub(crate) fn made(name: ModuleName) -> Option<AnyModule<M>>
+    pub(crate) fn made<M: OwnModule>(name: ModuleName) -> Option<AnyModule>
         ensures { MatchOption result (is_known M.does name ≡ false) (IsMade M.does name) }
     {
         match name {
             ModuleName::Ldterm => Some(AnyModule::Ldterm(Ldterm::new())),
             ModuleName::Ptem => Some(AnyModule::Ptem(Ptem::new())),
             ModuleName::Pckt => Some(AnyModule::Pckt(Pckt)),
-            ModuleName::Own(number) => match Owned::made(number) {
+            ModuleName::Own(number) => match M::made(number) {
                 Some(own) => Some(AnyModule::Own(own)),
                 None => None,
             },
@@ -61,10 +60,9 @@ impl<M: OwnModule> AnyModule<M> {
     }
 }
 
-impl<M: OwnModule> Module for AnyModule<M> {
+impl Module for AnyModule {
     ghost use Rattle.strm_types.specs.Cells as cells;
     ghost use Rattle.strm_types.specs.Tables.{name_does, name_holds};
-    ghost use Rattle.strm_laws.proofs.PutsWithin.{module-within};
     ghost use Rattle.strm_laws.specs.Stacked as plain;
     ghost use Rattle.strm_types.specs.LdtermCalls.{Ends};
     ghost use Rattle.strm_laws.specs.TurnCalls.{discipline_of};
@@ -80,7 +78,7 @@ impl<M: OwnModule> Module for AnyModule<M> {
 
     ghost keeps = { λ x. any.kind_keeps x };
 
-    ghost puts = { λ here m x. plain.module_puts M.does cells.plain 0 here m x };
+    ghost puts = { λ own here m x. plain.puts_by own cells.plain 0 here m x };
 
     ghost line_of = { plain.kind_line };
 
@@ -106,22 +104,6 @@ impl<M: OwnModule> Module for AnyModule<M> {
             AnyModule::Ptem(ptem) => Module::name(ptem),
             AnyModule::Pckt(pckt) => Module::name(pckt),
             AnyModule::Own(own) => Module::name(own),
-        }
-    }
-
-    fn put<B: Blocks>(
-        &mut self,
-        queues: &mut Option<QueuePair>,
-        store: &mut B,
-        here: Spot,
-        message: InHand,
-        told: &mut Fates,
-    ) -> Acts {
-        match self {
-            AnyModule::Ldterm(ldterm) => ldterm.put(queues, store, here, message, told),
-            AnyModule::Ptem(ptem) => ptem.put(queues, store, here, message, told),
-            AnyModule::Pckt(pckt) => pckt.put(queues, store, here, message, told),
-            AnyModule::Own(own) => own.put(queues, store, here, message, told),
         }
     }
 
@@ -168,8 +150,6 @@ impl<M: OwnModule> Module for AnyModule<M> {
         }
     }
 
-    ghost within = { λ here m x. module-within M.does cells.plain 0 here m x };
-
     ghost frame = { λ s t x queues others lists same held. any.module-frame s t x queues others lists same held };
 
     ghost rested = { λ s t x queues others lists none held. any.module-rested s t x queues others lists none held };
@@ -180,7 +160,33 @@ impl<M: OwnModule> Module for AnyModule<M> {
 
     ghost turn_goes = { λ here again stop x may. any.serves-on here again stop x.part x.queues may };
 
-    ghost put_stays = { λ here m x way again may. any.puts-serve M.does here m way again x.part x.queues may };
-
     ghost line_stays = { λ p way again may. any.line-serves way again p may };
+}
+
+impl<M: OwnModule> PutProcedure<M> for AnyModule {
+    ghost use Rattle.strm_types.specs.Cells as cells;
+    ghost use Rattle.strm_laws.proofs.PutsWithin.{module-within};
+    ghost use Rattle.strm_pair.specs.AnyModules as any;
+
+    ghost by = { λ here m x. M.does.puts cells.plain here m x };
+
+    fn put<B: Blocks>(
+        &mut self,
+        queues: &mut Option<QueuePair>,
+        store: &mut B,
+        here: Spot,
+        message: InHand,
+        told: &mut Fates,
+    ) -> Acts {
+        match self {
+            AnyModule::Ldterm(ldterm) => ldterm.put(queues, store, here, message, told),
+            AnyModule::Ptem(ptem) => ptem.put(queues, store, here, message, told),
+            AnyModule::Pckt(pckt) => pckt.put(queues, store, here, message, told),
+            AnyModule::Own(own) => PutProcedure::<M>::put(own, queues, store, here, message, told),
+        }
+    }
+
+    ghost within = { λ here m x. module-within M.does cells.plain 0 here m x };
+
+    ghost put_stays = { λ here m x way again may. any.puts-serve M.does here m way again x.part x.queues may };
 }

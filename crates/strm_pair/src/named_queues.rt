@@ -9,7 +9,6 @@ ghost use Rattle.strm_frame.specs.Stacks.{IsPlace};
 ghost use Rattle.strm_pair.specs.Named.{at_named, is_there, messages_named};
 ghost use Rattle.strm_pair.specs.Stacks.{modules_in, IsStackHeld};
 
-use crate::own::OwnModule;
 use crate::stacks::{Stack, module_count, place_at};
 use strm_blocks::Blocks;
 use strm_types::{Band, MODULES, Place, Way};
@@ -25,7 +24,7 @@ fn is_there(place: Place, found: Option<Place>) -> bool
 }
 
 /// The place of the module of a stack whose queues have a name, where one stands there.
-pub(crate) fn place_named<M: OwnModule>(stack: &Stack<M>, place: Place) -> Option<usize>
+pub(crate) fn place_named(stack: &Stack, place: Place) -> Option<usize>
     ensures place { (s : StoreValue) → result ≡ place_named place (modules_in s stack.now) }
     ensures inside { (s : StoreValue) → IsPlace (length (modules_in s stack.now)) result }
 {
@@ -39,8 +38,8 @@ pub(crate) fn place_named<M: OwnModule>(stack: &Stack<M>, place: Place) -> Optio
 }
 
 /// How many messages stand on a queue of that module, and how many bytes they have.
-pub(crate) fn sizes_named<B: Blocks, M: OwnModule>(
-    stack: &Stack<M>,
+pub(crate) fn sizes_named<B: Blocks>(
+    stack: &Stack,
     store: &B,
     place: Place,
     way: Way,
@@ -56,12 +55,7 @@ pub(crate) fn sizes_named<B: Blocks, M: OwnModule>(
 }
 
 /// How many bytes the first message on a queue of that module has.
-pub(crate) fn first_size_named<B: Blocks, M: OwnModule>(
-    stack: &Stack<M>,
-    store: &B,
-    place: Place,
-    way: Way,
-) -> usize
+pub(crate) fn first_size_named<B: Blocks>(stack: &Stack, store: &B, place: Place, way: Way) -> usize
     requires { IsStackHeld (B.value store.now) stack.now }
     ensures { result ≡ first_size (messages_named place way (modules_in (B.value store.now) stack.now)) }
 {
@@ -72,8 +66,8 @@ pub(crate) fn first_size_named<B: Blocks, M: OwnModule>(
 }
 
 /// How many bytes count in a band of a queue of that module.
-pub(crate) fn count_named<B: Blocks, M: OwnModule>(
-    stack: &Stack<M>,
+pub(crate) fn count_named<B: Blocks>(
+    stack: &Stack,
     store: &B,
     place: Place,
     way: Way,
@@ -89,8 +83,8 @@ pub(crate) fn count_named<B: Blocks, M: OwnModule>(
 }
 
 /// Whether a band of a queue of that module is full.
-pub(crate) fn is_full_named<B: Blocks, M: OwnModule>(
-    stack: &Stack<M>,
+pub(crate) fn is_full_named<B: Blocks>(
+    stack: &Stack,
     store: &B,
     place: Place,
     way: Way,

@@ -1,13 +1,15 @@
 //! Modules of a user's own, which are pushed on a side's stream beside those that are there (STREAMS Programming Guide, "Modules", "Put Procedures").
 
-ghost use Rattle.std.specs.Prelude.{◌≡◌, ◌≤◌, [], false, true, length, MatchOption};
+ghost use Rattle.std.specs.Prelude.{ℕ, ◌≡◌, ◌<◌, ◌≤◌, false, true, length, MatchOption};
 ghost use Rattle.strm_types.specs.Cells.{plain};
 ghost use Rattle.strm_types.specs.Budgets.{own_at};
 ghost use Rattle.strm_types.specs.Tables.{own_does};
-ghost use Rattle.strm_types.specs.declared.limits.TheConstants.{SETTINGS_MAX};
-ghost use Rattle.strm_laws.specs.Behaviours.{fresh_own};
+ghost use Rattle.strm_types.specs.declared.fates.Fates.{Fates};
+ghost use Rattle.strm_types.specs.declared.limits.TheConstants.{MODULES, SETTINGS_MAX};
+ghost use Rattle.strm_types.specs.Owns.{Own};
+ghost use Rattle.strm_laws.specs.Behaviours.{fresh_own, passes_all};
 ghost use Rattle.strm_laws.specs.Pushes.{is_known};
-ghost use Rattle.strm_blocks.specs.Blocks.{token};
+ghost use Rattle.strm_blocks.specs.Blocks.{StoreValue, token};
 ghost use Rattle.strm_frame.specs.Outboxes.{message_in};
 ghost use Rattle.strm_pty.specs.Beside.{MayPass};
 ghost use Rattle.strm_pair.specs.OwnPuts.{OwnPuts};
@@ -15,7 +17,7 @@ ghost use Rattle.strm_pair.specs.OwnPuts.{OwnPuts};
 use arrayvec::ArrayVec;
 use std::marker::Model;
 use strm_blocks::{Blocks, InHand};
-use strm_frame::Outbox;
+use strm_frame::{Outbox, Sent};
 use strm_laws::Behaves;
 use strm_types::{Fates, ModuleName, SETTINGS_MAX, Spot};
 
@@ -88,7 +90,8 @@ pub trait OwnModule: Behaves {
             (λ x. (Self.does.knows number ≡ true) × (x ≡ fresh_own Self.does number)) };
 
     /// Puts a message in hand at one, on its way up or down, and says what is sent on: `put(9E)`. What it drops it tells by its rule. It may be
-    /// called for any message, and counts on no free block.
+    /// called for any message and one of any number, and counts on no free block. What one of a number does of which there are none is
+    /// [`Behaves`]' to say; [`pass_on`] hands the message on.
     fn put<B: Blocks>(
         own: &mut Own,
         store: &mut B,
@@ -97,10 +100,22 @@ pub trait OwnModule: Behaves {
         told: &mut Fates,
     ) -> Outbox
         requires may { MayPass (B.value store.old) (token message) here }
-        requires known { Self.does.knows own.old.number ≡ true }
         ensures { let s = B.value store.old in let m = message_in s (token message) in
             OwnPuts s (B.value store.new) own.new (token message) (own_at own_does here m) result told.old told.new
             (Self.does.puts plain here m own.old) };
+}
+
+/// Hands a message on, as a module does that leaves it as it is (STREAMS Programming Guide, "Put Procedures").
+pub fn pass_on(here: Spot, message: InHand) -> Outbox
+    requires inside { 0 < here.at }
+    requires small { here.at ≤ MODULES }
+    ensures { (s : StoreValue) (own : Own) (told : Fates) (most : ℕ) → MayPass s (token message) here
+        → OwnPuts s s own (token message) most result told told (passes_all here (message_in s (token message)) own) }
+{
+    Outbox::one(Sent {
+        to: here.toward(here.way),
+        message,
+    })
 }
 
 /// Whether there are modules of a name: of those of a user's own there are some of the numbers that one can be made of.
@@ -128,14 +143,13 @@ impl OwnModule for NoModule {
         None
     }
 
-    // No number is known, so it is never called.
     fn put<B: Blocks>(
         _own: &mut Own,
         _store: &mut B,
-        _here: Spot,
-        _message: InHand,
+        here: Spot,
+        message: InHand,
         _told: &mut Fates,
     ) -> Outbox {
-        unreachable!()
+        pass_on(here, message)
     }
 }

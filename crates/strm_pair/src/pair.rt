@@ -35,7 +35,7 @@ use crate::past::Past;
 use crate::refusals::or_else;
 use crate::streams::{Streams, queue_tables};
 use std::alloc::Global;
-use std::marker::Model;
+use std::marker::{Model, PhantomData};
 use strm_blocks::Blocks;
 use strm_image::{IMAGE_BLOCK, IMAGE_FIXED};
 use strm_types::{
@@ -48,11 +48,12 @@ use strm_types::{
 #[derive(Drop)]
 pub struct Pair<B: Blocks + Drop, M: OwnModule = NoModule> {
     store: B,
-    streams: Streams<M>,
+    streams: Streams,
     journal: Journal,
     base: Base,
     limits: Config,
     fates: Fates,
+    of: PhantomData<M>,
 }
 
 /// What a pair's journal holds: the base at which it begins, as an image of version 2, its entries, and their bytes in order.
@@ -114,6 +115,7 @@ impl<B: Blocks + Drop, M: OwnModule> Pair<B, M> {
             base,
             limits,
             fates,
+            of: PhantomData,
         })
     }
 
@@ -314,7 +316,7 @@ impl<B: Blocks + Drop, M: OwnModule> Pair<B, M> {
             return Verdict::Refused(Refusal::Enosr);
         }
         self.streams
-            .verdict(&self.store, caller, event, needs.access)
+            .verdict::<B, M>(&self.store, caller, event, needs.access)
     }
 
     // The refusal of a turn, if any.
@@ -396,7 +398,9 @@ impl<B: Blocks + Drop, M: OwnModule> Pair<B, M> {
         if let Some(refusal) = self.turn_refusal(name) {
             return Err(refusal);
         }
-        let turn = self.streams.turn(&mut self.store, name, &mut self.fates);
+        let turn = self
+            .streams
+            .turn::<B, M>(&mut self.store, name, &mut self.fates);
         self.journal.add_turn(name, turn);
         Ok(turn)
     }

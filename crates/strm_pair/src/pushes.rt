@@ -64,7 +64,7 @@ pub(crate) struct TakenOff {
     pub met: bool,
 }
 
-impl<M: OwnModule> Streams<M> {
+impl Streams {
     ghost use Rattle.strm_blocks.specs.Blocks.{StoreValue};
     ghost use Rattle.strm_pair.specs.Effects.{AreAtRest, Leads};
     ghost use Rattle.strm_pair.specs.Pairs.{state_in, end_at, with_end, AreHeld};
@@ -169,7 +169,7 @@ impl<M: OwnModule> Streams<M> {
     }
 
     // A side's head is told its read mode, and that TOSTOP isn't set, where there is a mode to tell, by an M_SETOPTS that comes up to it.
-    fn put_mode<B: Blocks>(
+    fn put_mode<B: Blocks, M: OwnModule>(
         &mut self,
         store: &mut B,
         side: Side,
@@ -190,13 +190,18 @@ impl<M: OwnModule> Streams<M> {
             at: 0,
             way: Way::Up,
         };
-        self.deliver_alone(store, head, message, told);
+        self.deliver_alone::<B, M>(store, head, message, told);
     }
 
     /// Pops the module that is on top of a side's stream: what it has goes, and the head is told its read mode. The ioctl under way ends as
     /// refused where its M_IOCTL went with the module, as nobody will answer it any more. Nothing where no module stands (streamio(7I): I_POP).
     #[inline(never)]
-    pub fn pop<B: Blocks>(&mut self, store: &mut B, side: Side, told: &mut Fates) -> Answer<u32>
+    pub fn pop<B: Blocks, M: OwnModule>(
+        &mut self,
+        store: &mut B,
+        side: Side,
+        told: &mut Fates,
+    ) -> Answer<u32>
         requires rests { AreAtRest (B.value store.old) self.old }
         requires room { HasRoom (B.value store.old) 1 }
         ensures answer { result ≡ Done }
@@ -205,7 +210,7 @@ impl<M: OwnModule> Streams<M> {
     {
         let seeking = self.end(side).head.number_sought();
         let taken = self.take_top(store, side, Rule::ModulePopped, seeking, told);
-        self.put_mode(store, side, mode_behind(taken.name), told);
+        self.put_mode::<B, M>(store, side, mode_behind(taken.name), told);
         self.drop_ioctl(side, taken.met);
         Answer::Done
     }
@@ -230,7 +235,7 @@ impl<M: OwnModule> Streams<M> {
     }
 
     // Pushes a module on the stack of a side, as its name makes it: one that may stand there.
-    fn put_on<B: Blocks>(&mut self, store: &B, side: Side, name: ModuleName)
+    fn put_on<B: Blocks, M: OwnModule>(&mut self, store: &B, side: Side, name: ModuleName)
         requires held { AreHeld (B.value store.now) self.old }
         requires may_stand { may_stand (named_by M.does (Some name)) (stream side (state_in (B.value store.now) self.old)).modules ≡ true }
         ensures state { let s = state_in (B.value store.now) self.old in IfSome (named_by M.does (Some name))
@@ -238,7 +243,7 @@ impl<M: OwnModule> Streams<M> {
         ensures held { AreHeld (B.value store.now) self.new }
     {
         let end = self.ends.get_mut(side);
-        push_named(
+        push_named::<B, M>(
             &mut end.stack,
             &mut end.shelf,
             store,
@@ -262,7 +267,7 @@ impl<M: OwnModule> Streams<M> {
     /// Pushes a module on a side's stream, one that may stand there: the head is told its read mode, and what waits before the
     /// module may come to it (streamio(7I): I_PUSH).
     #[inline(never)]
-    pub fn push<B: Blocks>(
+    pub fn push<B: Blocks, M: OwnModule>(
         &mut self,
         store: &mut B,
         side: Side,
@@ -279,8 +284,8 @@ impl<M: OwnModule> Streams<M> {
         let Some(name) = name else {
             return Answer::Done;
         };
-        self.put_mode(store, side, mode_on_push(name), told);
-        self.put_on(store, side, name);
+        self.put_mode::<B, M>(store, side, mode_on_push(name), told);
+        self.put_on::<B, M>(store, side, name);
         self.come_from_driver(store, side, name);
         Answer::Done
     }

@@ -41,11 +41,11 @@ fn is_answered<T>(slot: &Slot<T>) -> bool
     matches!(slot, Slot::Answered { .. })
 }
 
-impl<M: OwnModule> Streams<M> {
+impl Streams {
     ghost use Rattle.strm_pair.specs.Pairs.{state_in, AreHeld};
 
     /// What a side is ready for.
-    pub fn ready<B: Blocks>(&self, store: &B, side: Side) -> Ready
+    pub fn ready<B: Blocks, M: OwnModule>(&self, store: &B, side: Side) -> Ready
         requires held { AreHeld (B.value store.now) self.now }
         ensures { result ≡ readiness M.does side (state_in (B.value store.now) self.now) }
     {

@@ -42,14 +42,14 @@ fn needed(is_asked: bool, condition: bool, refusal: Refusal) -> Option<Refusal>
     unless(!is_asked || condition, refusal)
 }
 
-impl<M: OwnModule> Streams<M> {
+impl Streams {
     ghost use Rattle.strm_blocks.specs.Blocks.{StoreValue};
     ghost use Rattle.strm_pair.specs.Streams.{stream_in};
     ghost use Rattle.strm_types.specs.declared.names.Side.TheVariants.{Master, Slave};
     ghost use Rattle.strm_pair.specs.Pairs.{state_in, end_at, AreHeld};
 
     /// The stream of a side.
-    pub(crate) fn end(&self, side: Side) -> &StreamEnd<M>
+    pub(crate) fn end(&self, side: Side) -> &StreamEnd
         ensures end { result.now ≡ end_at side self.now }
         ensures stream { (s : StoreValue) → stream_in s result.now ≡ stream side (state_in s self.now) }
     {
@@ -146,7 +146,7 @@ impl<M: OwnModule> Streams<M> {
     }
 
     // Whether a module of a name may be pushed on a side's stream: there are modules of the name, there is room, and none of its name stands there.
-    fn may_push(&self, side: Side, name: Option<ModuleName>) -> bool
+    fn may_push<M: OwnModule>(&self, side: Side, name: Option<ModuleName>) -> bool
         ensures { (s : StoreValue) → result ≡ may_stand (named_by M.does name) (stream side (state_in s self.now)).modules }
     {
         let Some(kind) = name else {
@@ -168,7 +168,7 @@ impl<M: OwnModule> Streams<M> {
     /// The verdict of the state on a call that isn't refused at once, and that does this at the terminal: job control's, and then whether
     /// the call fits what is there.
     #[inline(always)]
-    pub fn verdict<B: Blocks>(
+    pub fn verdict<B: Blocks, M: OwnModule>(
         &self,
         store: &B,
         caller: Caller,
@@ -182,7 +182,7 @@ impl<M: OwnModule> Streams<M> {
             result ≡ judged (refused_by_state M.does state caller (request event.now)) (stop_of state caller (request event.now)) }
     {
         match self.hold(caller, access) {
-            Verdict::Allowed => match self.unfit(store, caller, event) {
+            Verdict::Allowed => match self.unfit::<B, M>(store, caller, event) {
                 Some(refusal) => Verdict::Refused(refusal),
                 None => Verdict::Allowed,
             },
@@ -192,7 +192,12 @@ impl<M: OwnModule> Streams<M> {
 
     // What a call that isn't held is refused for, as it doesn't fit what is there.
     #[inline(always)]
-    fn unfit<B: Blocks>(&self, store: &B, caller: Caller, event: &Event<&[u8]>) -> Option<Refusal>
+    fn unfit<B: Blocks, M: OwnModule>(
+        &self,
+        store: &B,
+        caller: Caller,
+        event: &Event<&[u8]>,
+    ) -> Option<Refusal>
         requires held { AreHeld (B.value store.now) self.now }
         requires allowed { refused_at_once (state_in (B.value store.now) self.now) caller (request event.now) ≡ None }
         ensures { result ≡ unfit M.does (state_in (B.value store.now) self.now) caller (request event.now) }
@@ -227,7 +232,9 @@ impl<M: OwnModule> Streams<M> {
             }
             Event::Ioctl { .. } => unless(self.end(caller.side).head.is_idle(), Refusal::Eagain),
             Event::IoctlResult { number } => self.end(caller.side).head.result_refusal(*number),
-            Event::Push { name } => { unless(self.may_push(caller.side, *name), Refusal::Einval) }
+            Event::Push { name } => {
+                unless(self.may_push::<M>(caller.side, *name), Refusal::Einval)
+            }
             Event::Pop | Event::Look => { unless(self.top(caller.side).is_some(), Refusal::Einval) }
             Event::Unlock | Event::Shut | Event::Flush { .. } => None,
             Event::Mode { .. } | Event::Nread | Event::Signals => None,

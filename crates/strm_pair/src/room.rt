@@ -13,13 +13,12 @@ ghost use Rattle.strm_pair.specs.Streams.{IsSide, stream_in};
 ghost use Rattle.strm_pair.specs.Stacks.{IsStackHeld};
 
 use crate::ends::StreamEnd;
-use crate::own::OwnModule;
 use crate::streams::Streams;
 use strm_blocks::Blocks;
 use strm_queue::standing::is_full;
 use strm_types::{Band, Side, Way};
 
-impl<M: OwnModule> StreamEnd<M> {
+impl StreamEnd {
     // Whether a band is full of the queue at the end of a way: the head's, and the driver's.
     fn is_end_full<B: Blocks>(&self, store: &B, way: Way, band: Band) -> bool
         requires head { IsReady (B.value store.now) self.now.head.queue }
@@ -70,7 +69,7 @@ impl<M: OwnModule> StreamEnd<M> {
     }
 }
 
-impl<M: OwnModule> Streams<M> {
+impl Streams {
     ghost use Rattle.strm_pair.specs.Effects.{Becomes};
     ghost use Rattle.strm_pair.specs.Pairs.{AreBeside, state_in};
 

@@ -61,7 +61,7 @@ pub(crate) struct Call {
     again: bool,
 }
 
-impl<M: OwnModule> Streams<M> {
+impl Streams {
     ghost use Rattle.strm_pair.specs.Effects.{MayDeliver};
     ghost use Rattle.strm_pair.specs.Pairs.{state_in, end_at, with_end, AreBeside, SamePool};
 
@@ -125,7 +125,7 @@ impl<M: OwnModule> Streams<M> {
     }
 
     // A call of a turn, and the delivery of what it sent.
-    fn call_module<B: Blocks>(
+    fn call_module<B: Blocks, M: OwnModule>(
         &mut self,
         store: &mut B,
         here: Spot,
@@ -144,13 +144,13 @@ impl<M: OwnModule> Streams<M> {
             stopped: served.stopped,
             again: served.again,
         };
-        deliver_all(store, self, HOPS, served.acts.sent, told);
+        deliver_all::<M, B, Streams>(store, self, HOPS, served.acts.sent, told);
         call
     }
 
     /// The calls of a turn, until one asks for no other: how many bytes they treated, one at least where the message has any. Where what they send
     /// is kept ahead they leave some of it only where few blocks are free behind them.
-    pub(crate) fn call_on<B: Blocks>(
+    pub(crate) fn call_on<B: Blocks, M: OwnModule>(
         &mut self,
         store: &mut B,
         here: Spot,
@@ -168,10 +168,10 @@ impl<M: OwnModule> Streams<M> {
         ensures hand { IsKeptAll (B.value store.new) self.new }
         ensures pool { SamePool (B.value store.old) (B.value store.new) }
     {
-        let mut call = self.call_module(store, here, false, told);
+        let mut call = self.call_module::<B, M>(store, here, false, told);
         let mut bytes = call.bytes;
         while call.again {
-            call = self.call_module(store, here, true, told);
+            call = self.call_module::<B, M>(store, here, true, told);
             bytes += call.bytes;
         }
         bytes

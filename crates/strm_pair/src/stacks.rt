@@ -22,7 +22,7 @@ use strm_frame::{Module, QueuePair, Standing, Tables};
 use strm_types::{Fates, ModuleName, Note, Place, Rule, Side};
 
 /// The modules of a side's stream.
-pub(crate) type Stack<M> = strm_frame::Stack<AnyModule<M>>;
+pub(crate) type Stack = strm_frame::Stack<AnyModule>;
 
 /// A module that was taken off a stack: its name, which queues before its own have room again, and whether the M_IOCTL that is sought
 /// stood on its write queue.
@@ -34,14 +34,14 @@ pub(crate) struct Taken {
 }
 
 /// How many modules stand on a stack.
-pub(crate) fn module_count<M: OwnModule>(stack: &Stack<M>) -> usize
+pub(crate) fn module_count(stack: &Stack) -> usize
     ensures { (s : StoreValue) → result ≡ length (modules_in s stack.now) }
 {
     stack.modules.len()
 }
 
 /// The place of queues that the module of a place has, if it has queues.
-pub(crate) fn place_at<M: OwnModule>(stack: &Stack<M>, at: usize) -> Option<Place>
+pub(crate) fn place_at(stack: &Stack, at: usize) -> Option<Place>
     requires inside { 0 < at }
     requires within { (s : StoreValue) → at ≤ length (modules_in s stack.now) }
     ensures { (s : StoreValue) → result ≡ slice_index_or (places_of (modules_in s stack.now)) (at - 1) None }
@@ -53,7 +53,7 @@ pub(crate) fn place_at<M: OwnModule>(stack: &Stack<M>, at: usize) -> Option<Plac
 }
 
 // The queues of a module that was taken off, where it has any. Its line was let go.
-fn queues_of<M: OwnModule>(standing: Standing<AnyModule<M>>) -> Option<QueuePair>
+fn queues_of(standing: Standing<AnyModule>) -> Option<QueuePair>
     requires { IsBare standing.module }
     ensures { (k : ℕ) → 0 < owns standing k → is_some result ≡ true }
 {
@@ -62,8 +62,8 @@ fn queues_of<M: OwnModule>(standing: Standing<AnyModule<M>>) -> Option<QueuePair
 
 /// Takes the module on top off its stack, if there is one, and puts the tables of its queues onto the shelf. Its unfinished line is let go where
 /// it stands.
-pub(crate) fn pop_top<M: OwnModule>(stack: &mut Stack<M>, shelf: &mut Option<Tables>)
-    ensures rest { (x : AnyStanding _) (xs : List (AnyStanding _)) → stack.old.modules.items ≡ x ∷ xs → stack.new.modules.items ≡ xs }
+pub(crate) fn pop_top(stack: &mut Stack, shelf: &mut Option<Tables>)
+    ensures rest { (x : AnyStanding) (xs : List AnyStanding) → stack.old.modules.items ≡ x ∷ xs → stack.new.modules.items ≡ xs }
     ensures shelf { (k : ℕ) → (stack_owns stack.old k ≡ 0 → is_some shelf.old ≡ true) → stack_owns stack.new k ≡ 0 → is_some shelf.new ≡ true }
 {
     if let Some(top) = stack.modules.as_mut_slice().first_mut() {
@@ -78,7 +78,7 @@ pub(crate) fn pop_top<M: OwnModule>(stack: &mut Stack<M>, shelf: &mut Option<Tab
 }
 
 /// Takes all modules off a stack, and puts the tables of their queues onto the shelf.
-pub(crate) fn take_modules<M: OwnModule>(stack: &mut Stack<M>, shelf: &mut Option<Tables>)
+pub(crate) fn take_modules(stack: &mut Stack, shelf: &mut Option<Tables>)
     ensures none { stack.new.modules.items ≡ [] }
     ensures shelf { (k : ℕ) → (stack_owns stack.old k ≡ 0 → is_some shelf.old ≡ true) → is_some shelf.new ≡ true }
 {
@@ -90,8 +90,8 @@ pub(crate) fn take_modules<M: OwnModule>(stack: &mut Stack<M>, shelf: &mut Optio
 /// Takes the module on top off its stack, which keeps nothing in hand: what stands on the queues and in the line of the
 /// module goes by a rule, and its tables onto the shelf. It tells whether the M_IOCTL of a number went with them, where one is
 /// sought. `None` where no module stands (streamio(7I): I_POP; close(2)).
-pub(crate) fn take_top<B: Blocks, M: OwnModule>(
-    end: &mut StreamEnd<M>,
+pub(crate) fn take_top<B: Blocks>(
+    end: &mut StreamEnd,
     store: &mut B,
     side: Side,
     rule: Rule,
@@ -138,7 +138,7 @@ fn queues_for(name: ModuleName, first: usize, shelf: &mut Option<Tables>) -> Opt
 /// Pushes a module on top of a stack, as its name makes it: one that may stand there (streamio(7I): I_PUSH). The queues of the
 /// stack stand on two lists, behind those of its stream's ends, which start from a number on.
 pub(crate) fn push_named<B: Blocks, M: OwnModule>(
-    stack: &mut Stack<M>,
+    stack: &mut Stack,
     shelf: &mut Option<Tables>,
     store: &B,
     name: ModuleName,
@@ -159,7 +159,7 @@ pub(crate) fn push_named<B: Blocks, M: OwnModule>(
     ensures keeps { (i : ℕ) → stack_keeps stack.new i ≡ stack_keeps stack.old i }
 {
     let _ = store;
-    let Some(module) = AnyModule::made(name) else {
+    let Some(module) = AnyModule::made::<M>(name) else {
         unreachable!()
     };
     let _ = stack.push(Standing {

@@ -79,7 +79,7 @@ fn is_flush(kind: MsgKind) -> bool
     matches!(kind, MsgKind::Flush)
 }
 
-impl<M: OwnModule> Streams<M> {
+impl Streams {
     ghost use Rattle.strm_pair.specs.Pairs.{state_in, end_at, with_end, AreBeside, kept_by};
     ghost use Rattle.strm_blocks.specs.Blocks.{StoreValue};
 
@@ -158,7 +158,7 @@ impl<M: OwnModule> Streams<M> {
     }
 
     // The stack of a side takes a message, and nothing else of the streams changes.
-    fn put_on_stack<B: Blocks>(
+    fn put_on_stack<B: Blocks, M: OwnModule>(
         &mut self,
         store: &mut B,
         to: Spot,
@@ -177,12 +177,12 @@ impl<M: OwnModule> Streams<M> {
         self.ends
             .get_mut(to.side)
             .stack
-            .put(store, to, message, told)
+            .put::<M, B>(store, to, message, told)
     }
 
     // A message that comes to a module of a side's stream. What it says of its queues goes by how the stream was before, and what it made
     // is booked.
-    fn put_module<B: Blocks>(
+    fn put_module<B: Blocks, M: OwnModule>(
         &mut self,
         store: &mut B,
         to: Spot,
@@ -206,7 +206,7 @@ impl<M: OwnModule> Streams<M> {
         let at = to.at as usize;
         let place = place_at(&self.end(to.side).stack, at);
         let before = Made::of(told);
-        let acts = self.put_on_stack(store, to, message, told);
+        let acts = self.put_on_stack::<B, M>(store, to, message, told);
         self.note(to.side, place, at, acts.notes.as_slice());
         self.book_made(before, told);
         acts.sent
@@ -283,7 +283,7 @@ impl<M: OwnModule> Streams<M> {
     }
 
     // A message that is put at a spot.
-    fn put<B: Blocks>(
+    fn put<B: Blocks, M: OwnModule>(
         &mut self,
         store: &mut B,
         to: Spot,
@@ -302,7 +302,7 @@ impl<M: OwnModule> Streams<M> {
             return self.put_head(store, to, message, told);
         }
         if to.at as usize <= self.modules_on(to.side) {
-            return self.put_module(store, to, message, told);
+            return self.put_module::<B, M>(store, to, message, told);
         }
         match to.way {
             Way::Down => self.put_driver(store, to, message, told),
@@ -311,7 +311,7 @@ impl<M: OwnModule> Streams<M> {
     }
 }
 
-impl<B: Blocks, M: OwnModule> Stations<B> for Streams<M> {
+impl<B: Blocks, M: OwnModule> Stations<B, M> for Streams {
     ghost use Rattle.std.specs.Prelude.{ℕ};
     ghost use Rattle.strm_laws.specs.State.{State};
     ghost use Rattle.strm_pair.specs.Pairs.{state_in, AreBeside, kept_by};
@@ -337,7 +337,7 @@ impl<B: Blocks, M: OwnModule> Stations<B> for Streams<M> {
 
     fn put_at(&mut self, store: &mut B, to: Spot, message: InHand, told: &mut Fates) -> Outbox {
         store.audit();
-        self.put(store, to, message, told)
+        self.put::<B, M>(store, to, message, told)
     }
 
     ghost frame = { streams-frame };

@@ -37,8 +37,8 @@ use strm_types::{
 /// The streams of a pair, whether its slave is locked, the queues that are enabled, the number that the next ioctl gets,
 /// and what was booked of each direction.
 #[derive(Drop)]
-pub(crate) struct Streams<M: OwnModule> {
-    pub ends: Both<StreamEnd<M>>,
+pub(crate) struct Streams {
+    pub ends: Both<StreamEnd>,
     pub locked: bool,
     pub enabled: Enabled,
     pub next_ioctl: u32,
@@ -74,7 +74,7 @@ pub(crate) fn queue_tables(alloc: Global) -> Result<Both<SideTables>, AllocError
 
 // A stream that nobody opened, whose queues stand on the lists from a number on: the head's, the driver's, and two that
 // are kept for the queues of a module.
-fn new_end<M: OwnModule>(first: usize, tables: SideTables) -> StreamEnd<M>
+fn new_end(first: usize, tables: SideTables) -> StreamEnd
     requires { first ≤ 4 }
     ensures side { (s : StoreValue) → IsBlank s first → IsSide s first result }
     ensures stream { (s : StoreValue) → IsBlank s first → stream_in s result ≡ new_stream }
@@ -88,13 +88,13 @@ fn new_end<M: OwnModule>(first: usize, tables: SideTables) -> StreamEnd<M>
     }
 }
 
-impl<M: OwnModule> Streams<M> {
+impl Streams {
     ghost use Rattle.strm_types.specs.declared.names.Side.TheVariants.{Master};
     ghost use Rattle.strm_pair.specs.Effects.{AreAtRest, Becomes, Leads, MayDeliver};
     ghost use Rattle.strm_pair.specs.Pairs.{free_in, state_in, end_at, with_end, AreBeside, AreHeld};
 
     /// The streams of a new pair.
-    pub fn new(tables: Both<SideTables>) -> Streams<M>
+    pub fn new(tables: Both<SideTables>) -> Streams
         ensures state { (mblks dblks : ℕ) → state_in (empty_store mblks dblks) result ≡ opening }
         ensures held { (mblks dblks : ℕ) → AreHeld (empty_store mblks dblks) result }
     {
@@ -197,7 +197,7 @@ impl<M: OwnModule> Streams<M> {
 
     /// Carries out a call that nothing refuses, and that doesn't stop its caller. What a read or a get gives stands in `out`, which is empty else.
     #[inline(always)]
-    pub fn carry_out<B: Blocks>(
+    pub fn carry_out<B: Blocks, M: OwnModule>(
         &mut self,
         store: &mut B,
         caller: Caller,
@@ -226,11 +226,11 @@ impl<M: OwnModule> Streams<M> {
             Event::Unlock => self.unlock(),
             Event::OpenSlave => self.open_slave(store),
             Event::Shut => self.shut(store, side, told),
-            Event::Flush { what, band } => self.flush(store, side, *what, *band, told),
-            Event::Push { name } => self.push(store, side, *name, told),
-            Event::Pop => self.pop(store, side, told),
+            Event::Flush { what, band } => self.flush::<B, M>(store, side, *what, *band, told),
+            Event::Push { name } => self.push::<B, M>(store, side, *name, told),
+            Event::Pop => self.pop::<B, M>(store, side, told),
             Event::Look => self.look(side),
-            Event::Write { bytes } => Answer::Count(self.write(store, side, bytes, told)),
+            Event::Write { bytes } => Answer::Count(self.write::<B, M>(store, side, bytes, told)),
             Event::Read { n } => {
                 self.read(store, side, *n, out, told);
                 Answer::Bytes(out.len() as u32)
@@ -239,7 +239,7 @@ impl<M: OwnModule> Streams<M> {
                 prio,
                 control,
                 body,
-            } => self.putmsg(store, side, *prio, *control, *body, told),
+            } => self.putmsg::<B, M>(store, side, *prio, *control, *body, told),
             Event::Get { wanted, cmax, dmax } => {
                 self.getmsg(store, side, *wanted, *cmax, *dmax, out, told)
             }
@@ -248,14 +248,21 @@ impl<M: OwnModule> Streams<M> {
                 Answer::Done
             }
             Event::Nread => self.nread(store, side),
-            Event::Ioctl { command, body } => self.ioctl(store, side, *command, body, out, told),
+            Event::Ioctl { command, body } => self.ioctl::<B, M>(
+                store, side, *command, body, out, told,
+            ),
             Event::IoctlResult { .. } => self.tell_ioctl(side, out),
             Event::Signals => self.take_signals(side, out),
         }
     }
 
     /// A turn of an enabled queue.
-    pub fn turn<B: Blocks>(&mut self, store: &mut B, name: QueueName, told: &mut Fates) -> Turn
+    pub fn turn<B: Blocks, M: OwnModule>(
+        &mut self,
+        store: &mut B,
+        name: QueueName,
+        told: &mut Fates,
+    ) -> Turn
         requires { MayDeliver (B.value store.old) self.old (turn_blocks name.place) }
         ensures turn { result ≡ (turned M.does plain name result (state_in (B.value store.old) self.old)).turn }
         ensures leads { let s = B.value store.old in let is = turned M.does plain name result (state_in s self.old) in
@@ -265,8 +272,8 @@ impl<M: OwnModule> Streams<M> {
     {
         self.enabled.remove(name);
         match name.place {
-            Place::Driver => self.turn_driver(store, name.side, told),
-            Place::Module(_) => self.turn_module(store, name, told),
+            Place::Driver => self.turn_driver::<B, M>(store, name.side, told),
+            Place::Module(_) => self.turn_module::<B, M>(store, name, told),
             Place::Head => Turn::Idle,
         }
     }

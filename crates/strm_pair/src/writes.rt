@@ -31,7 +31,7 @@ pub(crate) fn with_written(book: Book, count: usize) -> Book
     }
 }
 
-impl<M: OwnModule> Streams<M> {
+impl Streams {
     ghost use Rattle.strm_pair.specs.Effects.{AreAtRest, Delivers, MayDeliver};
     ghost use Rattle.strm_pair.specs.Pairs.{state_in};
 
@@ -43,7 +43,13 @@ impl<M: OwnModule> Streams<M> {
     }
 
     // Makes an ordinary message of bytes, and delivers it from below a side's head.
-    fn send_chunk<B: Blocks>(&mut self, store: &mut B, side: Side, chunk: &[u8], told: &mut Fates)
+    fn send_chunk<B: Blocks, M: OwnModule>(
+        &mut self,
+        store: &mut B,
+        side: Side,
+        chunk: &[u8],
+        told: &mut Fates,
+    )
         requires rests { AreAtRest (B.value store.old) self.old }
         requires small { length chunk.now ≤ 256 }
         requires room { HasRoom (B.value store.old) 1 }
@@ -58,12 +64,12 @@ impl<M: OwnModule> Streams<M> {
             at: 1,
             way: Way::Down,
         };
-        self.deliver_alone(store, below, message, told);
+        self.deliver_alone::<B, M>(store, below, message, told);
     }
 
     // Sends so many chunks of the bytes, of at most 256 each, while band 0 of the first queue below the head isn't full, and says how
     // many bytes have gone. Each takes one block of each kind.
-    fn send_chunks<B: Blocks>(
+    fn send_chunks<B: Blocks, M: OwnModule>(
         &mut self,
         store: &mut B,
         side: Side,
@@ -86,15 +92,15 @@ impl<M: OwnModule> Streams<M> {
             return 0;
         }
         let (chunk, rest) = bytes.split_at(bytes.len().min(256));
-        self.send_chunk(store, side, chunk, told);
-        let more = self.send_chunks(store, side, rest, chunks - 1, told);
+        self.send_chunk::<B, M>(store, side, chunk, told);
+        let more = self.send_chunks::<B, M>(store, side, rest, chunks - 1, told);
         chunk.len() + more
     }
 
     /// Writes bytes down a side's stream, and answers how many were taken: they go down from the head in chunks of at most 256,
     /// each an ordinary message, while band 0 of the first queue below has room.
     #[inline(always)]
-    pub fn write<B: Blocks>(
+    pub fn write<B: Blocks, M: OwnModule>(
         &mut self,
         store: &mut B,
         side: Side,
@@ -108,7 +114,7 @@ impl<M: OwnModule> Streams<M> {
     {
         store.audit();
         let chunks = chunk_count(bytes.len());
-        let taken = self.send_chunks(store, side, bytes, chunks, told);
+        let taken = self.send_chunks::<B, M>(store, side, bytes, chunks, told);
         let book = with_written(self.book_of(side), taken);
         self.keep_book(side, book);
         taken as u32

@@ -6,8 +6,7 @@ ghost use Rattle.strm_pair.specs.Placing.{IsFreeFor, IsModuleText, IsPlaced, mod
 
 use crate::images::made_kinds::{ldterm_of, pair_of};
 use crate::modules::AnyModule;
-use crate::own::OwnModule;
-use crate::owned::Owned;
+use crate::own::Own;
 use strm_blocks::Blocks;
 use strm_frame::{Standing, Tables};
 use strm_image::ModuleText;
@@ -15,15 +14,15 @@ use strm_pty::{Pckt, Ptem};
 
 /// Makes a module of a text. One that has queues has two lists of its own from a number on, where nothing stands, and their tables are
 /// taken off the shelf.
-pub(crate) fn module_of<B: Blocks, M: OwnModule>(
+pub(crate) fn module_of<B: Blocks>(
     store: &mut B,
     first: usize,
     shelf: &mut Option<Tables>,
     text: &ModuleText<'_>,
-) -> Standing<AnyModule<M>>
+) -> Standing<AnyModule>
     requires first { first ≤ 6 }
     requires free { IsFreeFor (B.value store.old) first shelf.old text.now }
-    requires good { IsModuleText M.does text.now }
+    requires good { IsModuleText text.now }
     requires room { HasRoom (B.value store.old) (module_blocks text.now) }
     ensures { IsPlaced (B.value store.old) (B.value store.new) first shelf.old shelf.new text.now result }
 {
@@ -48,14 +47,9 @@ pub(crate) fn module_of<B: Blocks, M: OwnModule>(
             module: AnyModule::Pckt(Pckt),
             queues: None,
         },
-        ModuleText::Own(found) => {
-            let Some(own) = Owned::restored(found.number, found.settings) else {
-                unreachable!()
-            };
-            Standing {
-                module: AnyModule::Own(own),
-                queues: None,
-            }
-        }
+        ModuleText::Own(found) => Standing {
+            module: AnyModule::Own(Own::new(found.number, found.settings)),
+            queues: None,
+        },
     }
 }

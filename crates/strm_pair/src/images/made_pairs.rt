@@ -1,6 +1,6 @@
 //! Both streams as a text has them, with the enabled queues and the ledgers.
 
-ghost use Rattle.std.specs.Prelude.{◌≡◌, [], true, replicate};
+ghost use Rattle.std.specs.Prelude.{◌≡◌, [], replicate};
 ghost use Rattle.strm_types.specs.declared.limits.TheConstants.{LISTS};
 ghost use Rattle.strm_types.specs.Names.{AreQueues, IsOnce};
 ghost use Rattle.strm_laws.specs.Restorable.{Restorable};
@@ -8,13 +8,11 @@ ghost use Rattle.strm_frame.specs.Hands.{HasRoom};
 ghost use Rattle.strm_image.specs.AccountTexts.{account_now};
 ghost use Rattle.strm_image.specs.ImageTexts.{imaged_now};
 ghost use Rattle.strm_pair.specs.Pairs.{AreHeld, SamePool, state_in};
-ghost use Rattle.strm_pair.specs.Known.{all_known};
 ghost use Rattle.strm_pair.specs.Restored.{fates_in, image_blocks};
 ghost use Rattle.strm_pair.specs.Runs.{Spent};
 
 use crate::ends::first_list;
 use crate::images::made_streams::end_of;
-use crate::own::OwnModule;
 use crate::streams::{SideTables, Streams};
 use strm_blocks::Blocks;
 use strm_frame::Enabled;
@@ -58,15 +56,14 @@ pub(crate) fn fates_of(text: &StateText<'_>) -> Fates
 }
 
 /// Makes both streams of a text in a store that holds nothing, and has the blocks that the messages take.
-pub(crate) fn streams_of<B: Blocks, M: OwnModule>(
+pub(crate) fn streams_of<B: Blocks>(
     store: &mut B,
     tables: Both<SideTables>,
     text: &StateText<'_>,
-) -> Streams<M>
+) -> Streams
     requires lists { (B.value store.old).lists ≡ replicate LISTS [] }
     requires hand { (B.value store.old).hand ≡ [] }
     requires good { Restorable (imaged_now text.now).state }
-    requires known { all_known M.does (imaged_now text.now).state ≡ true }
     requires room { HasRoom (B.value store.old) (image_blocks (imaged_now text.now)) }
     ensures state { state_in (B.value store.new) result ≡ (imaged_now text.now).state }
     ensures held { AreHeld (B.value store.new) result }

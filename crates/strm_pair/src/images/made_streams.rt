@@ -11,23 +11,22 @@ use crate::ends::StreamEnd;
 use crate::images::heads::head_of;
 use crate::images::made_queues::queue_of;
 use crate::images::made_stacks::stack_of;
-use crate::own::OwnModule;
 use crate::streams::SideTables;
 use strm_blocks::Blocks;
 use strm_image::StreamText;
 use strm_types::Openness;
 
 /// Makes the stream of a side of a text, on four lists where nothing stands: the head's, the driver's, and two for the queues of a module.
-pub(crate) fn end_of<B: Blocks, M: OwnModule>(
+pub(crate) fn end_of<B: Blocks>(
     store: &mut B,
     first: usize,
     tables: SideTables,
     opened: Openness,
     text: &StreamText<'_>,
-) -> StreamEnd<M>
+) -> StreamEnd
     requires first { first ≤ 4 }
     requires blank { IsBlank (B.value store.old) first }
-    requires good { IsStreamText M.does text.now }
+    requires good { IsStreamText text.now }
     requires room { HasRoom (B.value store.old) (laid_blocks (laid_now text.now)) }
     ensures { IsStood (B.value store.old) (B.value store.new) first (stream_now opened text.now) (laid_blocks (laid_now text.now)) result }
 {

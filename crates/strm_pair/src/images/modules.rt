@@ -17,8 +17,7 @@ ghost use Rattle.strm_pair.specs.Stacks.{IsStackHeld, modules_in};
 
 use crate::images::queues::put_queue;
 use crate::modules::AnyModule;
-use crate::own::OwnModule;
-use crate::owned::Owned;
+use crate::own::Own;
 use crate::stacks::Stack;
 use strm_blocks::Blocks;
 use strm_frame::{QueuePair, Standing};
@@ -84,7 +83,7 @@ fn put_pckt<'a>(out: Sink<'a>) -> Sink<'a>
 
 // A module of a user's own: its number, and what it is set to.
 #[tactic(auto, using(strm_image::proofs::SinkRows::put_both, strm_image::proofs::WrittenRows::own_told))]
-fn put_own<'a, M: OwnModule>(own: &Owned<M>, out: Sink<'a>) -> Sink<'a>
+fn put_own<'a>(own: &Own, out: Sink<'a>) -> Sink<'a>
     ensures { result ≡ put ((module_format Second).text (alone (OfOwn own.now))) out.entry }
 {
     let mut out = out;
@@ -94,11 +93,7 @@ fn put_own<'a, M: OwnModule>(own: &Owned<M>, out: Sink<'a>) -> Sink<'a>
 }
 
 // A module, behind its name.
-fn put_module<'a, B: Blocks, M: OwnModule>(
-    store: &B,
-    any: &Standing<AnyModule<M>>,
-    out: Sink<'a>,
-) -> Sink<'a>
+fn put_module<'a, B: Blocks>(store: &B, any: &Standing<AnyModule>, out: Sink<'a>) -> Sink<'a>
     requires held { IsHeld (B.value store.now) any.now }
     ensures { result ≡ put ((module_format Second).text (module_in (B.value store.now) any.now)) out.entry }
 {
@@ -112,11 +107,7 @@ fn put_module<'a, B: Blocks, M: OwnModule>(
 
 // Modules, one behind the other.
 #[tactic(auto, using(strm_image::proofs::SinkRows::put_both, strm_image::proofs::SinkRows::put_nothing))]
-fn put_each<'a, B: Blocks, M: OwnModule>(
-    store: &B,
-    modules: &[Standing<AnyModule<M>>],
-    out: Sink<'a>,
-) -> Sink<'a>
+fn put_each<'a, B: Blocks>(store: &B, modules: &[Standing<AnyModule>], out: Sink<'a>) -> Sink<'a>
     requires held { AllByRecursion (IsHeld (B.value store.now)) modules.now }
     ensures { result ≡ put (flat_map (module_format Second).text (map (module_in (B.value store.now)) modules.now)) out.entry }
 {
@@ -129,11 +120,7 @@ fn put_each<'a, B: Blocks, M: OwnModule>(
 
 /// Writes the modules of a stream between two calls, with their number in front.
 #[tactic(auto, using(strm_image::proofs::SinkRows::put_both, strm_image::proofs::WrittenRows::modules_told))]
-pub(crate) fn put_modules<'a, B: Blocks, M: OwnModule>(
-    store: &B,
-    stack: &Stack<M>,
-    out: Sink<'a>,
-) -> Sink<'a>
+pub(crate) fn put_modules<'a, B: Blocks>(store: &B, stack: &Stack, out: Sink<'a>) -> Sink<'a>
     requires held { IsStackHeld (B.value store.now) stack.now }
     ensures { result ≡ put ((modules Second).text (modules_in (B.value store.now) stack.now)) out.entry }
 {

@@ -16,7 +16,6 @@ ghost use Rattle.strm_types.specs.Slots.{map_slot};
 use crate::ends::StreamEnd;
 use crate::images::modules::put_modules;
 use crate::images::queues::put_queue;
-use crate::own::OwnModule;
 use strm_blocks::Blocks;
 use strm_head::{Head, IoctlBytes};
 use strm_image::writing::{put_control_mode, put_head_bits, put_read_mode, put_signals, put_slot};
@@ -69,11 +68,7 @@ fn put_head(out: &mut Sink, head: &Head)
 
 /// Writes the stream of a side between two calls.
 #[tactic(auto, using(strm_image::proofs::SinkRows::put_both, strm_image::proofs::WrittenRows::laid_told))]
-pub(crate) fn put_stream<'a, B: Blocks, M: OwnModule>(
-    store: &B,
-    end: &StreamEnd<M>,
-    out: Sink<'a>,
-) -> Sink<'a>
+pub(crate) fn put_stream<'a, B: Blocks>(store: &B, end: &StreamEnd, out: Sink<'a>) -> Sink<'a>
     requires head { IsReady (B.value store.now) end.now.head.queue }
     requires driver { IsReady (B.value store.now) end.now.driver }
     requires stack { IsStackHeld (B.value store.now) end.now.stack }

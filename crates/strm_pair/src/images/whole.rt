@@ -8,7 +8,6 @@ ghost use Rattle.strm_image.specs.HasImage.{imaged};
 ghost use Rattle.strm_pair.specs.Pairs.{AreHeld, state_in};
 
 use crate::images::streams::put_stream;
-use crate::own::OwnModule;
 use crate::streams::Streams;
 use std::mem;
 use strm_blocks::Blocks;
@@ -17,12 +16,7 @@ use strm_image::writing::{put_account, put_enabled, put_front};
 use strm_types::Fates;
 
 // Writes the image of a pair between two calls: of its streams over their store, and of what has gone by each rule.
-fn put_image<'a, B: Blocks, M: OwnModule>(
-    store: &B,
-    streams: &Streams<M>,
-    fates: &Fates,
-    out: Sink<'a>,
-) -> Sink<'a>
+fn put_image<'a, B: Blocks>(store: &B, streams: &Streams, fates: &Fates, out: Sink<'a>) -> Sink<'a>
     requires { AreHeld (B.value store.now) streams.now }
     ensures { result ≡ put (image.text (Second, imaged (state_in (B.value store.now) streams.now) fates.now)) out.entry }
 {
@@ -44,12 +38,7 @@ fn put_image<'a, B: Blocks, M: OwnModule>(
 }
 
 // The same behind what a sink was given before.
-fn put_behind<B: Blocks, M: OwnModule>(
-    store: &B,
-    streams: &Streams<M>,
-    fates: &Fates,
-    out: &mut Sink<'_>,
-)
+fn put_behind<B: Blocks>(store: &B, streams: &Streams, fates: &Fates, out: &mut Sink<'_>)
     requires { AreHeld (B.value store.now) streams.now }
     ensures same_reference { sink_name out.new ≡ sink_name out.old }
     ensures text { out.new ≡ put (image.text (Second, imaged (state_in (B.value store.now) streams.now) fates.now)) out.old }
@@ -62,9 +51,9 @@ fn put_behind<B: Blocks, M: OwnModule>(
 /// Writes the image of a pair between two calls to the front of a buffer, as far as there is room, and answers how long it is, as far as
 /// 64 bits hold that. The cost is two steps for each block on the queues, and two for each band of a queue where one above 0 has marks of
 /// its own or a writer waits for it.
-pub(crate) fn image_into<B: Blocks, M: OwnModule>(
+pub(crate) fn image_into<B: Blocks>(
     store: &B,
-    streams: &Streams<M>,
+    streams: &Streams,
     fates: &Fates,
     out: &mut [u8],
 ) -> usize

@@ -1,22 +1,16 @@
-//! That the numbers of a pair have the widths that an image has, as their types say, and that there are modules of all names on its streams. Each
-//! function tells what is so, and does nothing.
+//! That the numbers of a pair have the widths that an image has, as their types say. Each function tells what is so, and does nothing.
 
-ghost use Rattle.std.specs.Prelude.{◌≡◌, ◌<◌, ◌^◌, true, map};
+ghost use Rattle.std.specs.Prelude.{◌<◌, ◌^◌, map};
 ghost use Rattle.std.specs.List.{AllByRecursion};
 ghost use Rattle.strm_blocks.specs.Blocks.{StoreValue};
 ghost use Rattle.strm_head.specs.Heads.{plain_slot};
 ghost use Rattle.strm_image.specs.HasImage.{AreCounts, AreNumbers, HasHalves, HasModuleNumbers, HasNumbers, HasSlotNumbers, HasWords};
-ghost use Rattle.strm_laws.specs.Pushes.{is_known};
-ghost use Rattle.strm_laws.specs.Stacked.{module_name};
 ghost use Rattle.strm_pair.specs.AnyModules.{module_in};
-ghost use Rattle.strm_pair.specs.Known.{all_known, are_known};
-ghost use Rattle.strm_pair.specs.Stacks.{modules_in};
 ghost use Rattle.strm_pair.specs.Pairs.{state_in};
 ghost use Rattle.strm_pair.specs.Streams.{stream_in};
 
 use crate::ends::StreamEnd;
 use crate::modules::AnyModule;
-use crate::own::OwnModule;
 use crate::streams::Streams;
 use strm_frame::Standing;
 use strm_head::IoctlBytes;
@@ -68,9 +62,8 @@ fn know_slot(ioctl: &Slot<IoctlBytes>)
     }
 }
 
-fn know_module<M: OwnModule>(any: &Standing<AnyModule<M>>)
-    ensures numbers { (s : StoreValue) → HasModuleNumbers (module_in s any.now) }
-    ensures known { (s : StoreValue) → is_known M.does (module_name (module_in s any.now)) ≡ true }
+fn know_module(any: &Standing<AnyModule>)
+    ensures { (s : StoreValue) → HasModuleNumbers (module_in s any.now) }
 {
     match &any.module {
         AnyModule::Ldterm(ldterm) => know_termios(ldterm.termios),
@@ -78,16 +71,12 @@ fn know_module<M: OwnModule>(any: &Standing<AnyModule<M>>)
             know_termios(ptem.termios);
             know_window(ptem.window);
         }
-        AnyModule::Pckt(_) => {}
-        AnyModule::Own(own) => {
-            own.number();
-        }
+        AnyModule::Pckt(_) | AnyModule::Own(_) => {}
     }
 }
 
-fn know_modules<M: OwnModule>(modules: &[Standing<AnyModule<M>>])
-    ensures numbers { (s : StoreValue) → AllByRecursion HasModuleNumbers (map (module_in s) modules.now) }
-    ensures known { (s : StoreValue) → are_known M.does (map module_name (map (module_in s) modules.now)) ≡ true }
+fn know_modules(modules: &[Standing<AnyModule>])
+    ensures { (s : StoreValue) → AllByRecursion HasModuleNumbers (map (module_in s) modules.now) }
 {
     if let Some((first, rest)) = modules.split_first() {
         know_module(first);
@@ -95,9 +84,8 @@ fn know_modules<M: OwnModule>(modules: &[Standing<AnyModule<M>>])
     }
 }
 
-fn know_end<M: OwnModule>(end: &StreamEnd<M>)
-    ensures numbers { (s : StoreValue) → HasNumbers (stream_in s end.now) }
-    ensures known { (s : StoreValue) → are_known M.does (map module_name (modules_in s end.now.stack)) ≡ true }
+fn know_end(end: &StreamEnd)
+    ensures { (s : StoreValue) → HasNumbers (stream_in s end.now) }
 {
     know_word(end.head.group);
     know_slot(&end.head.ioctl);
@@ -105,9 +93,8 @@ fn know_end<M: OwnModule>(end: &StreamEnd<M>)
 }
 
 /// What the streams of a pair keep.
-pub(crate) fn know_streams<M: OwnModule>(streams: &Streams<M>)
-    ensures numbers { (s : StoreValue) → AreNumbers (state_in s streams.now) }
-    ensures known { (s : StoreValue) → all_known M.does (state_in s streams.now) ≡ true }
+pub(crate) fn know_streams(streams: &Streams)
+    ensures { (s : StoreValue) → AreNumbers (state_in s streams.now) }
 {
     know_end(&streams.ends.master);
     know_end(&streams.ends.slave);

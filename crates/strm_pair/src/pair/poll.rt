@@ -16,7 +16,7 @@ impl<B: Blocks + Drop, M: OwnModule> Pair<B, M> {
     pub fn ready(&self, side: Side) -> Ready
         ensures { result ≡ readiness M.does side self.now.state }
     {
-        self.streams.ready(&self.store, side)
+        self.streams.ready::<B, M>(&self.store, side)
     }
 
     /// How many more entries the journal takes, and how many of their bytes.

@@ -22,6 +22,7 @@ use crate::own::OwnModule;
 use crate::pair::Pair;
 use crate::streams::{SideTables, queue_tables};
 use std::alloc::{AllocError, Global};
+use std::marker::PhantomData;
 use strm_blocks::Blocks;
 use strm_image::{IMAGE_BLOCK, IMAGE_FIXED, StateText, read};
 use strm_types::{Both, Config, Refusal};
@@ -72,6 +73,7 @@ impl<B: Blocks + Drop, M: OwnModule> Pair<B, M> {
             base,
             limits,
             fates,
+            of: PhantomData,
         }
     }
 

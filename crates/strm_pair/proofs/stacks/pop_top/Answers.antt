@@ -5,7 +5,7 @@ use Rattle.strm_pair.specs.AnyModules.{AnyStanding}
 use Rattle.strm_pair.proofs.stacks.pop_top.Goals.{in-Some, in_default}
 use Rattle.strm_pair.proofs.stacks.pop_top.Goals as goal
 
-abbrev rest_of : {M : Type 0} → List (AnyStanding M) → List (AnyStanding M)
+abbrev rest_of : List AnyStanding → List AnyStanding
 rest_of [] = []
 rest_of (x ∷ xs) = xs
 

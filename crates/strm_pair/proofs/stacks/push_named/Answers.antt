@@ -10,18 +10,18 @@ use Rattle.strm_pair.specs.Stacks.{modules_in}
 use Rattle.strm_pair.proofs.Modes.{stands-known}
 
 -- the module with the queues that it is given
-abbrev pushed_of : {M : Type 0} → AnyModule M → Option QueuePair → AnyStanding M
+abbrev pushed_of : AnyModule → Option QueuePair → AnyStanding
 pushed_of x queues = standing x queues
 
 -- one that was made
-made-of : {M : Type 0} (K : Behaviour) (name : ModuleName) (o : Option (AnyModule M)) (x : AnyModule M) → o ≡ Some x
+made-of : (K : Behaviour) (name : ModuleName) (o : Option AnyModule) (x : AnyModule) → o ≡ Some x
     → MatchOption o (is_known K name ≡ false) (IsMade K name) → IsMade K name x
-made-of K name o x is made = subst (λ (o : Option (AnyModule _)). MatchOption o (is_known K name ≡ false) (IsMade K name)) is made
+made-of K name o x is made = subst (λ (o : Option AnyModule). MatchOption o (is_known K name ≡ false) (IsMade K name)) is made
 
 -- one is, as the name of what may stand is known
-none-made : {M : Type 0} (K : Behaviour) (name : ModuleName) (o : Option (AnyModule M)) → o ≡ None
+none-made : (K : Behaviour) (name : ModuleName) (o : Option AnyModule) → o ≡ None
     → MatchOption o (is_known K name ≡ false) (IsMade K name) → is_known K name ≡ false
-none-made K name o is made = subst (λ (o : Option (AnyModule _)). MatchOption o (is_known K name ≡ false) (IsMade K name)) is made
+none-made K name o is made = subst (λ (o : Option AnyModule). MatchOption o (is_known K name ≡ false) (IsMade K name)) is made
 
 pub unreachable-requires : goal.unreachable-requires
 unreachable-requires g c =

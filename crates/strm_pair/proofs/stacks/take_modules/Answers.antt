@@ -4,11 +4,11 @@ use Rattle.strm_pair.specs.Prelude.{all_of, owns}
 use Rattle.strm_pair.specs.AnyModules.{AnyStanding}
 use Rattle.strm_pair.proofs.stacks.take_modules.Goals as goal
 
-none-of : {M : Type 0} (xs : List (AnyStanding M)) → length xs ≡ 0 → xs ≡ []
+none-of : (xs : List AnyStanding) → length xs ≡ 0 → xs ≡ []
 none-of [] none = refl
 none-of (x ∷ xs) none = absurd (omega (arith, none))
 
-one-less : {M : Type 0} (xs ys : List (AnyStanding M)) → (length xs ≡ 0 → ⊥) → ((x : AnyStanding M) (rest : List (AnyStanding M)) → xs ≡ x ∷ rest → ys ≡ rest) → length ys < length xs
+one-less : (xs ys : List AnyStanding) → (length xs ≡ 0 → ⊥) → ((x : AnyStanding) (rest : List AnyStanding) → xs ≡ x ∷ rest → ys ≡ rest) → length ys < length xs
 one-less [] ys some rest = absurd (some refl)
 one-less (x ∷ xs) ys some rest = let same = ap length (rest x xs refl) in omega (arith, same)
 

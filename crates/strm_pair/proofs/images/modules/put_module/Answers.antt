@@ -7,7 +7,7 @@ use Rattle.strm_pair.specs.AnyModules.{AnyStanding, IsKindHeld, kind_in, module_
 use Rattle.strm_pair.proofs.images.modules.put_module.Goals as goal
 
 -- one without queues stands by itself
-stands-alone : {M : Type 0} (s : StoreValue) (x : AnyStanding M) (m : AnyModule M) → x.module ≡ m → x.queues ≡ None → alone (kind_in s m)
+stands-alone : (s : StoreValue) (x : AnyStanding) (m : AnyModule) → x.module ≡ m → x.queues ≡ None → alone (kind_in s m)
     ≡ module_in s x
 stands-alone s x m is none = sym (ap (λ m. module_in s (standing m x.queues)) is ∙ ap (λ o. module_in s (standing m o)) none)
 

@@ -24,7 +24,7 @@ place_at-place-requires g c = (
         let here = c.args.here in
         let low = within-any (g.B.Blocks.value c.args.store.now) s p here.side here.at c.requires.may.within in
         let same = ap length (modules-are s p here.side) in
-        let there = ap (λ (e : StreamEnd _). length (modules_in s e.stack)) c.end.ensures.end in
+        let there = ap (λ (e : StreamEnd). length (modules_in s e.stack)) c.end.ensures.end in
         omega (arith, low, same, there)
         ),
   ),
@@ -54,7 +54,7 @@ book_made-requires g c = (
         let counts = c.of-before.ensures.counts in
         let before = ap (λ (m : Made). m.from_master) counts in
         let made = ap (λ k. between k f'.made_from_master) before ∙ master-between here c.args.again call st tells c.requires.may.begins low c.requires.books f f' (omega (arith, few, before)) tallies in
-        let book = ap (λ (y : Streams _). y.books.master.made) (c.note.ensures s) ∙ ap (λ (y : Streams _). y.books.master.made) e.streams in
+        let book = ap (λ (y : Streams). y.books.master.made) (c.note.ensures s) ∙ ap (λ (y : Streams). y.books.master.made) e.streams in
         let fits = made-fits here c.args.again call st tells c.requires.may.begins low c.requires.books MasterToSlave in
         λ some. omega (arith, made, book, fits)
         ),
@@ -76,7 +76,7 @@ book_made-requires g c = (
         let few = c.of-before.ensures.few.1 in
         let before = ap (λ (m : Made). m.from_slave) c.of-before.ensures.counts in
         let made = ap (λ k. between k f'.made_from_slave) before ∙ slave-between here c.args.again call st tells c.requires.may.begins low c.requires.books f f' (omega (arith, few, before)) tallies in
-        let book = ap (λ (y : Streams _). y.books.slave.made) (c.note.ensures s) ∙ ap (λ (y : Streams _). y.books.slave.made) e.streams in
+        let book = ap (λ (y : Streams). y.books.slave.made) (c.note.ensures s) ∙ ap (λ (y : Streams). y.books.slave.made) e.streams in
         let fits = made-fits here c.args.again call st tells c.requires.may.begins low c.requires.books SlaveToMaster in
         λ some. omega (arith, made, book, fits)
         ),
@@ -113,11 +113,11 @@ returns g c =
     let n_is = ap (λ k. between k f'.made_from_slave) second ∙ slave-between here c.args.again call st tells c.requires.may.begins low c.requires.books f f' (omega (arith, few.1, second)) tallies in
     let m = between c.of-before.result.from_master f'.made_from_master in
     let n = between c.of-before.result.from_slave f'.made_from_slave in
-    let at : Streams _ → Streams _ = λ z. record z
+    let at : Streams → Streams = λ z. record z
     { enabled = noted here.side place earlier served.acts.notes.items z.enabled; books = with_more m n z.books } in
     acts-by s t p c.book_made.new.self x here c.args.again served f f' place earlier m n c.audit.ensures c.requires.may.hand c.requires.may.beside
     place_is (λ way. before-stays s t p y here.side way here.at (c.requires.may.beside here.side).stack e.serves.held names) e.serves m_is n_is
     (c.book_made.ensures
-    ∙ ap (λ (z : Streams _). record z { books = with_more m n z.books })
+    ∙ ap (λ (z : Streams). record z { books = with_more m n z.books })
     (c.note.ensures t ∙ ap (λ ns. record y { enabled = noted here.side place earlier ns y.enabled }) c.as_slice.ensures.value)
     ∙ ap at e.streams)

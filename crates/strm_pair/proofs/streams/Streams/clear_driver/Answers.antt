@@ -18,7 +18,7 @@ returns g c =
     let room = c.clear_queue-gone.result.room in
     let at = c.driver_place-at.result in
     let e = rw c.get_mut.ensures.value at c.clear_queue-gone.ensures in
-    let one : Streams _ = with_end side (record end { driver = q }) p in
+    let one : Streams = with_end side (record end { driver = q }) p in
     let held = driver-held s t p side q c.requires (only-changed s t end.driver q e.changes) e.changes.hand e.changes.mblks e.changes.dblks in
     record {
       state = ap (state_in t) (rw c.get_mut.ensures.value at (c.let_go.ensures s))

@@ -19,7 +19,7 @@ returns g c =
     let q = c.clear_queue-gone.new.queue in
     let room = c.clear_queue-gone.result.room in
     let e = rw c.get_mut.ensures.value at c.clear_queue-gone.ensures in
-    let one : Streams _ = with_end side (record end { head = record end.head { queue = q } }) p in
+    let one : Streams = with_end side (record end { head = record end.head { queue = q } }) p in
     record {
       state = ap (state_in t) (rw c.get_mut.ensures.value at (c.let_go.ensures s))
           ∙ ap (λ ms. record (state_in t one) { enabled = enable_some room (before_among side Up 0 ms) p.enabled }) (modules-behind s p side (record end { head = record end.head { queue = q } }) refl)

@@ -20,11 +20,11 @@ returns-clause-state g c =
     let more = at_place (has_more here.way) false here.at ms in
     let room = at_place (end_relieves c.args.took here.way) false here.at ms in
     let ended = with_stream here.side (queue_ended here c.args.took (stream here.side st)) st in
-    ap (λ (x : Streams _). record (state_in s x) { enabled = c.enable_if.new.self }) gone
+    ap (λ (x : Streams). record (state_in s x) { enabled = c.enable_if.new.self }) gone
     ∙ ap (λ ns. record (state_in s q) { enabled = ns })
     (c.enable_if.ensures
     ∙ ap (λ b. enable_if b name c.let_go.new.self.enabled) e.more
-    ∙ ap (λ (x : Streams _). enable_if more name x.enabled) gone
+    ∙ ap (λ (x : Streams). enable_if more name x.enabled) gone
     ∙ ap (λ b. enable_if more name (enable_some b (before_at here.side here.way here.at (state_in s q)) q.enabled)) e.room)
     ∙ ap (λ (x : State ℕ). record x { enabled = enable_if more name (enable_some room (before_at here.side here.way here.at x) x.enabled) }) e.state
     ∙ ap (λ n. record ended { enabled = enable_if more name (enable_some room n st.enabled) }) (before-ended here.side here.way here.at here c.args.took st)

@@ -17,7 +17,7 @@ end_turn-requires g c =
     let s = g.B.Blocks.value c.args.store.now in
     let is = c.get_mut.ensures.value in
     let few = length-map c.get_mut.result.now.stack.modules.items (module_in s) in
-    let same = modules-are s c.args.self.now c.args.here.side ∙ ap (λ (e : StreamEnd _). modules_in s e.stack) (sym is) in
+    let same = modules-are s c.args.self.now c.args.here.side ∙ ap (λ (e : StreamEnd). modules_in s e.stack) (sym is) in
     (omega arith, (c.requires.inside, (omega (arith, c.requires.within, few, ap length same), rw is (c.requires.beside c.args.here.side).stack)))
 
 pub returns-clause-keeps : goal.returns-clause-keeps
@@ -26,7 +26,7 @@ returns-clause-keeps g c =
     let side = c.args.here.side in
     let r = c.get_mut.result.now in
     λ i. kept-with side (record r { stack = c.end_turn.new.self }) p i
-    ∙ ap (λ n. n + stack_keeps (end_at (other side) p).stack i) (c.end_turn.ensures.does.keeps_same i ∙ ap (λ (e : StreamEnd _). stack_keeps e.stack i) c.get_mut.ensures.value)
+    ∙ ap (λ n. n + stack_keeps (end_at (other side) p).stack i) (c.end_turn.ensures.does.keeps_same i ∙ ap (λ (e : StreamEnd). stack_keeps e.stack i) c.get_mut.ensures.value)
     ∙ sym (kept-parts side p i)
 
 pub returns-clause-beside : goal.returns-clause-beside

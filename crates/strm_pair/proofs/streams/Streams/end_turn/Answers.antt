@@ -21,7 +21,7 @@ returns-clause-state g c =
     let size = c.args.size in
     let e = rw c.get_mut.ensures.value at c.settle-end.ensures in
     let changed = record end { driver = q } in
-    let one : Streams _ = with_end side changed p in
+    let one : Streams = with_end side changed p in
     let was = queue_in s end.driver in
     let left = not (is_none_left was.messages) in
     let at = c.driver_place-at.result in
@@ -32,12 +32,12 @@ returns-clause-state g c =
     let led = λ (x : plain.Queue _). record (with_driver side (settled size x) st) {
       enabled = enable_if (not (is_none_left x.messages)) (driver_of side) (enable_some (settling_relieves size x) (before_driver side st) st.enabled);
     } in
-    ap (λ (x : Streams _). record (state_in s x) { enabled = c.enable_if.new.self }) gone
+    ap (λ (x : Streams). record (state_in s x) { enabled = c.enable_if.new.self }) gone
     ∙ ap (λ ns. record (state_in s one) { enabled = ns })
     (c.enable_if.ensures
     ∙ ap (λ n. enable_if c.settle-end.result.more n c.let_go.new.self.enabled) c.driver.ensures
     ∙ ap (λ b. enable_if b (driver_of side) c.let_go.new.self.enabled) e.more
-    ∙ ap (λ (x : Streams _). enable_if left (driver_of side) x.enabled) gone
+    ∙ ap (λ (x : Streams). enable_if left (driver_of side) x.enabled) gone
     ∙ ap (λ ms. enable_if left (driver_of side) (enable_some room (before_among side Down at ms) p.enabled)) same
     ∙ ap (λ n. enable_if left (driver_of side) (enable_some room (before_among side Down n (stream side st).modules) p.enabled)) (place ∙ ap (λ ms. suc (min MODULES (length ms))) same)
     ∙ ap (λ b. enable_if left (driver_of side) (enable_some b (before_driver side st) p.enabled)) e.room)

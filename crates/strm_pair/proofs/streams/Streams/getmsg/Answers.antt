@@ -59,7 +59,7 @@ returns-clause-leads g c =
     let was = queue_in s end.head.queue in
     let e = rw c.get_mut.ensures.value at got.ensures in
     let changes : Changes s t end.head.queue q = record { ready = e.keeps.ready; list = e.keeps.list; others = e.keeps.others; hand = e.keeps.hand; mblks = e.keeps.mblks; dblks = e.keeps.dblks } in
-    let one : Streams _ = with_end side (record end { head = record end.head { queue = q } }) p in
+    let one : Streams = with_end side (record end { head = record end.head { queue = q } }) p in
     record {
       state = ap (state_in t) (rw c.get_mut.ensures.value at (c.let_go.ensures s))
           ∙ ap (λ ms. record (state_in t one) { enabled = enable_some got.result.lets_go (before_among side Up 0 ms) p.enabled }) (modules-behind s p side (record end { head = record end.head { queue = q } }) refl)

@@ -17,7 +17,7 @@ pub returns-clause-held : goal.returns-clause-held
 returns-clause-held g c = λ mblks dblks.
     let s = empty_store mblks dblks in
     let b = blank mblks dblks in
-    let ends : Both (StreamEnd _) = record { master = c.new_end.result; slave = c.new_end-2.result } in
+    let ends : Both StreamEnd = record { master = c.new_end.result; slave = c.new_end-2.result } in
     record {
       hand = refl;
       beside = each-side (λ side e. IsSide s (first_list side) e) ends

@@ -47,13 +47,13 @@ returns-clause-leads g c =
     let held = c.put_on.ensures.held in
     rw c.in-Some.is
     (record {
-      state = ap (λ (p : Streams _). state_in t p) c.come_from_driver.ensures
+      state = ap (λ (p : Streams). state_in t p) c.come_from_driver.ensures
           ∙ ap (driver_comes reads c.args.side) stands
           ∙ ap (λ (x : State ℕ). driver_comes reads c.args.side (with_modules c.args.side (new.0 ∷ (stream c.args.side x).modules) x)) (told.state ∙ ap (λ m. (mode_put c.args.side m s).state) c.mode_on_push.ensures)
           ∙ sym (ap (λ (o : Carried ℕ (State ℕ)). o.state) pushed);
       tells = told.tells
           ∙ ap (λ m. tallied (mode_put c.args.side m s).gone c.args.told.now) c.mode_on_push.ensures
           ∙ sym (ap (λ (o : Carried ℕ (State ℕ)). tallied o.gone c.args.told.now) pushed);
-      held = subst (λ (p : Streams _). AreHeld t p) (sym c.come_from_driver.ensures) (record { hand = held.hand; beside = held.beside });
+      held = subst (λ (p : Streams). AreHeld t p) (sym c.come_from_driver.ensures) (record { hand = held.hand; beside = held.beside });
       pool = told.pool;
     })

@@ -23,18 +23,18 @@ returns-clause-does g c =
     let acts = c.put-acts.result in
     let t = g.B.Blocks.value c.put-acts.new.store in
     let f = c.args.told.now in
-    let did : StreamEnd _ → Acted ℕ (Queue ℕ) = λ x. driver_put side c.across-across.result (record c.args.to { at = at })
+    let did : StreamEnd → Acted ℕ (Queue ℕ) = λ x. driver_put side c.across-across.result (record c.args.to { at = at })
     (message_in s (token c.args.message)) (queue_in s x.driver) in
     let is = c.get_mut.ensures.value in
     let e = c.put-acts.ensures in
     let end = record (end_at side p) { driver = c.put-acts.new.queue } in
     driver-by side s (g.B.Blocks.value c.put-acts.new.store) p c.note.new.self c.put-acts.new.queue (token c.args.message) c.args.to at c.across-across.result acts c.args.told.now c.put-acts.new.told
     c.audit.ensures c.requires.may.can_put c.requires.may.chain refl (c.driver_place-at.ensures.place s) (c.across-across.ensures s) c.requires.may.beside
-    (subst (λ (x : StreamEnd _). queue_in t c.put-acts.new.queue ≡ (did x).state) is e.state)
-    (subst (λ (x : StreamEnd _). acts.notes.items ≡ (did x).notes) is e.notes)
-    (subst (λ (x : StreamEnd _). parcels_in t (sent_of acts.sent) ≡ (did x).sent) is e.sent)
-    (subst (λ (x : StreamEnd _). c.put-acts.new.told ≡ tallied (did x).gone f) is e.told)
-    (subst (λ (x : StreamEnd _). OnlyQueue s t x.driver c.put-acts.new.queue) is e.only)
+    (subst (λ (x : StreamEnd). queue_in t c.put-acts.new.queue ≡ (did x).state) is e.state)
+    (subst (λ (x : StreamEnd). acts.notes.items ≡ (did x).notes) is e.notes)
+    (subst (λ (x : StreamEnd). parcels_in t (sent_of acts.sent) ≡ (did x).sent) is e.sent)
+    (subst (λ (x : StreamEnd). c.put-acts.new.told ≡ tallied (did x).gone f) is e.told)
+    (subst (λ (x : StreamEnd). OnlyQueue s t x.driver c.put-acts.new.queue) is e.only)
     e.chains e.hands e.spends e.pool
     (rw is at (c.note.ensures s)
     ∙ ap (λ ns. record (with_end side end p) { enabled = noted side (Some Driver) (earlier_at side at (state_in s (with_end side end p))) ns p.enabled }) c.as_slice.ensures.value

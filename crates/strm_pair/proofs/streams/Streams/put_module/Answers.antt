@@ -38,7 +38,7 @@ book_made-requires g c = (
         let first = ap (λ (b : Made). b.from_master) c.of-before.ensures.counts in
         let second = ap (λ (b : Made). b.from_slave) c.of-before.ensures.counts in
         let made = ap (λ k. between k f'.made_from_master) first ∙ put-between to m st small K MasterToSlave f f' (omega (arith, few.0, first)) (omega (arith, few.1, second)) tells in
-        let book = ap (λ (y : Streams _). y.books.master.made) (c.note.ensures s) ∙ ap (λ (y : Streams _). y.books.master.made) e.streams in
+        let book = ap (λ (y : Streams). y.books.master.made) (c.note.ensures s) ∙ ap (λ (y : Streams). y.books.master.made) e.streams in
         λ some. (let fits = put-fits to m st small K c.requires.books MasterToSlave (omega (arith, some, made)) in omega (arith, made, book, fits))
         ),
     (
@@ -58,7 +58,7 @@ book_made-requires g c = (
         let first = ap (λ (b : Made). b.from_master) c.of-before.ensures.counts in
         let second = ap (λ (b : Made). b.from_slave) c.of-before.ensures.counts in
         let made = ap (λ k. between k f'.made_from_slave) second ∙ put-between to m st small K SlaveToMaster f f' (omega (arith, few.0, first)) (omega (arith, few.1, second)) tells in
-        let book = ap (λ (y : Streams _). y.books.slave.made) (c.note.ensures s) ∙ ap (λ (y : Streams _). y.books.slave.made) e.streams in
+        let book = ap (λ (y : Streams). y.books.slave.made) (c.note.ensures s) ∙ ap (λ (y : Streams). y.books.slave.made) e.streams in
         λ some. (let fits = put-fits to m st small K c.requires.books SlaveToMaster (omega (arith, some, made)) in omega (arith, made, book, fits))
         ),
   ),
@@ -93,12 +93,12 @@ returns-clause-does g c =
     let b = between c.of-before.result.from_slave f'.made_from_slave in
     let a_is = ap (λ k. between k f'.made_from_master) first ∙ put-between to m st small K MasterToSlave f f' (omega (arith, few.0, first)) (omega (arith, few.1, second)) tells in
     let b_is = ap (λ k. between k f'.made_from_slave) second ∙ put-between to m st small K SlaveToMaster f f' (omega (arith, few.0, first)) (omega (arith, few.1, second)) tells in
-    let at : Streams _ → Streams _ = λ z. record z
+    let at : Streams → Streams = λ z. record z
     { enabled = noted to.side place earlier acts.notes.items z.enabled; books = with_more a b z.books } in
     module-by K s t p c.book_made.new.self x i to place earlier acts f f' a b
     c.audit.ensures c.requires.may.can_put place_is (λ way. before-stays s t p y to.side way to.at (c.requires.may.beside to.side).stack e.takes.held names) c.requires.may.beside e.takes a_is b_is
     (c.book_made.ensures
-    ∙ ap (λ (z : Streams _). record z { books = with_more a b z.books })
+    ∙ ap (λ (z : Streams). record z { books = with_more a b z.books })
     (c.note.ensures t ∙ ap (λ ns. record y { enabled = noted to.side place earlier ns y.enabled }) c.as_slice.ensures.value)
     ∙ ap at e.streams)
 

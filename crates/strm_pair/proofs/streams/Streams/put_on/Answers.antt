@@ -18,7 +18,7 @@ push_named-requires g c = (
           let K = g.M.Behaves.does in
           let s = g.B.Blocks.value c.args.store.now in
           ap (λ ms. may_stand (named_by K (Some c.args.name)) ms)
-          (ap (λ (e : StreamEnd _). modules_in s e.stack) c.get_mut-end.ensures.value ∙ sym (modules-are s c.args.self.now c.args.side)) ∙
+          (ap (λ (e : StreamEnd). modules_in s e.stack) c.get_mut-end.ensures.value ∙ sym (modules-are s c.args.self.now c.args.side)) ∙
           c.requires.may_stand
           ),
       (

@@ -17,7 +17,7 @@ put-requires g c =
     let to = c.args.to in
     let is = c.get_mut.ensures.value in
     let few = length-map c.get_mut.result.now.stack.modules.items (module_in s) in
-    let same = modules-are s p to.side ∙ ap (λ (e : StreamEnd _). modules_in s e.stack) (sym is) in (
+    let same = modules-are s p to.side ∙ ap (λ (e : StreamEnd). modules_in s e.stack) (sym is) in (
       omega arith,
       (
         c.requires.inside,
@@ -26,7 +26,7 @@ put-requires g c =
           (
             rw is (c.requires.may.beside to.side).stack,
             (
-              record { apart = λ i. omega (arith, c.requires.may.can_put.apart i, kept-parts to.side p i, ap (λ (e : StreamEnd _). stack_keeps e.stack i) is) },
+              record { apart = λ i. omega (arith, c.requires.may.can_put.apart i, kept-parts to.side p i, ap (λ (e : StreamEnd). stack_keeps e.stack i) is) },
               (
                 c.requires.may.chain,
                 subst (λ ms. HasRoom s (at_place (module_takes to (message_in s (token c.args.message))) 0 to.at ms)) same c.requires.room,

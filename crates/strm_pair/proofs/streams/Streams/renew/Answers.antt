@@ -17,7 +17,7 @@ pub returns-clause-held : goal.returns-clause-held
 returns-clause-held g c = λ s mblks dblks beside.
     let t = empty_store mblks dblks in
     let b = blank mblks dblks in
-    let ends : Both (StreamEnd _) = record { master = c.renew.new.self; slave = c.renew-2.new.self } in
+    let ends : Both StreamEnd = record { master = c.renew.new.self; slave = c.renew-2.new.self } in
     record {
       hand = refl;
       beside = each-side (λ side e. IsSide t (first_list side) e) ends (c.renew.ensures.side s t 0 (beside Master) b.0) (c.renew-2.ensures.side s t 4 (beside Slave) b.1);

@@ -30,7 +30,7 @@ begun-spare : (side : Side) (command : ℕ) (s : State ℕ) → spare (ioctl_beg
 begun-spare side command s = refl
 
 -- the streams are at rest where it is under way, as they were
-begun-rests : {M : Type 0} (s : StoreValue) (p q : Streams M) (side : Side) (command : ℕ) → AreAtRest s p → Becomes p q (ioctl_begun side command)
+begun-rests : (s : StoreValue) (p q : Streams) (side : Side) (command : ℕ) → AreAtRest s p → Becomes p q (ioctl_begun side command)
     → AreAtRest s q
 begun-rests s p q side command at_rest begun = record {
   held = begun.held s at_rest.held;

@@ -18,7 +18,7 @@ serve-requires g c =
     let here = c.args.here in
     let is = c.get_mut.ensures.value in
     let few = length-map c.get_mut.result.now.stack.modules.items (module_in s) in
-    let same = modules-are s p here.side ∙ ap (λ (e : StreamEnd _). modules_in s e.stack) (sym is) in
+    let same = modules-are s p here.side ∙ ap (λ (e : StreamEnd). modules_in s e.stack) (sym is) in
     let turn = subst (λ ms. HoldsAt (HoldsOfPart (MayServe here.way c.args.again)) ms (here.at - 1)) same
     (may-serve here.way c.args.again (here.at - 1) (stream here.side (state_in s p)).modules (omega (arith, c.requires.inside, c.requires.within)) c.requires.begins) in (
       omega arith,
@@ -32,7 +32,7 @@ serve-requires g c =
               turn,
               (
                 record {
-                  apart = λ i. omega (arith, c.requires.hand i, kept-parts here.side p i, ap (λ (e : StreamEnd _). stack_keeps e.stack i) is);
+                  apart = λ i. omega (arith, c.requires.hand i, kept-parts here.side p i, ap (λ (e : StreamEnd). stack_keeps e.stack i) is);
                 },
                 subst (λ ms. HasRoom s (at_place (turn_cost here c.args.again) 0 here.at ms)) same c.requires.room,
               ),

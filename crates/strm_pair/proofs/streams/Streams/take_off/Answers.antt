@@ -41,7 +41,7 @@ returns-clause-shelf g c =
     let p = c.args.self.now in
     let side = c.args.side in
     let there = (end-there p side c.get_mut.result.now c.take_top.new.end c.get_mut.ensures.value c.take_top.ensures.end).0 in
-    subst (λ (e : StreamEnd _). stack_owns e.stack (first_list side + 2) ≡ 0 → is_some e.shelf ≡ true) (sym there)
+    subst (λ (e : StreamEnd). stack_owns e.stack (first_list side + 2) ≡ 0 → is_some e.shelf ≡ true) (sym there)
     (c.take_top.ensures.shelf (first_list side + 2) (rw c.get_mut.ensures.value (c.requires.held.beside side).shelf))
 
 pub returns-clause-took : goal.returns-clause-took
@@ -50,7 +50,7 @@ returns-clause-took g c =
     let t = g.B.Blocks.value c.take_top.new.store in
     let x = (end_at c.args.side c.args.self.now).stack in
     let there = (end-there c.args.self.now c.args.side c.get_mut.result.now c.take_top.new.end c.get_mut.ensures.value c.take_top.ensures.end).0 in
-    subst (λ (e : StreamEnd _). MatchOption c.take_top.result (TookNone s t x e.stack c.args.told.now c.take_top.new.told)
+    subst (λ (e : StreamEnd). MatchOption c.take_top.result (TookNone s t x e.stack c.args.told.now c.take_top.new.told)
     (λ taken. TookTop c.args.side c.args.rule s t x e.stack c.args.told.now c.take_top.new.told taken)) (sym there)
     (rw c.get_mut.ensures.value at c.take_top.ensures.took)
 
@@ -58,5 +58,5 @@ pub returns-clause-met : goal.returns-clause-met
 returns-clause-met g c =
     let s = g.B.Blocks.value c.args.store.now in
     subst (λ ms. IfSome c.take_top.result (λ taken. taken.met ≡ is_met c.args.seeking (below_top ms)))
-    (ap (λ (e : StreamEnd _). modules_in s e.stack) c.get_mut.ensures.value ∙ sym (modules-are s c.args.self.now c.args.side))
+    (ap (λ (e : StreamEnd). modules_in s e.stack) c.get_mut.ensures.value ∙ sym (modules-are s c.args.self.now c.args.side))
     c.take_top.ensures.met

@@ -27,4 +27,4 @@ returns-clause-taken g c =
     ∙ noted-same c.args.side c.place-place.result (earlier_of c.earlier-earlier.result) (earlier_at c.args.side 1 st) (λ way. c.earlier-earlier.ensures s way) c.as_slice.result.now c.take_off.new.self.enabled
     ∙ ap (λ ns. noted c.args.side c.place-place.result (earlier_at c.args.side 1 st) ns c.take_off.new.self.enabled) c.as_slice.ensures.value
     ∙ ap (λ pl. noted c.args.side pl (earlier_at c.args.side 1 st) taken.notes.items c.take_off.new.self.enabled) c.place-place.ensures
-    ∙ ap (λ names. noted c.args.side (place_of taken.name) (earlier_at c.args.side 1 st) taken.notes.items names) (ap (λ (r : Streams _). r.enabled) e.streams)))
+    ∙ ap (λ names. noted c.args.side (place_of taken.name) (earlier_at c.args.side 1 st) taken.notes.items names) (ap (λ (r : Streams). r.enabled) e.streams)))

@@ -86,7 +86,7 @@ returns-clause-delivers g c =
     subst (λ (o : TurnOutcome ℕ). Delivers s (g.B.Blocks.value c.move_across.new.store) p c.move_across.new.self c.args.told.now c.move_across.new.told o.state o.gone 8) (sym is) w.delivers
 
 -- nothing moves, and the queue keeps what it has
-stays-put : {M : Type 0} (side : Side) (want_read : Bool) (s : StoreValue) (p q : Streams M) (f : Fates) → AreHeld s p
+stays-put : (side : Side) (want_read : Bool) (s : StoreValue) (p q : Streams) (f : Fates) → AreHeld s p
     → Becomes p q (λ st. with_driver side (record (stream side st).driver.queue { want_read = want_read }) st)
     → Delivers s s p q f f (with_driver side (record (stream side (state_in s p)).driver.queue { want_read = want_read }) (state_in s p)) [] 8
 stays-put side want_read s p q f held keeps =
