@@ -247,7 +247,7 @@ impl<B: Blocks> Stations<B> for Rig {
             store.free(message);
             return Outbox::none();
         }
-        let acts = self.modules.put(store, to, message, told);
+        let acts = self.modules.put::<(), B>(store, to, message, told);
         self.note_all(to.at as usize, acts.notes.as_slice());
         acts.sent
     }
