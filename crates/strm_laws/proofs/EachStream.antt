@@ -12,7 +12,7 @@ use Rattle.strm_types.specs.declared.modes.Mode.TheVariants as chosen
 use Rattle.strm_laws.specs.Behaviours.{Behaviour}
 use Rattle.strm_laws.specs.Calls.{Outcome, group_at, ioctl_begun, ioctl_sent, message_put, mode_set, performed, put_at}
 use Rattle.strm_laws.specs.Closes.{closed_at, driver_emptied, ended, head_emptied, hung_up_at, stream_emptied}
-use Rattle.strm_laws.specs.Pushes.{head_above, module_named, named_by, popped, pushed_named}
+use Rattle.strm_laws.specs.Pushes.{head_above, is_known, module_named, named_by, popped, pushed_named}
 use Rattle.strm_laws.specs.Puts.{delivered, put_at_head}
 use Rattle.strm_laws.specs.Refusals.{refused_at_once, unfit}
 use Rattle.strm_laws.specs.Stacked.{Standing}
@@ -51,7 +51,7 @@ module _ {C : Type 0} (P : Side → Stream C → Type 0) where
     pub modules : (side : Side) (ps : List (Standing C)) (t : Stream C) → Good ps → P side t → P side (record t { modules = ps })
     pub good : (side : Side) (t : Stream C) → P side t → Good t.modules
     pub below : (p : Standing C) (ps : List (Standing C)) → Good (p ∷ ps) → Good ps
-    pub above : (name : ModuleName) (ps : List (Standing C)) → Good ps → Good (module_named K name ∷ ps)
+    pub above : (name : ModuleName) (ps : List (Standing C)) → is_known K name ≡ true → Good ps → Good (module_named K name ∷ ps)
 
   module _ (K : Behaviour) (Good : List (Standing C) → Type 0) (changes : Changes K Good) where
     changed : (side : Side) (t : Stream C) (s : State C) → (P side (stream side s) → P side t) → OfEach s → OfEach (with_stream side t s)
@@ -76,7 +76,7 @@ module _ {C : Type 0} (P : Side → Stream C → Type 0) where
       each-stays = record {
         head = head-each;
         driver = λ side here m s all. driver-each side _ s all;
-        modules = λ side ps s all. changed side (record (stream side s) { modules = ps }) s (λ holds. changes.modules side ps (stream side s) (any ps) holds) all;
+        modules = λ side ps s same all. changed side (record (stream side s) { modules = ps }) s (λ holds. changes.modules side ps (stream side s) (any ps) holds) all;
         names = λ names s adds all. all;
         books = λ dir n s all. all;
         waits = waits;
@@ -113,7 +113,7 @@ module _ {C : Type 0} (P : Side → Stream C → Type 0) where
         let ps = (stream side s).modules in
         named-each K name (λ o. OfEach (pushed_named side o s).state) all
         (λ known.
-        let good = changes.above name ps (changes.good side (stream side s) (all side)) in
+        let good = changes.above name ps known (changes.good side (stream side s) (all side)) in
         pushed-holds side OfEach Good (survives side) (module_named K name) s good all)
 
     pop-each : (side : Side) (s : State C) → OfEach s → OfEach (popped side s).state
