@@ -8,7 +8,7 @@ ghost use Rattle.strm_frame.specs.Hands.{HasRoom};
 ghost use Rattle.strm_image.specs.AccountTexts.{account_now};
 ghost use Rattle.strm_image.specs.ImageTexts.{imaged_now};
 ghost use Rattle.strm_pair.specs.Pairs.{AreHeld, SamePool, state_in};
-ghost use Rattle.strm_pair.specs.Known.{all_known};
+ghost use Rattle.strm_laws.specs.Known.{all_known};
 ghost use Rattle.strm_pair.specs.Restored.{fates_in, image_blocks};
 ghost use Rattle.strm_pair.specs.Runs.{Spent};
 

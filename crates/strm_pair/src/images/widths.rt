@@ -9,7 +9,7 @@ ghost use Rattle.strm_image.specs.HasImage.{AreCounts, AreNumbers, HasHalves, Ha
 ghost use Rattle.strm_laws.specs.Pushes.{is_known};
 ghost use Rattle.strm_laws.specs.Stacked.{module_name};
 ghost use Rattle.strm_pair.specs.AnyModules.{module_in};
-ghost use Rattle.strm_pair.specs.Known.{all_known, are_known};
+ghost use Rattle.strm_laws.specs.Known.{all_known, are_known};
 ghost use Rattle.strm_pair.specs.Stacks.{modules_in};
 ghost use Rattle.strm_pair.specs.Pairs.{state_in};
 ghost use Rattle.strm_pair.specs.Streams.{stream_in};
