@@ -1,17 +1,19 @@
--- There are modules of all names on a new pair's streams, and so behind each delivery, turn and step, and each legal journal: puts and turns leave
--- each module its name, and a push adds none of a name that isn't known.
-use Rattle.strm_laws.proofs.Prelude.{◌≡◌, ◌&&◌, true, List, [], ◌∷◌, map, refl, ap, ◌∙◌, and_from, and_parts, each-side}
-use Rattle.strm_laws.specs.Prelude.{Turn, QueueName, ModuleName, Side, Master, Slave, Spot, Cells, PlainEntry, Message}
+-- There are modules of all names on a new pair's streams, and so behind each delivery, turn and call, and each journal: puts and turns leave each
+-- module its name, and a push adds none of a name that isn't known.
+use Rattle.strm_laws.proofs.Prelude.{◌≡◌, ◌&&◌, true, List, [], ◌∷◌, map, refl, ap, subst, ◌∙◌, and_from, and_parts, each-side}
+use Rattle.strm_laws.specs.Prelude.{Turn, Called, Turned, Caller, QueueName, Side, Master, Slave, Spot, Cells, Request, PlainEntry, Message}
 use Rattle.strm_laws.specs.Behaviours.{Behaviour}
+use Rattle.strm_laws.specs.Calls.{called}
 use Rattle.strm_laws.specs.Known.{all_known, are_known}
 use Rattle.strm_laws.specs.Pushes.{is_known}
 use Rattle.strm_laws.specs.Puts.{delivered}
 use Rattle.strm_laws.specs.StackCosts.{Stands, stands_of, stands_on}
 use Rattle.strm_laws.specs.Stacked.{Standing, module_name}
 use Rattle.strm_laws.specs.State.{State, Stream, opening, stream}
-use Rattle.strm_laws.specs.Step.{IsLegal, Step, after, replay}
+use Rattle.strm_laws.specs.Step.{Step, after, replay}
 use Rattle.strm_laws.specs.Turns.{turned}
-use Rattle.strm_laws.proofs.EachStream.{Changes, OfEach, step-each}
+use Rattle.strm_laws.proofs.EachStream.{Changes, OfEach, called-each}
+use Rattle.strm_laws.proofs.Replay.{after-step}
 use Rattle.strm_laws.proofs.SameNames.{kind-is}
 use Rattle.strm_laws.proofs.StackStays.{delivered-stands, turn-stands}
 
@@ -62,18 +64,25 @@ module _ {C : Type 0} (K : Behaviour) where
     pub turn-known : (name : QueueName) (turn : Turn) (s : State C) → all_known K s ≡ true → all_known K (turned K cells name turn s).state ≡ true
     turn-known name turn s known = same-known s (turned K cells name turn s).state (turn-stands K cells name turn s) known
 
-    -- a step, of a call or a turn
+    delivered-on : (to : Spot) (m : Message C) (s : State C) → OfEach On s → OfEach On (delivered K cells to m s).state
+    delivered-on to m s each = each-on (delivered K cells to m s).state (delivered-known to m s (on-all s each))
+
+    -- whatever is called, refused or not
+    pub called-known : (caller : Caller) (asked : Request) (s : State C) → all_known K s ≡ true
+        → all_known K (called K cells caller asked s).state ≡ true
+    called-known caller asked s known =
+        on-all (called K cells caller asked s).state (called-each On K Are changes cells delivered-on caller asked s (each-on s known))
+
+    -- so behind each entry, and each step
+    pub after-known : (s : State C) (entry : PlainEntry) → all_known K s ≡ true → all_known K (after K cells s entry) ≡ true
+    after-known s (Called caller asked answer) known = called-known caller asked s known
+    after-known s (Turned name turn) known = turn-known name turn s known
+
     pub step-known : (old new : State C) (entry : PlainEntry) → all_known K old ≡ true → Step K cells old entry new → all_known K new ≡ true
     step-known old new entry known step =
-        on-all new
-        (step-each On K Are changes cells
-        (λ to m s each. each-on (delivered K cells to m s).state (delivered-known to m s (on-all s each)))
-        (λ name turn s each. each-on (turned K cells name turn s).state (turn-known name turn s (on-all s each)))
-        old new entry (each-on old known) step)
+        subst (λ s. all_known K s ≡ true) (after-step K cells old new entry step) (after-known old entry known)
 
-    -- and so by induction on the journal
-    pub replay-known : (s : State C) (entries : List PlainEntry) → all_known K s ≡ true → IsLegal K cells s entries
-        → all_known K (replay K cells s entries) ≡ true
-    replay-known s [] known legal = known
-    replay-known s (entry ∷ entries) known legal =
-        let next = after K cells s entry in replay-known next entries (step-known s next entry known legal.0) legal.1
+    -- and by induction behind all entries of a journal
+    pub replay-known : (s : State C) (entries : List PlainEntry) → all_known K s ≡ true → all_known K (replay K cells s entries) ≡ true
+    replay-known s [] known = known
+    replay-known s (entry ∷ entries) known = replay-known (after K cells s entry) entries (after-known s entry known)
