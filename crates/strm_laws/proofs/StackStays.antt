@@ -2,7 +2,7 @@
 use Rattle.strm_laws.proofs.Prelude.{ℕ, ◌≡◌, map, refl, ap, ◌∙◌, PutHolds}
 use Rattle.strm_laws.specs.Prelude.{Turn, QueueName, Side, Master, Slave, Way, Up, Down, Spot, Cells, Message, with_waiting, is_open, Queue}
 use Rattle.strm_laws.specs.Behaviours.{Behaviour}
-use Rattle.strm_laws.specs.Puts.{delivered, put_at_driver, put_at_head, put_in}
+use Rattle.strm_laws.specs.Puts.{delivered, put_at_head, put_in}
 use Rattle.strm_laws.specs.StackCosts.{Stands, stands_of}
 use Rattle.strm_laws.specs.Stacked.{module_name}
 use Rattle.strm_laws.specs.State.{State, Stream, stream, with_driver_queue, with_head_queue, with_stream}
