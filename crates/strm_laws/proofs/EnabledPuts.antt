@@ -25,7 +25,8 @@ use Rattle.strm_laws.specs.Turns.{driver_serves, held_back, is_stopped_across, m
 use Rattle.strm_laws.proofs.EnabledExist.{AreNoted, among-there, any-noted, before-there, if-there, index-there, noted-there, some-there, without-there}
 use Rattle.strm_laws.proofs.GoodTurns.{calls-either, outcome-holds}
 use Rattle.strm_laws.proofs.PutParts.{booked-holds, either-holds, parts-hold}
-use Rattle.strm_laws.proofs.StackStays.{keep-names, queue-names, same-names, serve-names}
+use Rattle.strm_laws.proofs.SameNames.{keep-names, queue-names, serve-names}
+use Rattle.strm_laws.proofs.StackStays.{same-names}
 use Rattle.strm_laws.proofs.TurnHolds.{any-holds}
 
 module _ {C : Type 0} (all : Stands) where

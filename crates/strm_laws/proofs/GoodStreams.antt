@@ -17,7 +17,7 @@ use Rattle.strm_laws.proofs.GoodDeliveries.{GoodParts, GoodTook}
 use Rattle.strm_laws.proofs.GoodDrivers.{driver-good}
 use Rattle.strm_laws.proofs.GoodHeads.{head-good}
 use Rattle.strm_laws.proofs.PutParts.{NamesHold, acted-holds}
-use Rattle.strm_laws.proofs.StackStays.{keep-names}
+use Rattle.strm_laws.proofs.SameNames.{keep-names}
 use Rattle.strm_laws.proofs.Lawful.{GoodActed}
 use Rattle.strm_laws.proofs.LawfulKinds.{puts-lawfully}
 

@@ -22,7 +22,7 @@ use Rattle.strm_laws.specs.Turns.{driver_serves, held_back, is_stopped_across, m
 use Rattle.strm_laws.proofs.GoodDeliveries.{delivered-good, sent-good}
 use Rattle.strm_laws.proofs.GoodQueues.{ended-good, relieved-good, waiting-good}
 use Rattle.strm_laws.proofs.GoodStreams.{AreStreams, acted-good, acts-good, changes-good, driver-queue-good, modules-good, stream-parts, streams-with}
-use Rattle.strm_laws.proofs.StackStays.{queue-names, serve-names}
+use Rattle.strm_laws.proofs.SameNames.{queue-names, serve-names}
 use Rattle.strm_laws.proofs.TurnHolds.{any-holds}
 use Rattle.strm_laws.proofs.LawfulKinds.{lawful}
 

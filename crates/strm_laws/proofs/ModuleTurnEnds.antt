@@ -1,8 +1,8 @@
--- A turn of a module's queue keeps what stays so whatever modules stand, whatever is made, and at the puts at heads and drivers.
+-- A turn of a module's queue keeps what stays so whatever modules of the same names stand, whatever is made, and at the puts at heads and drivers.
 use Rattle.strm_laws.proofs.Prelude.{ℕ, zero, suc, Bool, true, false, cond, arith, ◌==◌, not, Option, None, Some}
 use Rattle.strm_laws.specs.Prelude.{Turn, HOPS, QueueName, Side, Way, Asks, Spot, Cells, carried, in_turn, at_place, place_past, enable_if}
 use Rattle.strm_laws.specs.Prelude.{enable_some}
-use Rattle.strm_laws.specs.Prelude.{end_relieves, has_more}
+use Rattle.strm_laws.specs.Prelude.{end_relieves, has_more, turn_ended, with_waiting}
 use Rattle.std.specs.Prelude.{◌-◌, ◌*◌, ◌+◌}
 use Rattle.strm_types.specs.declared.spots.Asks.TheVariants as asked
 use Rattle.strm_laws.specs.Behaviours.{Behaviour}
@@ -14,6 +14,7 @@ use Rattle.strm_laws.specs.State.{State, stream, with_stream}
 use Rattle.strm_laws.specs.TurnOutcomes.{TurnOutcome}
 use Rattle.strm_laws.proofs.NamesAdded.{AddsNone, if-adds, some-adds}
 use Rattle.strm_laws.proofs.PutParts.{Stays, acted-holds, sent-holds}
+use Rattle.strm_laws.proofs.SameNames.{queue-names, serve-names}
 
 module _ {C : Type 0} (P : State C → Type 0) (stays : Stays P) where
   outcome-holds : (b : Bool) (one another : TurnOutcome C) → P one.state → P another.state → P (cond b one another).state
@@ -25,11 +26,15 @@ module _ {C : Type 0} (P : State C → Type 0) (stays : Stays P) where
   calls-either false one another first second = second
 
   ended-holds : (here : Spot) (took : Bool) (s : State C) → P s → P (with_stream here.side (queue_ended here took (stream here.side s)) s)
-  ended-holds here took s holds = stays.modules here.side (queue_ended here took (stream here.side s)).modules s holds
+  ended-holds here took s holds =
+      let t = stream here.side s in
+      stays.modules here.side (queue_ended here took t).modules s (queue-names here.way (turn_ended took) (here.at - 1) t.modules) holds
 
   pub past-holds : (side : Side) (way : Way) (band : ℕ) (o : Option ℕ) (s : State C) → P s → P (with_stream side (waits_on way band o (stream side s)) s)
   past-holds side way band None s holds = stays.waits side way band s holds
-  past-holds side way band (Some place) s holds = stays.modules side (waits_on way band (Some place) (stream side s)).modules s holds
+  past-holds side way band (Some place) s holds =
+      let t = stream side s in
+      stays.modules side (waits_on way band (Some place) t).modules s (queue-names way (with_waiting band) (place - 1) t.modules) holds
 
   module _ (K : Behaviour) (cells : Cells C) (here : Spot) where
     calls-hold : (n : ℕ) (again : Bool) (left : ℕ) (s : State C) → P s → P (calls K cells here n again left s).state
@@ -40,7 +45,9 @@ module _ {C : Type 0} (P : State C → Type 0) (stays : Stays P) where
         let t = module_called cells here again left s in
         let u = in_turn (carried (put_in K cells) HOPS) t.sent t.state in
         let acted = call_at cells here made again left ps in
-        let sent = sent-holds P K stays cells t.sent t.state (acted-holds P stays.names stays.books here acted s (stays.modules here.side acted.state s holds)) in
+        let same = serve-names cells here made again (Some left) (here.at - 1) ps in
+        let sent = sent-holds P K stays cells t.sent t.state
+        (acted-holds P stays.names stays.books here acted s (stays.modules here.side acted.state s same holds)) in
         calls-either (again_at cells here made again left ps) _ _ (calls-hold more true (left - bytes_at cells here made again left ps) u.state sent) sent
 
     moved-holds : (name : QueueName) (bytes : ℕ) (s : State C) → P s → P (moved_on K cells here name bytes s).state

@@ -145,7 +145,7 @@ module _ {C : Type 0} (s : State C) where
   same-stays = record {
     head = λ side here m t same. either-holds (SameButMade s) (is_open (stream side t).opened) _ _ (enabled _ (same-with side (record (stream side t) { head = (head_put here m (stream side t).head).state }) t refl same)) same;
     driver = λ side here m t same. enabled _ (same-with side (with_driver_queue _ (stream side t)) t refl same);
-    modules = λ side ps t same. same-with side (record (stream side t) { modules = ps }) t refl same;
+    modules = λ side ps t names same. same-with side (record (stream side t) { modules = ps }) t refl same;
     names = same-enabled;
     books = λ dir n t same. record { opened = same.opened; locked = same.locked; next_ioctl = same.next_ioctl; written = λ d. more-written d dir n t ∙ same.written d };
     waits = waits;

@@ -31,7 +31,8 @@ use Rattle.strm_laws.proofs.RestCosts.{up-most}
 use Rattle.strm_laws.proofs.RestPuts.{tolls}
 use Rattle.strm_laws.proofs.RestServes.{Goes, first-fewer, later-less}
 use Rattle.strm_laws.proofs.RestStates.{Fit, FitNames, FitsName, acted-moves, delivered-pays, fits-on, same-moves, sent-pays, with-moves}
-use Rattle.strm_laws.proofs.StackStays.{Stand, puts-stand, queue-names, same-names, serve-names}
+use Rattle.strm_laws.proofs.SameNames.{queue-names, serve-names}
+use Rattle.strm_laws.proofs.StackStays.{Stand, puts-stand, same-names}
 use Rattle.strm_laws.proofs.StandingLdterms.{stands-at}
 use Rattle.strm_laws.proofs.TurnHolds.{any-holds}
 

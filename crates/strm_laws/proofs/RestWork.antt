@@ -260,7 +260,7 @@ module _ {C : Type 0} where
   others-stay n = record {
     head = λ side here m s few. at-head side here m s (is_open (stream side s).opened) few;
     driver = λ side here m s few. omega (arith, few, noted-adds side (Some Driver) (earlier_at side (driver_place side s) s) (driver_put side (across_of side s) (record here { at = driver_place side s }) m (stream side s).driver.queue).notes s.enabled);
-    modules = λ side ps s few. few;
+    modules = λ side ps s same few. few;
     names = λ names s adds few. omega (arith, adds, few);
     books = λ dir n s few. few;
     waits = λ side way band s few. few;

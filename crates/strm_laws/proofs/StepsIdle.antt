@@ -29,7 +29,7 @@ module _ {C : Type 0} where
     modules = λ side ps t good idle. good;
     good = λ side t idle. idle;
     below = λ p ps good. good.1;
-    above = λ name ps idle. ((new K name).rests, idle);
+    above = λ name ps known idle. ((new K name).rests, idle);
   }
 
   turns : (K : Behaviour) → Turns {C = C} K AreIdle

@@ -32,7 +32,7 @@ module _ {C : Type 0} where
     modules = λ side ps t good none. none;
     good = λ side t none. tt;
     below = λ p ps good. tt;
-    above = λ name ps good. tt;
+    above = λ name ps known good. tt;
   }
 
   pub opening-unread : NothingUnread {C = C} opening

@@ -37,7 +37,7 @@ module _ {C : Type 0} where
     modules = λ side ps t good within. within;
     good = λ side t within. tt;
     below = λ p ps good. tt;
-    above = λ name ps good. tt;
+    above = λ name ps known good. tt;
   }
 
   pub opening-within : AreWithin {C = C} opening

@@ -29,6 +29,7 @@ pub mod ModuleTurns
 pub mod TurnCalls
 pub mod Earlier
 pub mod Pushes
+pub mod Known
 pub mod Past
 pub mod Based
 pub mod Ledgers

@@ -13,6 +13,7 @@ use Rattle.strm_types.specs.Heads.{with_options}
 use Rattle.strm_types.specs.Options.{options_in, mode_number}
 use Rattle.strm_laws.specs.Pushes.{enable_waiting, is_known, kind_named, let_come, mode_on_push, pushed_named}
 use Rattle.strm_laws.proofs.FlushDelivered.{carries, went_on}
+use Rattle.strm_laws.proofs.SameNames.{kind-is}
 use Rattle.strm_pair.specs.AnyModules.{HasAsNamed}
 
 -- what it does at a head that is open, and at one that isn't
@@ -85,13 +86,6 @@ mode-among side (Some mode) ms s =
     ∙ told-among (is_open (stream side s).opened) side mode ms s
     ∙ ap (among side ms) (sym (puts-mode side mode s))
 
--- a module has the name by which it was made
-pub kind-is : (K : Behaviour) (name : ModuleName) → kind_name (kind_named {C = ℕ} K name) ≡ name
-kind-is K names.Ldterm = refl
-kind-is K names.Ptem = refl
-kind-is K names.Pckt = refl
-kind-is K (names.Own n) = refl
-
 -- A known name makes a module, and one that makes a module that may stand is known.
 pub named-known : (K : Behaviour) (name : ModuleName) → is_known K name ≡ true → named_by {C = ℕ} K (Some name) ≡ Some (module_named K name)
 named-known K name known = ap (λ (b : Bool). cond b (Some (module_named K name)) None) known
@@ -111,7 +105,7 @@ may-known K name ms = by (is_known K name)
   where
     by : (known : Bool) → (known && (nat_lt (length ms) MODULES && not (stands module_name name ms)))
         ≡ may_stand (cond known (Some (module_named K name)) None) ms
-    by true = ap (λ name. nat_lt (length ms) MODULES && not (stands module_name name ms)) (sym (kind-is K name))
+    by true = ap (λ name. nat_lt (length ms) MODULES && not (stands module_name name ms)) (sym (kind-is ℕ K name))
     by false = refl
 
 -- what may come to the read queue of a module that is pushed, where it has one, is what the other side's driver has

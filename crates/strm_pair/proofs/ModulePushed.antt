@@ -13,7 +13,8 @@ use Rattle.strm_pair.specs.declared.modules.AnyModule.{AnyModule}
 use Rattle.strm_pair.specs.AnyModules.{AnyStanding, IsHeld, IsMade, any-has, keeps, module_in}
 use Rattle.strm_pair.specs.Given.{GivenFor}
 use Rattle.strm_pair.proofs.MadeModules.{given-are, given-ready, own-apart, own-within, some-own}
-use Rattle.strm_pair.proofs.Modes.{bare, kind-is, named-known, neither, stands-known}
+use Rattle.strm_laws.proofs.SameNames.{kind-is}
+use Rattle.strm_pair.proofs.Modes.{bare, named-known, neither, stands-known}
 
 -- the module that a name makes, where it may stand
 pub made-named : (K : Behaviour) (kind : ModuleName) (ms : List (Standing ℕ)) → may_stand (named_by K (Some kind)) ms ≡ true → (p : Standing ℕ) × (named_by K (Some kind) ≡ Some p)
@@ -31,7 +32,7 @@ none-has false is = refl
 -- whatever module has the name that may be pushed may be
 pub may-named : (K : Behaviour) (kind : ModuleName) (p : Standing ℕ) (ms : List (Standing ℕ)) → module_name p ≡ kind → may_stand (named_by K (Some kind)) ms ≡ true → may_push module_name p ms ≡ true
 may-named K kind p ms is may =
-    ap (λ name. nat_lt (length ms) MODULES && not (stands module_name name ms)) (is ∙ sym (kind-is K kind))
+    ap (λ name. nat_lt (length ms) MODULES && not (stands module_name name ms)) (is ∙ sym (kind-is ℕ K kind))
     ∙ ap (λ o. may_stand o ms) (sym (named-known K kind (stands-known K kind ms may)))
     ∙ may
 
@@ -66,7 +67,7 @@ module _ (s : StoreValue) where
       {U : Type 0} (r : Result U AnyStanding)
       (pushed : MatchResult r (λ _. (may_push module_name (module_in s x) (map (module_in s) a.modules.items) ≡ true) × (b.modules.items ≡ x ∷ a.modules.items)) (λ back. (may_push module_name (module_in s x) (map (module_in s) a.modules.items) ≡ false) × ((back ≡ x) × (b ≡ a)))) where
     may-be : may_push module_name (module_in s x) (map (module_in s) a.modules.items) ≡ true
-    may-be = may-named K kind (module_in s x) (map (module_in s) a.modules.items) (ap kind_name (made.made s) ∙ kind-is K kind) may
+    may-be = may-named K kind (module_in s x) (map (module_in s) a.modules.items) (ap kind_name (made.made s) ∙ kind-is ℕ K kind) may
 
     within : (k : ℕ) → 0 < owns x k → (first + 2 ≤ k) × (k < first + 2 + 2)
     within k some = own-within kind (first + 2) x.queues given k some

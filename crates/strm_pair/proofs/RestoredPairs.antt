@@ -12,7 +12,7 @@ use Rattle.strm_pair.specs.declared.journal.Journal.{Journal}
 use Rattle.strm_pair.specs.BaseTexts.{image_room}
 use Rattle.strm_pair.specs.Pairs.{state_in, AreHeld, free_in, journal_of}
 use Rattle.strm_pair.specs.PairViews.{pair_of, sizes_over, IsKept}
-use Rattle.strm_pair.specs.Known.{all_known}
+use Rattle.strm_laws.specs.Known.{all_known}
 use Rattle.strm_pair.specs.Restored.{IsImageFor, IsImageOf, IsNoImage, fates_in, image_blocks, restored}
 use Rattle.strm_pair.specs.Runs.{Spent}
 use Rattle.strm_pair.specs.Starts.{Start}

@@ -19,7 +19,8 @@ use Rattle.strm_types.proofs.DeliveryHolds.{carried-holds, in_turn-holds}
 use Rattle.strm_laws.specs.Puts.{SameButMade}
 use Rattle.strm_laws.proofs.PutParts.{acted-holds, sent-holds}
 use Rattle.strm_laws.proofs.PutsKeep.{same-itself, same-stays}
-use Rattle.strm_laws.proofs.StackStays.{Stand, puts-stand, same-names, serve-names}
+use Rattle.strm_laws.proofs.SameNames.{serve-names}
+use Rattle.strm_laws.proofs.StackStays.{Stand, puts-stand, same-names}
 use Rattle.strm_laws.proofs.Staying.{SentOn}
 use Rattle.strm_ldterm.proofs.Spending.{next-works}
 use Rattle.strm_pair.specs.declared.service_calls.Call.{Call}

@@ -9,7 +9,7 @@ use Rattle.strm_laws.specs.Restorable.{GoodModule}
 use Rattle.strm_laws.specs.Within.{IsWithin}
 use Rattle.strm_image.specs.declared.image.StateText.{StateText}
 use Rattle.strm_image.specs.declared.modules.ModuleText.TheVariants as texts
-use Rattle.strm_pair.specs.Known.{all_known, are_known}
+use Rattle.strm_laws.specs.Known.{all_known, are_known}
 use Rattle.strm_pair.specs.Laying.{IsStreamText, stream_now}
 use Rattle.strm_pair.specs.Placing.{IsModuleText}
 use Rattle.strm_pair.proofs.EndsMade.{names-same}

@@ -35,6 +35,5 @@ pub mod Standing
 pub mod Staying
 pub mod Placing
 pub mod Laying
-pub mod Known
 pub mod Restored
 pub mod Reserved

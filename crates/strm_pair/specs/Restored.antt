@@ -1,7 +1,7 @@
 -- A pair that is made of an image (docs/IMAGES.md).
 use Rattle.std.specs.Prelude.{ℕ, ◌≡◌, ◌+◌, ◌-◌, true, List, [], Option, None, Some, Result, Ok, Err}
 use Rattle.strm_pair.specs.Prelude.{Config, Refusal, Fates, PairState, Version, laid_blocks, IsTextOf, Imaged, image, laid_on, Behaviour}
-use Rattle.strm_pair.specs.Known.{all_known}
+use Rattle.strm_laws.specs.Known.{all_known}
 
 -- bytes are the image of a state and of what has gone, in either version
 abbrev pub IsImageOf : List ℕ → Imaged → Type 0

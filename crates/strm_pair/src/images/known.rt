@@ -3,7 +3,7 @@
 ghost use Rattle.std.specs.Prelude.{◌≡◌};
 ghost use Rattle.strm_image.specs.ImageTexts.{imaged_now};
 ghost use Rattle.strm_image.specs.ModuleTexts.{names_now};
-ghost use Rattle.strm_pair.specs.Known.{all_known, are_known};
+ghost use Rattle.strm_laws.specs.Known.{all_known, are_known};
 
 use crate::own::{OwnModule, is_known};
 use strm_image::{ModuleText, StateText};

@@ -8,7 +8,7 @@ ghost use Rattle.strm_frame.specs.Hands.{HasRoom};
 ghost use Rattle.strm_image.specs.declared.versions.Version.{Version};
 ghost use Rattle.strm_image.specs.Image.{Imaged, image};
 ghost use Rattle.strm_image.specs.ImageTexts.{imaged_now};
-ghost use Rattle.strm_pair.specs.Known.{all_known};
+ghost use Rattle.strm_laws.specs.Known.{all_known};
 ghost use Rattle.strm_pair.specs.PairViews.{sizes_over};
 ghost use Rattle.strm_pair.specs.Pairs.{free_in};
 ghost use Rattle.strm_pair.specs.Reserved.{IsReserved};

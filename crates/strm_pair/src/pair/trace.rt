@@ -7,7 +7,7 @@ ghost use Rattle.strm_image.specs.Sinks.{front_over};
 ghost use Rattle.strm_image.specs.Traces.{IsTrace};
 ghost use Rattle.strm_image.specs.declared.versions.Version.TheVariants.{Second};
 ghost use Rattle.strm_laws.specs.Pair.{restarted};
-ghost use Rattle.strm_pair.specs.Known.{all_known};
+ghost use Rattle.strm_laws.specs.Known.{all_known};
 
 use crate::images::whole::image_into;
 use crate::images::widths::{know_fates, know_streams};

@@ -1,7 +1,7 @@
 -- The names of both sides are those of the state's modules.
 use Rattle.strm_pair.proofs.Prelude.{map, ap, sym, ◌∙◌, ◌&&◌}
 use Rattle.strm_pair.specs.Prelude.{module_name, modules_now, names_now}
-use Rattle.strm_pair.specs.Known.{are_known}
+use Rattle.strm_laws.specs.Known.{are_known}
 use Rattle.strm_pair.proofs.EndsMade.{names-same}
 use Rattle.strm_pair.proofs.images.known.all_known.Goals as goal
 

@@ -3,7 +3,7 @@ use Rattle.strm_pair.specs.Prelude.{module_name}
 use Rattle.std.specs.List.{AllByRecursion}
 use Rattle.strm_image.specs.HasImage.{HasModuleNumbers}
 use Rattle.strm_pair.specs.AnyModules.{module_in}
-use Rattle.strm_pair.specs.Known.{are_known}
+use Rattle.strm_laws.specs.Known.{are_known}
 use Rattle.strm_pair.proofs.images.widths.+know_modules.Goals as goal
 
 pub returns-in-Some-clause-numbers : goal.returns-in-Some-clause-numbers

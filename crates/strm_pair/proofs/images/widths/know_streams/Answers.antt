@@ -1,7 +1,7 @@
 use Rattle.strm_pair.proofs.Prelude.{ap, ◌∙◌, ◌&&◌, map}
 use Rattle.strm_pair.specs.Prelude.{Side, Master, Slave, get, map_both, module_name, StoreValue, stream}
 use Rattle.strm_image.specs.HasImage.{HasNumbers}
-use Rattle.strm_pair.specs.Known.{are_known}
+use Rattle.strm_laws.specs.Known.{are_known}
 use Rattle.strm_pair.specs.Pairs.{state_in}
 use Rattle.strm_pair.specs.Streams.{stream_in}
 use Rattle.strm_pair.proofs.images.widths.know_streams.Goals as goal

@@ -3,7 +3,7 @@ use Rattle.strm_pair.proofs.Prelude.{◌≡◌, ◌≤◌, arith, length, subst,
 use Rattle.strm_pair.specs.Prelude.{Second, imaged, image, PairState}
 use Rattle.strm_image.specs.Sinks.{most_counted}
 use Rattle.strm_pair.specs.BaseTexts.{start_in}
-use Rattle.strm_pair.specs.Known.{all_known}
+use Rattle.strm_laws.specs.Known.{all_known}
 use Rattle.strm_pair.specs.Pairs.{state_in}
 use Rattle.strm_pair.proofs.BaseRows.{image-room}
 use Rattle.strm_pair.proofs.PairImages.{has-image}
