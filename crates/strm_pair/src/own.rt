@@ -4,7 +4,7 @@ ghost use Rattle.std.specs.Prelude.{ℕ, ◌≡◌, ◌<◌, ◌≤◌, false, t
 ghost use Rattle.strm_types.specs.Cells.{plain};
 ghost use Rattle.strm_types.specs.Budgets.{own_at};
 ghost use Rattle.strm_types.specs.Tables.{own_does};
-ghost use Rattle.strm_types.specs.declared.fates.Fates.{Fates};
+ghost use Rattle.strm_types.specs.declared.rules.Fates.{Fates};
 ghost use Rattle.strm_types.specs.declared.limits.TheConstants.{MODULES, SETTINGS_MAX};
 ghost use Rattle.strm_types.specs.Owns.{Own};
 ghost use Rattle.strm_laws.specs.Behaviours.{fresh_own, passes_all};

@@ -5,6 +5,6 @@ use Rattle.strm_pair.proofs.named_queues.place_named.Given as goal
 use Rattle.strm_pair.specs.Stacks.{modules_in}
 
 abbrev pub invariant-loop-index : goal.invariant-loop-index
-invariant-loop-index g l = record {
+invariant-loop-index l = record {
   same : (s : StoreValue) → named_at l.place l.index (modules_in s l.stack) ≡ place_named l.place (modules_in s l.stack);
 }

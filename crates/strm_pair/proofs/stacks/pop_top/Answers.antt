@@ -10,7 +10,7 @@ rest_of [] = []
 rest_of (x ∷ xs) = xs
 
 pub returns-in-Some-queues_of-clause-rest : goal.returns-in-Some-queues_of-clause-rest
-returns-in-Some-queues_of-clause-rest g c = λ x xs is.
+returns-in-Some-queues_of-clause-rest c = λ x xs is.
     let left : c.pop.new.self.modules.items ≡ rest_of c.match-first_mut.stack.modules.items = ap rest_of (sym c.in-Some-pop.ensures) in
     left ∙ elim c.match-first_mut.branch [
       | in-Some w ↦ rw w.stack-is (rw c.as_mut_slice.ensures.value (rw is (take-append_seam xs _)))

@@ -8,4 +8,4 @@ some-own None k own = absurd (omega (arith, own))
 some-own (Some pair) k own = refl
 
 pub returns : goal.returns
-returns g c = λ k own. some-own c.args.standing.queues k own
+returns c = λ k own. some-own c.args.standing.queues k own

@@ -13,19 +13,19 @@ one-less [] ys some rest = absurd (some refl)
 one-less (x ∷ xs) ys some rest = let same = ap length (rest x xs refl) in omega (arith, same)
 
 pub loop-stack-init : goal.loop-stack-init
-loop-stack-init g c = record { shelf = λ k before none. before none }
+loop-stack-init c = record { shelf = λ k before none. before none }
 
 pub loop-stack-smaller : goal.loop-stack-smaller
-loop-stack-smaller g c =
+loop-stack-smaller c =
     let xs = c.loop-stack.stack.modules.items in
     let some : (length xs == 0) ≡ false = sym c.is_empty.ensures ∙ c.loop-stack-test.true in
     one-less xs c.pop_top.new.stack.modules.items (λ none. grind (arith, nat_tests)) c.pop_top.ensures.rest
 
 pub loop-stack-preserved : goal.loop-stack-preserved
-loop-stack-preserved g c = record { shelf = λ k before none. c.pop_top.ensures.shelf k (λ own. c.loop-stack.invariant.shelf k before own) none }
+loop-stack-preserved c = record { shelf = λ k before none. c.pop_top.ensures.shelf k (λ own. c.loop-stack.invariant.shelf k before own) none }
 
 pub returns-clause-shelf : goal.returns-clause-shelf
-returns-clause-shelf g c = λ k before.
+returns-clause-shelf c = λ k before.
     let xs = c.loop-stack.stack.modules.items in
     let none : (length xs == 0) ≡ true = sym c.is_empty.ensures ∙ c.loop-stack-test.false in
     c.loop-stack.invariant.shelf k before (ap (λ ys. all_of owns ys k) (none-of xs (grind (arith, nat_tests))))

@@ -6,7 +6,7 @@ use Rattle.strm_pair.specs.Streams.{AreApart}
 use Rattle.strm_pair.proofs.streams.new_end.Goals as goal
 
 pub returns-clause-side : goal.returns-clause-side
-returns-clause-side g c = λ s blank.
+returns-clause-side c = λ s blank.
     let none = c.new-3.ensures in
     record {
       head_list = search rules;
@@ -21,7 +21,7 @@ returns-clause-side g c = λ s blank.
     }
 
 pub returns-clause-stream : goal.returns-clause-stream
-returns-clause-stream g c = λ s blank.
+returns-clause-stream c = λ s blank.
     let head = c.new-2.ensures in
     let own = c.new.ensures in
     let driver = c.new-4.ensures in

@@ -9,7 +9,7 @@ use Rattle.strm_pair.proofs.Sides.{blank-at, readable-none}
 use Rattle.strm_pair.proofs.ends.StreamEnd.renew.Goals as goal
 
 pub returns-clause-side : goal.returns-clause-side
-returns-clause-side g c = λ s t first is blank.
+returns-clause-side c = λ s t first is blank.
     let none = c.take_modules.ensures.none in
     let head = c.renew.new.self.queue in
     let head_is = c.renew.ensures.list ∙ is.head_list in
@@ -27,7 +27,7 @@ returns-clause-side g c = λ s t first is blank.
     }
 
 pub returns-clause-stream : goal.returns-clause-stream
-returns-clause-stream g c = λ s t first is blank.
+returns-clause-stream c = λ s t first is blank.
     let head_is = c.renew.ensures.list ∙ is.head_list in
     let driver = c.renew-2.new.self in
     let driver_is = c.renew-2.ensures.list ∙ is.driver_list in

@@ -1,5 +1,5 @@
 -- The master's stream stands first, and stays as it is.
-use Rattle.strm_pair.proofs.Prelude.{rules, arith, refl, subst, sym, ◌∙◌}
+use Rattle.strm_pair.proofs.Prelude.{refl, subst, sym, ◌∙◌}
 use Rattle.strm_pair.specs.Prelude.{Master, Slave, laid_blocks, laid_now}
 use Rattle.strm_types.specs.Names.{AreQueues}
 use Rattle.strm_laws.specs.StackCosts.{stands_of}
@@ -11,49 +11,25 @@ use Rattle.strm_pair.proofs.PairsMade.{blank-behind, blank-last, both-sides, mas
 use Rattle.strm_pair.proofs.TextsTold.{names-known, stream-told}
 use Rattle.strm_pair.proofs.images.made_pairs.streams_of.Goals as goal
 
-pub end_of-master-requires : goal.end_of-master-requires
-end_of-master-requires g c = (
-  omega arith,
-  (
-    search rules,
-    (
-      search rules,
-      (
-        (
-            let K = g.M.Behaves.does in
-            stream-told K Master c.args.text.now.opened.master c.args.text.now.streams.master (c.requires.good.streams Master) (c.requires.good.heads Master)
-            (names-known K c.args.text.now c.requires.known).0
-            ),
-        search rules,
-      ),
-    ),
-  ),
-)
+pub end_of-master-requires-clause-good : goal.end_of-master-requires-clause-good
+end_of-master-requires-clause-good g c =
+    let K = g.M.Behaves.does in
+    stream-told K Master c.args.text.now.opened.master c.args.text.now.streams.master (c.requires.good.streams Master) (c.requires.good.heads Master)
+    (names-known K c.args.text.now c.requires.known).0
 
-pub end_of-slave-requires : goal.end_of-slave-requires
-end_of-slave-requires g c = (
-  omega arith,
-  (
-    search rules,
-    (
-      (
-          let s = g.B.Blocks.value c.args.store.now in
-          let t = g.B.Blocks.value c.end_of-master.new.store in
-          let text = c.args.text.now in
-          let stood = subst (λ n. IsStood s t n (stream_now text.opened.master text.streams.master) (laid_blocks (laid_now text.streams.master)) c.end_of-master.result) c.first_list.ensures.list c.end_of-master.ensures in
-          subst (λ n. IsBlank t n) (sym c.first_list-2.ensures.list) (blank-behind stood (blank-last s c.requires.lists))
-          ),
-      (
-        (
-            let K = g.M.Behaves.does in
-            stream-told K Slave c.args.text.now.opened.slave c.args.text.now.streams.slave (c.requires.good.streams Slave) (c.requires.good.heads Slave)
-            (names-known K c.args.text.now c.requires.known).1
-            ),
-        search rules,
-      ),
-    ),
-  ),
-)
+pub end_of-slave-requires-clause-good : goal.end_of-slave-requires-clause-good
+end_of-slave-requires-clause-good g c =
+    let K = g.M.Behaves.does in
+    stream-told K Slave c.args.text.now.opened.slave c.args.text.now.streams.slave (c.requires.good.streams Slave) (c.requires.good.heads Slave)
+    (names-known K c.args.text.now c.requires.known).1
+
+pub end_of-slave-requires-clause-blank : goal.end_of-slave-requires-clause-blank
+end_of-slave-requires-clause-blank g c =
+    let s = g.B.Blocks.value c.args.store.now in
+    let t = g.B.Blocks.value c.end_of-master.new.store in
+    let text = c.args.text.now in
+    let stood = subst (λ n. IsStood s t n (stream_now text.opened.master text.streams.master) (laid_blocks (laid_now text.streams.master)) c.end_of-master.result) c.first_list.ensures.list c.end_of-master.ensures in
+    subst (λ n. IsBlank t n) (sym c.first_list-2.ensures.list) (blank-behind stood (blank-last s c.requires.lists))
 
 pub enabled_of-requires-clause-queues : goal.enabled_of-requires-clause-queues
 enabled_of-requires-clause-queues g c =

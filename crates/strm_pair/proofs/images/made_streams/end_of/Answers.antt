@@ -1,37 +1,18 @@
 -- The queues stand first, and then the modules.
-use Rattle.strm_pair.proofs.Prelude.{rules, ◌+◌, ap, arith, subst, sum_by}
+use Rattle.strm_pair.proofs.Prelude.{◌+◌, ap, arith, subst, sum_by}
 use Rattle.strm_pair.specs.Placing.{AreStacked, module_blocks}
 use Rattle.strm_pair.proofs.EndsMade.{blocks-same, stood}
 use Rattle.strm_pair.proofs.images.made_streams.end_of.Goals as goal
 
-pub stack_of-stack-requires : goal.stack_of-stack-requires
-stack_of-stack-requires g c = (
-  omega arith,
-  (
-    search rules,
-    (
-      search rules,
-      (
-        search rules,
-        (
-          search rules,
-          (
-            search rules,
-            (
-                let ms = ap (λ xs. sum_by module_blocks xs) c.as_slice.ensures.value in
-                let head = c.queue_of-queue.ensures.spent in
-                let driver = c.queue_of-driver.ensures.spent in
-                record {
-                  mblks = omega (arith, c.requires.room.mblks, head.mblks, driver.mblks, blocks-same c.args.text.now.modules.items, ms);
-                  dblks = omega (arith, c.requires.room.dblks, head.dblks, driver.dblks, blocks-same c.args.text.now.modules.items, ms);
-                }
-                ),
-          ),
-        ),
-      ),
-    ),
-  ),
-)
+pub stack_of-stack-requires-clause-room : goal.stack_of-stack-requires-clause-room
+stack_of-stack-requires-clause-room g c =
+    let ms = ap (λ xs. sum_by module_blocks xs) c.as_slice.ensures.value in
+    let head = c.queue_of-queue.ensures.spent in
+    let driver = c.queue_of-driver.ensures.spent in
+    record {
+      mblks = omega (arith, c.requires.room.mblks, head.mblks, driver.mblks, blocks-same c.args.text.now.modules.items, ms);
+      dblks = omega (arith, c.requires.room.dblks, head.dblks, driver.dblks, blocks-same c.args.text.now.modules.items, ms);
+    }
 
 pub returns : goal.returns
 returns g c =

@@ -10,29 +10,23 @@ use Rattle.strm_pair.specs.Streams.{stream_in}
 use Rattle.strm_pair.proofs.PairTexts.{put_six}
 use Rattle.strm_pair.proofs.images.whole.put_image.Goals as goal
 
-pub put_stream-out-requires : goal.put_stream-out-requires
-put_stream-out-requires g c = (
-  omega arith,
-  (
-    (c.requires.beside Master).head.ready,
-    (
-      (c.requires.beside Master).driver,
-      (c.requires.beside Master).stack,
-    ),
-  ),
-)
+pub put_stream-out-requires-clause-head : goal.put_stream-out-requires-clause-head
+put_stream-out-requires-clause-head g c = (c.requires.beside Master).head.ready
 
-pub put_stream-out-requires-2 : goal.put_stream-out-requires-2
-put_stream-out-requires-2 g c = (
-  omega arith,
-  (
-    (c.requires.beside Slave).head.ready,
-    (
-      (c.requires.beside Slave).driver,
-      (c.requires.beside Slave).stack,
-    ),
-  ),
-)
+pub put_stream-out-requires-clause-driver : goal.put_stream-out-requires-clause-driver
+put_stream-out-requires-clause-driver g c = (c.requires.beside Master).driver
+
+pub put_stream-out-requires-clause-stack : goal.put_stream-out-requires-clause-stack
+put_stream-out-requires-clause-stack g c = (c.requires.beside Master).stack
+
+pub put_stream-out-requires-2-clause-head : goal.put_stream-out-requires-2-clause-head
+put_stream-out-requires-2-clause-head g c = (c.requires.beside Slave).head.ready
+
+pub put_stream-out-requires-2-clause-driver : goal.put_stream-out-requires-2-clause-driver
+put_stream-out-requires-2-clause-driver g c = (c.requires.beside Slave).driver
+
+pub put_stream-out-requires-2-clause-stack : goal.put_stream-out-requires-2-clause-stack
+put_stream-out-requires-2-clause-stack g c = (c.requires.beside Slave).stack
 
 pub put_enabled-requires : goal.put_enabled-requires
 put_enabled-requires g c = let few = c.as_slice.ensures.few in omega (arith, few)

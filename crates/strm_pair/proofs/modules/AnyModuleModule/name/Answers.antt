@@ -5,13 +5,13 @@ use Rattle.strm_pair.specs.AnyModules.{kind_in}
 use Rattle.strm_pair.proofs.modules.AnyModuleModule.name.Goals as goal
 
 pub returns-in-Ldterm : goal.returns-in-Ldterm
-returns-in-Ldterm g c = λ s. c.name.ensures s ∙ ap (λ x. kind_name (kind_in s x)) (sym c.in-Ldterm.is)
+returns-in-Ldterm c = λ s. c.name.ensures s ∙ ap (λ x. kind_name (kind_in s x)) (sym c.in-Ldterm.is)
 
 pub returns-in-Ptem : goal.returns-in-Ptem
-returns-in-Ptem g c = λ s. c.name-in-Ptem.ensures s ∙ ap (λ x. kind_name (kind_in s x)) (sym c.in-Ptem.is)
+returns-in-Ptem c = λ s. c.name-in-Ptem.ensures s ∙ ap (λ x. kind_name (kind_in s x)) (sym c.in-Ptem.is)
 
 pub returns-in-Pckt : goal.returns-in-Pckt
-returns-in-Pckt g c = λ s. c.name-in-Pckt.ensures s ∙ ap (λ x. kind_name (kind_in s x)) (sym c.in-Pckt.is)
+returns-in-Pckt c = λ s. c.name-in-Pckt.ensures s ∙ ap (λ x. kind_name (kind_in s x)) (sym c.in-Pckt.is)
 
 pub returns-in-Own : goal.returns-in-Own
-returns-in-Own g c = λ s. c.name-in-Own.ensures s ∙ ap (λ x. kind_name (kind_in s x)) (sym c.in-Own.is)
+returns-in-Own c = λ s. c.name-in-Own.ensures s ∙ ap (λ x. kind_name (kind_in s x)) (sym c.in-Own.is)

@@ -1,5 +1,5 @@
 -- The store stands for the state of the image, and the base is written of it.
-use Rattle.strm_pair.proofs.Prelude.{rules, ◌≡◌, ◌∙◌, ℕ, [], ap, arith, refl, sym}
+use Rattle.strm_pair.proofs.Prelude.{◌≡◌, ◌∙◌, ℕ, [], ap, arith, refl, sym}
 use Rattle.strm_pair.specs.Prelude.{Config, Fates, State, imaged_now}
 use Rattle.strm_image.proofs.FittedImages.{image_base, image_told}
 use Rattle.strm_pair.specs.BaseTexts.{begun_at, start_in}
@@ -8,48 +8,25 @@ use Rattle.strm_pair.proofs.BaseRows.{is-written}
 use Rattle.strm_pair.proofs.RestoredPairs.{free-of, left-free, restored-has, restored-kept, restored-room, restored-shown}
 use Rattle.strm_pair.proofs.pair.Pair.made_of.Goals as goal
 
-pub streams_of-streams-requires : goal.streams_of-streams-requires
-streams_of-streams-requires g c = (
-  omega arith,
-  (
-    search rules,
-    (
-      search rules,
-      (
-        (image_told c.requires.fits.0 (imaged_now c.args.text.now) c.requires.fits.1).restorable,
-        (
-          search rules,
-          search rules,
-        ),
-      ),
-    ),
-  ),
-)
+pub streams_of-streams-requires-clause-good : goal.streams_of-streams-requires-clause-good
+streams_of-streams-requires-clause-good g c = (image_told c.requires.fits.0 (imaged_now c.args.text.now) c.requires.fits.1).restorable
 
-pub at-base-requires : goal.at-base-requires
-at-base-requires g c = (
-  omega arith,
-  (
-    search rules,
-    (
-      (
-          let x = imaged_now c.args.text.now in
-          let made = c.streams_of-streams.ensures in
-          restored-has (g.B.Blocks.value c.streams_of-streams.new.store) c.streams_of-streams.result x c.fates_of-fates.result made.state c.fates_of-fates.ensures made.held (image_told c.requires.fits.0 x c.requires.fits.1)
-          ),
-      (
-          let x = imaged_now c.args.text.now in
-          let made = c.streams_of-streams.ensures in
-          let same : c.args.limits.mblks ≡ (g.B.Blocks.value c.streams_of-streams.new.store).mblks = ap (λ (l : Config). l.mblks) c.requires.limits ∙ sym made.pool.mblks in
-          omega (
-            arith,
-            c.requires.reserved.base,
-            restored-room (g.B.Blocks.value c.streams_of-streams.new.store) c.streams_of-streams.result x c.fates_of-fates.result made.state c.fates_of-fates.ensures made.held (image_told c.requires.fits.0 x c.requires.fits.1) c.audit.ensures c.args.limits.mblks same,
-          )
-          ),
-    ),
-  ),
-)
+pub at-base-requires-clause-has : goal.at-base-requires-clause-has
+at-base-requires-clause-has g c =
+    let x = imaged_now c.args.text.now in
+    let made = c.streams_of-streams.ensures in
+    restored-has (g.B.Blocks.value c.streams_of-streams.new.store) c.streams_of-streams.result x c.fates_of-fates.result made.state c.fates_of-fates.ensures made.held (image_told c.requires.fits.0 x c.requires.fits.1)
+
+pub at-base-requires-clause-room : goal.at-base-requires-clause-room
+at-base-requires-clause-room g c =
+    let x = imaged_now c.args.text.now in
+    let made = c.streams_of-streams.ensures in
+    let same : c.args.limits.mblks ≡ (g.B.Blocks.value c.streams_of-streams.new.store).mblks = ap (λ (l : Config). l.mblks) c.requires.limits ∙ sym made.pool.mblks in
+    omega (
+      arith,
+      c.requires.reserved.base,
+      restored-room (g.B.Blocks.value c.streams_of-streams.new.store) c.streams_of-streams.result x c.fates_of-fates.result made.state c.fates_of-fates.ensures made.held (image_told c.requires.fits.0 x c.requires.fits.1) c.audit.ensures c.args.limits.mblks same,
+    )
 
 pub invariant_of-result : goal.invariant_of-result
 invariant_of-result g c =

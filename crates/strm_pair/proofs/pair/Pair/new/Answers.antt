@@ -21,29 +21,23 @@ overflow_add-mblks g c =
     let m : s.mblks ≡ c.free_blocks-mblks.result.0 = sym (c.free_blocks-mblks.ensures.message_blocks ∙ ap (λ (f : Free). f.mblks) free) in
     omega (arith, c.audit.ensures.few_mblks, m)
 
-pub at-base-requires : goal.at-base-requires
-at-base-requires g c = (
-  omega arith,
-  (
-    (
-        let s = g.B.Blocks.value c.args.store in
-        rw (vacant s c.requires.lists c.requires.hand) (c.new-streams.ensures.held s.mblks s.dblks)
-        ),
-    (
-      (
-          let s = g.B.Blocks.value c.args.store in
-          fresh-has-image s c.new-streams.result _ s.mblks s.dblks (vacant s c.requires.lists c.requires.hand) (record { state = c.new-streams.ensures.state s.mblks s.dblks; held = c.new-streams.ensures.held s.mblks s.dblks }) c.none-fates.ensures
-          ),
-      (
-          let s = g.B.Blocks.value c.args.store in
-          let free = all-free s c.requires.lists c.requires.hand in
-          let m : s.mblks ≡ c.free_blocks-mblks.result.0 = sym (c.free_blocks-mblks.ensures.message_blocks ∙ ap (λ (f : Free). f.mblks) free) in
-          let room = fresh-room s c.new-streams.result _ s.mblks s.dblks (vacant s c.requires.lists c.requires.hand) (record { state = c.new-streams.ensures.state s.mblks s.dblks; held = c.new-streams.ensures.held s.mblks s.dblks }) c.none-fates.ensures in
-          omega (arith, room, m, c.in-Ok-with_capacity.ensures.capacity)
-          ),
-    ),
-  ),
-)
+pub at-base-requires-clause-held : goal.at-base-requires-clause-held
+at-base-requires-clause-held g c =
+    let s = g.B.Blocks.value c.args.store in
+    rw (vacant s c.requires.lists c.requires.hand) (c.new-streams.ensures.held s.mblks s.dblks)
+
+pub at-base-requires-clause-has : goal.at-base-requires-clause-has
+at-base-requires-clause-has g c =
+    let s = g.B.Blocks.value c.args.store in
+    fresh-has-image s c.new-streams.result _ s.mblks s.dblks (vacant s c.requires.lists c.requires.hand) (record { state = c.new-streams.ensures.state s.mblks s.dblks; held = c.new-streams.ensures.held s.mblks s.dblks }) c.none-fates.ensures
+
+pub at-base-requires-clause-room : goal.at-base-requires-clause-room
+at-base-requires-clause-room g c =
+    let s = g.B.Blocks.value c.args.store in
+    let free = all-free s c.requires.lists c.requires.hand in
+    let m : s.mblks ≡ c.free_blocks-mblks.result.0 = sym (c.free_blocks-mblks.ensures.message_blocks ∙ ap (λ (f : Free). f.mblks) free) in
+    let room = fresh-room s c.new-streams.result _ s.mblks s.dblks (vacant s c.requires.lists c.requires.hand) (record { state = c.new-streams.ensures.state s.mblks s.dblks; held = c.new-streams.ensures.held s.mblks s.dblks }) c.none-fates.ensures in
+    omega (arith, room, m, c.in-Ok-with_capacity.ensures.capacity)
 
 pub invariant_of-result : goal.invariant_of-result
 invariant_of-result g c =

@@ -86,45 +86,39 @@ returns-clause-adds g c =
       limits = refl;
     })
 
-pub carry_out-answer-requires : goal.carry_out-answer-requires
-carry_out-answer-requires g c = (
-  omega arith,
-  (
-    led-rests g.M.Behaves.does (g.B.Blocks.value c.self.inside.store) c.self.inside.streams c.self.inside.journal (start_in c.self.inside.base) c.self.inside.limits c.self.inside.fates c.self.invariant.kept,
-    (
-      (
-          let K = g.M.Behaves.does in
-          let p = c.self.inside in
-          let s = g.B.Blocks.value p.store in
-          let asked = request c.args.event.now in
-          let old = state_in s p.streams in
-          let allowed : call_refused K (pair_of s p.streams p.journal (start_in p.base) p.limits p.fates) c.args.caller asked ≡ None = ap (λ (v : PairState). call_refused K v c.args.caller asked) c.self.view_is ∙ (judged-allowed _ (stop_of c.args.self.now.state c.args.caller asked) c.requires).0 in
-          (or_else-none (refused_at_once old c.args.caller asked) (refused_by_state K old c.args.caller asked) (call-allowed K old (journal_of p.journal) p.limits (enough (blocks_asked asked) (free_in s)) c.args.caller asked allowed).0).0
-          ),
-      (
-        (
-            let K = g.M.Behaves.does in
-            let p = c.self.inside in
-            let s = g.B.Blocks.value p.store in
-            let asked = request c.args.event.now in
-            let old = state_in s p.streams in
-            let allowed : call_refused K (pair_of s p.streams p.journal (start_in p.base) p.limits p.fates) c.args.caller asked ≡ None = ap (λ (v : PairState). call_refused K v c.args.caller asked) c.self.view_is ∙ (judged-allowed _ (stop_of c.args.self.now.state c.args.caller asked) c.requires).0 in
-            let free : stop_of old c.args.caller asked ≡ None = ap (λ (v : PairState). stop_of v.state c.args.caller asked) c.self.view_is ∙ (judged-allowed (call_refused K c.args.self.now c.args.caller asked) _ c.requires).1 in
-            free-fits (hold old c.args.caller asked) (unfit K old c.args.caller asked) (or_else-none (refused_at_once old c.args.caller asked) (refused_by_state K old c.args.caller asked) (call-allowed K old (journal_of p.journal) p.limits (enough (blocks_asked asked) (free_in s)) c.args.caller asked allowed).0).1 free
-            ),
-        (
-            let K = g.M.Behaves.does in
-            let p = c.self.inside in
-            let s = g.B.Blocks.value p.store in
-            let asked = request c.args.event.now in
-            let old = state_in s p.streams in
-            let allowed : call_refused K (pair_of s p.streams p.journal (start_in p.base) p.limits p.fates) c.args.caller asked ≡ None = ap (λ (v : PairState). call_refused K v c.args.caller asked) c.self.view_is ∙ (judged-allowed _ (stop_of c.args.self.now.state c.args.caller asked) c.requires).0 in
-            asked-free (blocks_asked asked) s (call-allowed K old (journal_of p.journal) p.limits (enough (blocks_asked asked) (free_in s)) c.args.caller asked allowed).2
-            ),
-      ),
-    ),
-  ),
-)
+pub carry_out-answer-requires-clause-allowed : goal.carry_out-answer-requires-clause-allowed
+carry_out-answer-requires-clause-allowed g c =
+    let K = g.M.Behaves.does in
+    let p = c.self.inside in
+    let s = g.B.Blocks.value p.store in
+    let asked = request c.args.event.now in
+    let old = state_in s p.streams in
+    let allowed : call_refused K (pair_of s p.streams p.journal (start_in p.base) p.limits p.fates) c.args.caller asked ≡ None = ap (λ (v : PairState). call_refused K v c.args.caller asked) c.self.view_is ∙ (judged-allowed _ (stop_of c.args.self.now.state c.args.caller asked) c.requires).0 in
+    (or_else-none (refused_at_once old c.args.caller asked) (refused_by_state K old c.args.caller asked) (call-allowed K old (journal_of p.journal) p.limits (enough (blocks_asked asked) (free_in s)) c.args.caller asked allowed).0).0
+
+pub carry_out-answer-requires-clause-fits : goal.carry_out-answer-requires-clause-fits
+carry_out-answer-requires-clause-fits g c =
+    let K = g.M.Behaves.does in
+    let p = c.self.inside in
+    let s = g.B.Blocks.value p.store in
+    let asked = request c.args.event.now in
+    let old = state_in s p.streams in
+    let allowed : call_refused K (pair_of s p.streams p.journal (start_in p.base) p.limits p.fates) c.args.caller asked ≡ None = ap (λ (v : PairState). call_refused K v c.args.caller asked) c.self.view_is ∙ (judged-allowed _ (stop_of c.args.self.now.state c.args.caller asked) c.requires).0 in
+    let free : stop_of old c.args.caller asked ≡ None = ap (λ (v : PairState). stop_of v.state c.args.caller asked) c.self.view_is ∙ (judged-allowed (call_refused K c.args.self.now c.args.caller asked) _ c.requires).1 in
+    free-fits (hold old c.args.caller asked) (unfit K old c.args.caller asked) (or_else-none (refused_at_once old c.args.caller asked) (refused_by_state K old c.args.caller asked) (call-allowed K old (journal_of p.journal) p.limits (enough (blocks_asked asked) (free_in s)) c.args.caller asked allowed).0).1 free
+
+pub carry_out-answer-requires-clause-rests : goal.carry_out-answer-requires-clause-rests
+carry_out-answer-requires-clause-rests g c = led-rests g.M.Behaves.does (g.B.Blocks.value c.self.inside.store) c.self.inside.streams c.self.inside.journal (start_in c.self.inside.base) c.self.inside.limits c.self.inside.fates c.self.invariant.kept
+
+pub carry_out-answer-requires-clause-room : goal.carry_out-answer-requires-clause-room
+carry_out-answer-requires-clause-room g c =
+    let K = g.M.Behaves.does in
+    let p = c.self.inside in
+    let s = g.B.Blocks.value p.store in
+    let asked = request c.args.event.now in
+    let old = state_in s p.streams in
+    let allowed : call_refused K (pair_of s p.streams p.journal (start_in p.base) p.limits p.fates) c.args.caller asked ≡ None = ap (λ (v : PairState). call_refused K v c.args.caller asked) c.self.view_is ∙ (judged-allowed _ (stop_of c.args.self.now.state c.args.caller asked) c.requires).0 in
+    asked-free (blocks_asked asked) s (call-allowed K old (journal_of p.journal) p.limits (enough (blocks_asked asked) (free_in s)) c.args.caller asked allowed).2
 
 pub as_slice-requires : goal.as_slice-requires
 as_slice-requires g c = search rules steps 30000

@@ -6,39 +6,33 @@ use Rattle.strm_pair.proofs.BaseRows.{is-written}
 use Rattle.strm_pair.proofs.Fresh.{AreFresh, fresh-has-image, fresh-kept, fresh-room, fresh-shown, fresh-start}
 use Rattle.strm_pair.proofs.pair.Pair.reset.Goals as goal
 
-pub write-requires : goal.write-requires
-write-requires g c = (
-  omega arith,
-  (
-    (
-        let l = c.self.inside.limits in
-        let fresh = c.renew.ensures in
-        let kept = c.self.invariant.kept in
-        let old = g.B.Blocks.value c.self.inside.store in
-        let blank : g.B.Blocks.value c.reset.new.self ≡ empty_store l.mblks l.dblks = c.reset.ensures ∙ ap (λ m. empty_store m old.dblks) kept.mblks ∙ ap (λ d. empty_store l.mblks d) kept.dblks in
-        rw blank (fresh.held old l.mblks l.dblks kept.held.beside)
-        ),
-    (
-      (
-          let l = c.self.inside.limits in
-          let fresh = c.renew.ensures in
-          let kept = c.self.invariant.kept in
-          let old = g.B.Blocks.value c.self.inside.store in
-          let blank : g.B.Blocks.value c.reset.new.self ≡ empty_store l.mblks l.dblks = c.reset.ensures ∙ ap (λ m. empty_store m old.dblks) kept.mblks ∙ ap (λ d. empty_store l.mblks d) kept.dblks in
-          fresh-has-image _ c.renew.new.self _ l.mblks l.dblks blank (record { state = fresh.state old l.mblks l.dblks kept.held.beside; held = fresh.held old l.mblks l.dblks kept.held.beside }) c.none-self-inside.ensures
-          ),
-      (
-          let l = c.self.inside.limits in
-          let fresh = c.renew.ensures in
-          let kept = c.self.invariant.kept in
-          let old = g.B.Blocks.value c.self.inside.store in
-          let blank : g.B.Blocks.value c.reset.new.self ≡ empty_store l.mblks l.dblks = c.reset.ensures ∙ ap (λ m. empty_store m old.dblks) kept.mblks ∙ ap (λ d. empty_store l.mblks d) kept.dblks in
-          let room = fresh-room _ c.renew.new.self _ l.mblks l.dblks blank (record { state = fresh.state old l.mblks l.dblks kept.held.beside; held = fresh.held old l.mblks l.dblks kept.held.beside }) c.none-self-inside.ensures in
-          omega (arith, room, c.self.invariant.written.room)
-          ),
-    ),
-  ),
-)
+pub write-requires-clause-held : goal.write-requires-clause-held
+write-requires-clause-held g c =
+    let l = c.self.inside.limits in
+    let fresh = c.renew.ensures in
+    let kept = c.self.invariant.kept in
+    let old = g.B.Blocks.value c.self.inside.store in
+    let blank : g.B.Blocks.value c.reset.new.self ≡ empty_store l.mblks l.dblks = c.reset.ensures ∙ ap (λ m. empty_store m old.dblks) kept.mblks ∙ ap (λ d. empty_store l.mblks d) kept.dblks in
+    rw blank (fresh.held old l.mblks l.dblks kept.held.beside)
+
+pub write-requires-clause-has : goal.write-requires-clause-has
+write-requires-clause-has g c =
+    let l = c.self.inside.limits in
+    let fresh = c.renew.ensures in
+    let kept = c.self.invariant.kept in
+    let old = g.B.Blocks.value c.self.inside.store in
+    let blank : g.B.Blocks.value c.reset.new.self ≡ empty_store l.mblks l.dblks = c.reset.ensures ∙ ap (λ m. empty_store m old.dblks) kept.mblks ∙ ap (λ d. empty_store l.mblks d) kept.dblks in
+    fresh-has-image _ c.renew.new.self _ l.mblks l.dblks blank (record { state = fresh.state old l.mblks l.dblks kept.held.beside; held = fresh.held old l.mblks l.dblks kept.held.beside }) c.none-self-inside.ensures
+
+pub write-requires-clause-room : goal.write-requires-clause-room
+write-requires-clause-room g c =
+    let l = c.self.inside.limits in
+    let fresh = c.renew.ensures in
+    let kept = c.self.invariant.kept in
+    let old = g.B.Blocks.value c.self.inside.store in
+    let blank : g.B.Blocks.value c.reset.new.self ≡ empty_store l.mblks l.dblks = c.reset.ensures ∙ ap (λ m. empty_store m old.dblks) kept.mblks ∙ ap (λ d. empty_store l.mblks d) kept.dblks in
+    let room = fresh-room _ c.renew.new.self _ l.mblks l.dblks blank (record { state = fresh.state old l.mblks l.dblks kept.held.beside; held = fresh.held old l.mblks l.dblks kept.held.beside }) c.none-self-inside.ensures in
+    omega (arith, room, c.self.invariant.written.room)
 
 pub invariant_of-self : goal.invariant_of-self
 invariant_of-self g c =

@@ -8,28 +8,20 @@ use Rattle.strm_pair.proofs.PairImages.{has-image}
 use Rattle.strm_pair.proofs.Steps.{kept-restarted, on-told, restarted-shown}
 use Rattle.strm_pair.proofs.pair.Pair.restart.Goals as goal
 
-pub write-requires : goal.write-requires
-write-requires g c = (
-  omega arith,
-  (
-    c.self.invariant.kept.held,
-    (
-      (
-          let K = g.M.Behaves.does in
-          let p = c.self.inside in
-          let s = g.B.Blocks.value p.store in
-          has-image K s p.streams p.journal (start_in p.base) p.limits p.fates c.self.invariant.kept c.audit.ensures c.know_fates.ensures (c.know_streams.ensures.numbers s)
-          ),
-      (
-          let K = g.M.Behaves.does in
-          let p = c.self.inside in
-          let s = g.B.Blocks.value p.store in
-          let room = image-room K s p.streams p.journal (start_in p.base) p.limits p.fates c.self.invariant.kept c.audit.ensures c.know_fates.ensures (c.know_streams.ensures.numbers s) in
-          omega (arith, room, c.self.invariant.written.room)
-          ),
-    ),
-  ),
-)
+pub write-requires-clause-has : goal.write-requires-clause-has
+write-requires-clause-has g c =
+    let K = g.M.Behaves.does in
+    let p = c.self.inside in
+    let s = g.B.Blocks.value p.store in
+    has-image K s p.streams p.journal (start_in p.base) p.limits p.fates c.self.invariant.kept c.audit.ensures c.know_fates.ensures (c.know_streams.ensures.numbers s)
+
+pub write-requires-clause-room : goal.write-requires-clause-room
+write-requires-clause-room g c =
+    let K = g.M.Behaves.does in
+    let p = c.self.inside in
+    let s = g.B.Blocks.value p.store in
+    let room = image-room K s p.streams p.journal (start_in p.base) p.limits p.fates c.self.invariant.kept c.audit.ensures c.know_fates.ensures (c.know_streams.ensures.numbers s) in
+    omega (arith, room, c.self.invariant.written.room)
 
 pub invariant_of-self : goal.invariant_of-self
 invariant_of-self g c =

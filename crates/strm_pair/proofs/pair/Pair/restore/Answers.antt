@@ -1,5 +1,5 @@
 -- A text is the image of one state, whose blocks are free or aren't; nothing is refused behind that but memory.
-use Rattle.strm_pair.proofs.Prelude.{rules, ◌∙◌, ap, arith, sym, None, Some}
+use Rattle.strm_pair.proofs.Prelude.{◌∙◌, ap, arith, sym, None, Some}
 use Rattle.strm_pair.specs.Prelude.{Config, Enosr, imaged_now}
 use Rattle.strm_types.specs.declared.refusals.Refusal.TheVariants.{NoMemory}
 use Rattle.strm_pair.specs.PairViews.{sizes_over}
@@ -41,34 +41,12 @@ returns-in_default-new-clause-enosr g c =
     not-enosr c.args.text.now c.in-Some.found c.in-Some.ensures.found (Some NoMemory) (free_in (g.B.Blocks.value c.args.store)) c.blocks-blocks.result c.blocks-blocks.ensures.value
     (omega (arith, c.if-mblks-blocks.false, free.message_blocks)) (omega (arith, c.if-dblks-blocks.false, free.data_blocks)) K (λ e. cc)
 
-pub made_of-requires : goal.made_of-requires
-made_of-requires g c = (
-  omega arith,
-  (
-    search rules,
-    (
-      search rules,
-      (
-        search rules,
-        (
-          search rules,
-          (
-            search rules,
-            (
-              (
-                  let free = c.free_blocks-mblks.ensures in
-                  let s = g.B.Blocks.value c.args.store in
-                  let same = limits-over s c.args.sizes c.free_blocks-mblks.result.0 c.free_blocks-mblks.result.1 c.requires.lists c.requires.hand free.message_blocks free.data_blocks in
-                  same ∙ sym (ap (λ (l : Config). sizes_over s l) same)
-                  ),
-              search rules,
-            ),
-          ),
-        ),
-      ),
-    ),
-  ),
-)
+pub made_of-requires-clause-limits : goal.made_of-requires-clause-limits
+made_of-requires-clause-limits g c =
+    let free = c.free_blocks-mblks.ensures in
+    let s = g.B.Blocks.value c.args.store in
+    let same = limits-over s c.args.sizes c.free_blocks-mblks.result.0 c.free_blocks-mblks.result.1 c.requires.lists c.requires.hand free.message_blocks free.data_blocks in
+    same ∙ sym (ap (λ (l : Config). sizes_over s l) same)
 
 pub returns-clause-einval : goal.returns-clause-einval
 returns-clause-einval g c =

@@ -83,14 +83,12 @@ turn-turn-requires g c =
     let s = g.B.Blocks.value p.store in
     let old = state_in s p.streams in
     let asked = enough (turn_blocks c.args.name.place) (free_in s) in
-    let allowed : queue_refused (pair_of s p.streams p.journal (start_in p.base) p.limits p.fates) c.args.name ≡ None = ap (λ (v : PairState). queue_refused v c.args.name) c.self.view_is ∙ sym c.turn_refusal.ensures ∙ c.in_default.is in (
-      omega arith,
-      record {
-        rests = led-rests g.M.Behaves.does s p.streams p.journal (start_in p.base) p.limits p.fates c.self.invariant.kept;
-        room = asked-free (turn_blocks c.args.name.place) s (turn-free old (journal_of p.journal) p.limits asked c.args.name allowed);
-        range = (turn-allowed old (journal_of p.journal) p.limits asked c.args.name allowed).1;
-      },
-    )
+    let allowed : queue_refused (pair_of s p.streams p.journal (start_in p.base) p.limits p.fates) c.args.name ≡ None = ap (λ (v : PairState). queue_refused v c.args.name) c.self.view_is ∙ sym c.turn_refusal.ensures ∙ c.in_default.is in
+    record {
+      rests = led-rests g.M.Behaves.does s p.streams p.journal (start_in p.base) p.limits p.fates c.self.invariant.kept;
+      room = asked-free (turn_blocks c.args.name.place) s (turn-free old (journal_of p.journal) p.limits asked c.args.name allowed);
+      range = (turn-allowed old (journal_of p.journal) p.limits asked c.args.name allowed).1;
+    }
 
 pub returns-clause-stops : goal.returns-clause-stops
 returns-clause-stops g c = subst (λ (v : PairState). MovesOn v.state (free_in (g.B.Blocks.value c.turn-turn.new.store)) c.args.name c.turn-turn.result) c.self.view_is c.turn-turn.ensures.stops

@@ -2,6 +2,6 @@ use Rattle.strm_pair.proofs.NotesDone.{noted-more}
 use Rattle.strm_pair.proofs.streams.Streams.+note_each.Goals as goal
 
 pub returns : goal.returns
-returns g t c = λ s.
+returns t c = λ s.
     noted-more s c.args.side c.args.place c.args.at c.in-Some.first.now c.in-Some.rest.now c.args.notes.now c.args.self.now c.note_one.new.self
     c.note_each.new.self c.in-Some.ensures.cases.0 (c.note_one.ensures s) (c.note_each.ensures s)

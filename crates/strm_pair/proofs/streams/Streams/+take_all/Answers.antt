@@ -26,7 +26,7 @@ take_all-requires g t c κs within =
     let some = c.if-count-eq0.false in
     let left = sym (one-less c.args.rule c.args.side st (state_in (g.B.Blocks.value c.take_top.new.store) c.take_top.new.self) leads.state (c.args.count - 1) many) in
     let rests = rests-behind s (g.B.Blocks.value c.take_top.new.store) c.take_top.new.self c.args.told.now c.take_top.new.told taken.state taken.gone leads (top-idle c.args.rule c.args.side st c.requires.rests.idle) in
-    (omega arith, (within.0, (within.1, (omega arith, (rests, left)))))
+    (omega arith, (within, (rests, left)))
 
 pub returns : goal.returns
 returns g t c =

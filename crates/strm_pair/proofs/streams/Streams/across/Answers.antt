@@ -5,7 +5,7 @@ use Rattle.strm_pair.specs.Pairs.{state_in}
 use Rattle.strm_pair.proofs.streams.Streams.across.Goals as goal
 
 pub returns : goal.returns
-returns g c = λ s.
+returns c = λ s.
     let st = state_in s c.args.self.now in
     let side = c.args.side in
     ap (λ (b : Bool). record { is_open = b; bottom = c.modules_on.result; ended = c.is_closed.result })

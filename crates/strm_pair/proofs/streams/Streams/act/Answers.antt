@@ -1,5 +1,5 @@
 -- What was made is told, and fits the books.
-use Rattle.strm_pair.proofs.Prelude.{rules, ◌<◌, ◌-◌, length, map, sym, ap, ◌∙◌, arith, slice_index_or, None, serve-names}
+use Rattle.strm_pair.proofs.Prelude.{◌<◌, ◌-◌, length, map, sym, ap, ◌∙◌, arith, slice_index_or, None, serve-names}
 use Rattle.strm_pair.specs.Prelude.{MasterToSlave, SlaveToMaster, tallied, places_of, plain, earlier_at, noted, module_name, called}
 use Rattle.strm_laws.specs.State as state
 use Rattle.strm_pair.specs.declared.ends.StreamEnd.{StreamEnd}
@@ -13,75 +13,62 @@ use Rattle.strm_pair.proofs.Sides.{modules-are}
 use Rattle.strm_pair.proofs.streams.Streams.act.Goals as goal
 use Rattle.strm_pair.specs.Stacks.{modules_in}
 
-pub place_at-place-requires : goal.place_at-place-requires
-place_at-place-requires g c = (
-  omega arith,
-  (
-    search rules,
-    (
-        λ s.
-        let p = c.args.self.now in
-        let here = c.args.here in
-        let low = within-any (g.B.Blocks.value c.args.store.now) s p here.side here.at c.requires.may.within in
-        let same = ap length (modules-are s p here.side) in
-        let there = ap (λ (e : StreamEnd). length (modules_in s e.stack)) c.end.ensures.end in
-        omega (arith, low, same, there)
-        ),
-  ),
-)
+pub place_at-place-requires-clause-within : goal.place_at-place-requires-clause-within
+place_at-place-requires-clause-within g c = λ s.
+    let p = c.args.self.now in
+    let here = c.args.here in
+    let low = within-any (g.B.Blocks.value c.args.store.now) s p here.side here.at c.requires.may.within in
+    let same = ap length (modules-are s p here.side) in
+    let there = ap (λ (e : StreamEnd). length (modules_in s e.stack)) c.end.ensures.end in
+    omega (arith, low, same, there)
 
-pub book_made-requires : goal.book_made-requires
-book_made-requires g c = (
-  omega arith,
-  (
-    (
-        let s = g.B.Blocks.value c.args.store.now in
-        let t = g.B.Blocks.value c.serve_at-served.new.store in
-        let p = c.args.self.now in
-        let q = c.serve_at-served.new.self in
-        let here = c.args.here in
-        let st = state_in s p in
-        let f = c.args.told.now in
-        let f' = c.serve_at-served.new.told in
-        let call = call_of c.serve_at-served.result in
-        let e = c.serve_at-served.ensures in
-        let x = (end_at here.side q).stack in
-        let told = (called here c.args.again (stop_in call) (state.stream here.side st).modules).gone in
-        let tells = tells-by s t p q x here c.args.again c.serve_at-served.result f f' e.serves in
-        let low = let inside = c.requires.may.inside in let within = c.requires.may.within in let l : here.at - 1 < length (state.stream here.side st).modules = omega arith in l in
-        let tallies = e.serves.tells ∙ ap (λ ls. tallied (called here c.args.again (stop_in call) ls).gone f) (sym (modules-are s p here.side)) in
-        let few = c.of-before.ensures.few.0 in
-        let counts = c.of-before.ensures.counts in
-        let before = ap (λ (m : Made). m.from_master) counts in
-        let made = ap (λ k. between k f'.made_from_master) before ∙ master-between here c.args.again call st tells c.requires.may.begins low c.requires.books f f' (omega (arith, few, before)) tallies in
-        let book = ap (λ (y : Streams). y.books.master.made) (c.note.ensures s) ∙ ap (λ (y : Streams). y.books.master.made) e.streams in
-        let fits = made-fits here c.args.again call st tells c.requires.may.begins low c.requires.books MasterToSlave in
-        λ some. omega (arith, made, book, fits)
-        ),
-    (
-        let s = g.B.Blocks.value c.args.store.now in
-        let t = g.B.Blocks.value c.serve_at-served.new.store in
-        let p = c.args.self.now in
-        let q = c.serve_at-served.new.self in
-        let here = c.args.here in
-        let st = state_in s p in
-        let f = c.args.told.now in
-        let f' = c.serve_at-served.new.told in
-        let call = call_of c.serve_at-served.result in
-        let e = c.serve_at-served.ensures in
-        let x = (end_at here.side q).stack in
-        let tells = tells-by s t p q x here c.args.again c.serve_at-served.result f f' e.serves in
-        let low = let inside = c.requires.may.inside in let within = c.requires.may.within in let l : here.at - 1 < length (state.stream here.side st).modules = omega arith in l in
-        let tallies = e.serves.tells ∙ ap (λ ls. tallied (called here c.args.again (stop_in call) ls).gone f) (sym (modules-are s p here.side)) in
-        let few = c.of-before.ensures.few.1 in
-        let before = ap (λ (m : Made). m.from_slave) c.of-before.ensures.counts in
-        let made = ap (λ k. between k f'.made_from_slave) before ∙ slave-between here c.args.again call st tells c.requires.may.begins low c.requires.books f f' (omega (arith, few, before)) tallies in
-        let book = ap (λ (y : Streams). y.books.slave.made) (c.note.ensures s) ∙ ap (λ (y : Streams). y.books.slave.made) e.streams in
-        let fits = made-fits here c.args.again call st tells c.requires.may.begins low c.requires.books SlaveToMaster in
-        λ some. omega (arith, made, book, fits)
-        ),
-  ),
-)
+pub book_made-requires-clause-master : goal.book_made-requires-clause-master
+book_made-requires-clause-master g c =
+    let s = g.B.Blocks.value c.args.store.now in
+    let t = g.B.Blocks.value c.serve_at-served.new.store in
+    let p = c.args.self.now in
+    let q = c.serve_at-served.new.self in
+    let here = c.args.here in
+    let st = state_in s p in
+    let f = c.args.told.now in
+    let f' = c.serve_at-served.new.told in
+    let call = call_of c.serve_at-served.result in
+    let e = c.serve_at-served.ensures in
+    let x = (end_at here.side q).stack in
+    let told = (called here c.args.again (stop_in call) (state.stream here.side st).modules).gone in
+    let tells = tells-by s t p q x here c.args.again c.serve_at-served.result f f' e.serves in
+    let low = let inside = c.requires.may.inside in let within = c.requires.may.within in let l : here.at - 1 < length (state.stream here.side st).modules = omega arith in l in
+    let tallies = e.serves.tells ∙ ap (λ ls. tallied (called here c.args.again (stop_in call) ls).gone f) (sym (modules-are s p here.side)) in
+    let few = c.of-before.ensures.few.0 in
+    let counts = c.of-before.ensures.counts in
+    let before = ap (λ (m : Made). m.from_master) counts in
+    let made = ap (λ k. between k f'.made_from_master) before ∙ master-between here c.args.again call st tells c.requires.may.begins low c.requires.books f f' (omega (arith, few, before)) tallies in
+    let book = ap (λ (y : Streams). y.books.master.made) (c.note.ensures s) ∙ ap (λ (y : Streams). y.books.master.made) e.streams in
+    let fits = made-fits here c.args.again call st tells c.requires.may.begins low c.requires.books MasterToSlave in
+    λ some. omega (arith, made, book, fits)
+
+pub book_made-requires-clause-slave : goal.book_made-requires-clause-slave
+book_made-requires-clause-slave g c =
+    let s = g.B.Blocks.value c.args.store.now in
+    let t = g.B.Blocks.value c.serve_at-served.new.store in
+    let p = c.args.self.now in
+    let q = c.serve_at-served.new.self in
+    let here = c.args.here in
+    let st = state_in s p in
+    let f = c.args.told.now in
+    let f' = c.serve_at-served.new.told in
+    let call = call_of c.serve_at-served.result in
+    let e = c.serve_at-served.ensures in
+    let x = (end_at here.side q).stack in
+    let tells = tells-by s t p q x here c.args.again c.serve_at-served.result f f' e.serves in
+    let low = let inside = c.requires.may.inside in let within = c.requires.may.within in let l : here.at - 1 < length (state.stream here.side st).modules = omega arith in l in
+    let tallies = e.serves.tells ∙ ap (λ ls. tallied (called here c.args.again (stop_in call) ls).gone f) (sym (modules-are s p here.side)) in
+    let few = c.of-before.ensures.few.1 in
+    let before = ap (λ (m : Made). m.from_slave) c.of-before.ensures.counts in
+    let made = ap (λ k. between k f'.made_from_slave) before ∙ slave-between here c.args.again call st tells c.requires.may.begins low c.requires.books f f' (omega (arith, few, before)) tallies in
+    let book = ap (λ (y : Streams). y.books.slave.made) (c.note.ensures s) ∙ ap (λ (y : Streams). y.books.slave.made) e.streams in
+    let fits = made-fits here c.args.again call st tells c.requires.may.begins low c.requires.books SlaveToMaster in
+    λ some. omega (arith, made, book, fits)
 
 pub returns : goal.returns
 returns g c =
@@ -113,11 +100,9 @@ returns g c =
     let n_is = ap (λ k. between k f'.made_from_slave) second ∙ slave-between here c.args.again call st tells c.requires.may.begins low c.requires.books f f' (omega (arith, few.1, second)) tallies in
     let m = between c.of-before.result.from_master f'.made_from_master in
     let n = between c.of-before.result.from_slave f'.made_from_slave in
-    let at : Streams → Streams = λ z. record z
-    { enabled = noted here.side place earlier served.acts.notes.items z.enabled; books = with_more m n z.books } in
+    let at : Streams → Streams = λ z. record z { enabled = noted here.side place earlier served.acts.notes.items z.enabled; books = with_more m n z.books } in
     acts-by s t p c.book_made.new.self x here c.args.again served f f' place earlier m n c.audit.ensures c.requires.may.hand c.requires.may.beside
     place_is (λ way. before-stays s t p y here.side way here.at (c.requires.may.beside here.side).stack e.serves.held names) e.serves m_is n_is
     (c.book_made.ensures
-    ∙ ap (λ (z : Streams). record z { books = with_more m n z.books })
-    (c.note.ensures t ∙ ap (λ ns. record y { enabled = noted here.side place earlier ns y.enabled }) c.as_slice.ensures.value)
+    ∙ ap (λ (z : Streams). record z { books = with_more m n z.books }) (c.note.ensures t ∙ ap (λ ns. record y { enabled = noted here.side place earlier ns y.enabled }) c.as_slice.ensures.value)
     ∙ ap at e.streams)

@@ -6,7 +6,7 @@ use Rattle.strm_pair.proofs.Becoming.{head-becomes, next-becomes}
 use Rattle.strm_pair.proofs.streams.Streams.begin_ioctl.Goals as goal
 
 pub returns : goal.returns
-returns g c =
+returns c =
     let p = c.args.self.now in
     let r = c.get_mut.result.now in
     let is = next-becomes p (with_end c.args.side (record r { head = c.begin_ioctl.new.self }) p) _ (p.next_ioctl + 1) (omega arith)

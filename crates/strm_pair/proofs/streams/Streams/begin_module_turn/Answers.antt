@@ -11,20 +11,6 @@ use Rattle.strm_pair.proofs.NamedPlaces.{found-low}
 use Rattle.strm_pair.proofs.Sides.{stack-held}
 use Rattle.strm_pair.proofs.streams.Streams.begin_module_turn.Goals as goal
 
-pub stay-requires-in-Held : goal.stay-requires-in-Held
-stay-requires-in-Held g c =
-    let s = g.B.Blocks.value c.args.store.now in
-    let modules = (stream c.args.name.side (state_in s c.args.self.now)).modules in
-    let low = found-low c.args.name.place modules c.in-Some.at (sym (c.module_named.ensures s) ∙ c.in-Some.is) in
-    (omega arith, (c.requires.held, (low.0, omega (arith, low.1))))
-
-pub stay-requires : goal.stay-requires
-stay-requires g c =
-    let s = g.B.Blocks.value c.args.store.now in
-    let modules = (stream c.args.name.side (state_in s c.args.self.now)).modules in
-    let low = found-low c.args.name.place modules c.in-Some.at (sym (c.module_named.ensures s) ∙ c.in-Some.is) in
-    (omega arith, (c.requires.held, (low.0, omega (arith, low.1))))
-
 pub returns-in-Free-clause-begins : goal.returns-in-Free-clause-begins
 returns-in-Free-clause-begins g c =
     let s = g.B.Blocks.value c.args.store.now in
@@ -56,29 +42,24 @@ overflow_cast-here g c =
     let low = found-low c.args.name.place (stream c.args.name.side st).modules c.in-Some.at (sym (c.module_named.ensures (g.B.Blocks.value c.args.store.now)) ∙ c.in-Some.is) in
     omega (arith, low.2)
 
-pub stay-requires-in-Room : goal.stay-requires-in-Room
-stay-requires-in-Room g c = (
-  omega arith,
-  (
-    c.wait_past.ensures.held (g.B.Blocks.value c.args.store.now) c.requires.held,
-    (
-      (
-          let s = g.B.Blocks.value c.args.store.now in
-          let st = state_in s c.args.self.now in
-          (found-low c.args.name.place (stream c.args.name.side st).modules c.in-Some.at (sym (c.module_named.ensures s) ∙ c.in-Some.is)).0
-          ),
-      (
-          let s = g.B.Blocks.value c.args.store.now in
-          let st = state_in s c.args.self.now in
-          let name = c.args.name in
-          let at = c.in-Some.at in
-          let low = found-low name.place (stream name.side st).modules at (sym (c.module_named.ensures s) ∙ c.in-Some.is) in
-          let long = ap (λ (v : State ℕ). length (stream name.side v).modules) (c.wait_past.ensures.state s) ∙ waiting-long name.side name.way at c.in-Room.band.0 st in
-          omega (arith, low.1, long)
-          ),
-    ),
-  ),
-)
+pub stay-requires-in-Room-clause-held : goal.stay-requires-in-Room-clause-held
+stay-requires-in-Room-clause-held g c = c.wait_past.ensures.held (g.B.Blocks.value c.args.store.now) c.requires.held
+
+pub stay-requires-in-Room-clause-inside : goal.stay-requires-in-Room-clause-inside
+stay-requires-in-Room-clause-inside g c =
+    let s = g.B.Blocks.value c.args.store.now in
+    let st = state_in s c.args.self.now in
+    (found-low c.args.name.place (stream c.args.name.side st).modules c.in-Some.at (sym (c.module_named.ensures s) ∙ c.in-Some.is)).0
+
+pub stay-requires-in-Room-clause-within : goal.stay-requires-in-Room-clause-within
+stay-requires-in-Room-clause-within g c =
+    let s = g.B.Blocks.value c.args.store.now in
+    let st = state_in s c.args.self.now in
+    let name = c.args.name in
+    let at = c.in-Some.at in
+    let low = found-low name.place (stream name.side st).modules at (sym (c.module_named.ensures s) ∙ c.in-Some.is) in
+    let long = ap (λ (v : State ℕ). length (stream name.side v).modules) (c.wait_past.ensures.state s) ∙ waiting-long name.side name.way at c.in-Room.band.0 st in
+    omega (arith, low.1, long)
 
 pub returns-else-has_room_past-clause-begins : goal.returns-else-has_room_past-clause-begins
 returns-else-has_room_past-clause-begins g c =

@@ -1,5 +1,5 @@
 -- Each call goes on from what those before it led to.
-use Rattle.strm_pair.proofs.Prelude.{rules, ◌≡◌, ◌<◌, ◌+◌, ◌-◌, false, true, [], length, refl, sym, ap, subst, ◌∙◌, arith, false≢true}
+use Rattle.strm_pair.proofs.Prelude.{◌≡◌, ◌<◌, ◌+◌, ◌-◌, false, true, [], length, refl, sym, ap, subst, ◌∙◌, arith, false≢true}
 use Rattle.strm_pair.specs.Prelude.{STOP_BLOCKS, stream, times_in, HasRoom}
 use Rattle.strm_laws.proofs.ModuleTurnCalls.{reached-first}
 use Rattle.strm_pair.specs.Framing.{rests}
@@ -34,53 +34,18 @@ loop-call-init g c =
       pool = record { mblks = e.pool.mblks; dblks = e.pool.dblks };
     }
 
-pub call_module-call-requires : goal.call_module-call-requires
-call_module-call-requires g c = (
-  omega arith,
-  (
-    (
-        let here = c.args.here in
-        let s = g.B.Blocks.value c.args.store.now in
-        let p = c.args.self.now in
-        let st0 = state_in s p in
-        let at_rest = c.requires.may.rests in
-        let cost = first-cost here st0 in
-        let room = c.requires.may.room in
-        record {
-          inside = c.requires.inside;
-          within = c.requires.within;
-          begins = first-begins here st0 at_rest.idle (let inside = c.requires.inside in let within = c.requires.within in omega arith);
-          beside = at_rest.held.beside;
-          hand = λ i. ap (times_in i) at_rest.held.hand ∙ sym (rests s p at_rest.held.beside at_rest.idle i);
-          room = record { mblks = omega (arith, cost, room.mblks); dblks = omega (arith, cost, room.dblks) };
-        }
-        ),
-    (
-      search rules,
-      first-books c.args.here (state_in (g.B.Blocks.value c.args.store.now) c.args.self.now) c.requires.may.range c.requires.few,
-    ),
-  ),
-)
+pub call_module-call-requires-clause-books : goal.call_module-call-requires-clause-books
+call_module-call-requires-clause-books g c = first-books c.args.here (state_in (g.B.Blocks.value c.args.store.now) c.args.self.now) c.requires.may.range c.requires.few
 
-pub call_module-call-requires-in-loop-call : goal.call_module-call-requires-in-loop-call
-call_module-call-requires-in-loop-call g c = (
-  omega arith,
-  (
-    search rules,
-    (
-      search rules,
-      (
-          let K = g.M.Behaves.does in
-          let here = c.args.here in
-          let l = c.loop-call in
-          let st0 = state_in (g.B.Blocks.value c.args.store.now) c.args.self.now in
-          let st = state_in (g.B.Blocks.value l.store) l.self in
-          let on : GoOn K here l.bytes st0 st c.args.told.now l.told = subst (λ more. Along K more here l.bytes st0 st c.args.told.now l.told) c.loop-call-test.true l.invariant.along in
-          next-books here K l.bytes st0 st c.args.told.now l.told c.requires.may.range c.requires.few on
-          ),
-    ),
-  ),
-)
+pub call_module-call-requires-in-loop-call-clause-books : goal.call_module-call-requires-in-loop-call-clause-books
+call_module-call-requires-in-loop-call-clause-books g c =
+    let K = g.M.Behaves.does in
+    let here = c.args.here in
+    let l = c.loop-call in
+    let st0 = state_in (g.B.Blocks.value c.args.store.now) c.args.self.now in
+    let st = state_in (g.B.Blocks.value l.store) l.self in
+    let on : GoOn K here l.bytes st0 st c.args.told.now l.told = subst (λ more. Along K more here l.bytes st0 st c.args.told.now l.told) c.loop-call-test.true l.invariant.along in
+    next-books here K l.bytes st0 st c.args.told.now l.told c.requires.may.range c.requires.few on
 
 pub overflow_add-bytes : goal.overflow_add-bytes
 overflow_add-bytes g c =
@@ -135,4 +100,22 @@ loop-call-preserved g c =
       beside = e.beside;
       hand = e.hand;
       pool = record { mblks = e.pool.mblks ∙ l.invariant.pool.mblks; dblks = e.pool.dblks ∙ l.invariant.pool.dblks };
+    }
+
+pub call_module-call-requires-clause-may : goal.call_module-call-requires-clause-may
+call_module-call-requires-clause-may g c =
+    let here = c.args.here in
+    let s = g.B.Blocks.value c.args.store.now in
+    let p = c.args.self.now in
+    let st0 = state_in s p in
+    let at_rest = c.requires.may.rests in
+    let cost = first-cost here st0 in
+    let room = c.requires.may.room in
+    record {
+      inside = c.requires.inside;
+      within = c.requires.within;
+      begins = first-begins here st0 at_rest.idle (let inside = c.requires.inside in let within = c.requires.within in omega arith);
+      beside = at_rest.held.beside;
+      hand = λ i. ap (times_in i) at_rest.held.hand ∙ sym (rests s p at_rest.held.beside at_rest.idle i);
+      room = record { mblks = omega (arith, cost, room.mblks); dblks = omega (arith, cost, room.dblks) };
     }

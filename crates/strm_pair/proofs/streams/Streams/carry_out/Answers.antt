@@ -1,5 +1,5 @@
 -- Plain bytes have no origin: what goes down and what comes up are the bytes themselves.
-use Rattle.strm_pair.proofs.Prelude.{rules, ℕ, ◌≡◌, List, take, refl, sym, ap, ◌∙◌, arith, option_map, unless-none}
+use Rattle.strm_pair.proofs.Prelude.{ℕ, ◌≡◌, List, take, refl, sym, ap, ◌∙◌, arith, option_map, unless-none}
 use Rattle.strm_pair.specs.Prelude.{Bytes, Open, Master, Einval, request, may_stand, named_by, refused_at_once, unfit, stream}
 use Rattle.std.proofs.Math.Seq.{take-length}
 use denote.Ref.{Bor}
@@ -22,44 +22,23 @@ returns-in-Read-clause-answer g c =
 pub returns-in-Ioctl-clause-answer : goal.returns-in-Ioctl-clause-answer
 returns-in-Ioctl-clause-answer g c = rw c.in-Ioctl.is c.ioctl.ensures.answer
 
-pub ioctl-requires : goal.ioctl-requires
-ioctl-requires g c = (
-  omega arith,
-  (
-    search rules,
-    (
-      (
-          let old = state_in (g.B.Blocks.value c.args.store.now) c.args.self.now in
-          few-asked old c.args.caller c.in-Ioctl.command c.in-Ioctl.body.now
-          (ap (λ (e : Event (Bor (List ℕ))). refused_at_once old c.args.caller (request e)) (sym c.in-Ioctl.is) ∙ c.requires.allowed)
-          ),
-      (
-        (
-            let old = state_in (g.B.Blocks.value c.args.store.now) c.args.self.now in
-            number-left old c.args.caller c.in-Ioctl.command c.in-Ioctl.body.now
-            (ap (λ (e : Event (Bor (List ℕ))). refused_at_once old c.args.caller (request e)) (sym c.in-Ioctl.is) ∙ c.requires.allowed)
-            ),
-        search rules,
-      ),
-    ),
-  ),
-)
+pub ioctl-requires-clause-small : goal.ioctl-requires-clause-small
+ioctl-requires-clause-small g c =
+    let old = state_in (g.B.Blocks.value c.args.store.now) c.args.self.now in
+    few-asked old c.args.caller c.in-Ioctl.command c.in-Ioctl.body.now
+    (ap (λ (e : Event (Bor (List ℕ))). refused_at_once old c.args.caller (request e)) (sym c.in-Ioctl.is) ∙ c.requires.allowed)
 
-pub push-requires : goal.push-requires
-push-requires g c = (
-  omega arith,
-  (
-    search rules,
-    (
-      (
-          let old = state_in (g.B.Blocks.value c.args.store.now) c.args.self.now in
-          unless-none (may_stand (named_by g.M.Behaves.does c.in-Push.name) (stream c.args.caller.side old).modules) Einval
-          (ap (λ (e : Event (Bor (List ℕ))). unfit g.M.Behaves.does old c.args.caller (request e)) (sym c.in-Push.is) ∙ c.requires.fits)
-          ),
-      search rules,
-    ),
-  ),
-)
+pub ioctl-requires-clause-numbered : goal.ioctl-requires-clause-numbered
+ioctl-requires-clause-numbered g c =
+    let old = state_in (g.B.Blocks.value c.args.store.now) c.args.self.now in
+    number-left old c.args.caller c.in-Ioctl.command c.in-Ioctl.body.now
+    (ap (λ (e : Event (Bor (List ℕ))). refused_at_once old c.args.caller (request e)) (sym c.in-Ioctl.is) ∙ c.requires.allowed)
+
+pub push-requires-clause-may_stand : goal.push-requires-clause-may_stand
+push-requires-clause-may_stand g c =
+    let old = state_in (g.B.Blocks.value c.args.store.now) c.args.self.now in
+    unless-none (may_stand (named_by g.M.Behaves.does c.in-Push.name) (stream c.args.caller.side old).modules) Einval
+    (ap (λ (e : Event (Bor (List ℕ))). unfit g.M.Behaves.does old c.args.caller (request e)) (sym c.in-Push.is) ∙ c.requires.fits)
 
 pub returns-in-Look-clause-answer : goal.returns-in-Look-clause-answer
 returns-in-Look-clause-answer g c = rw c.in-Look.is (c.look.ensures.answer (g.B.Blocks.value c.args.store.now) c.clear.new.self.items)
@@ -84,23 +63,16 @@ returns-in-Write-clause-leads g c = rw c.in-Write.is c.write.ensures.delivers.le
 pub returns-in-Ioctl-clause-leads : goal.returns-in-Ioctl-clause-leads
 returns-in-Ioctl-clause-leads g c = rw c.in-Ioctl.is c.ioctl.ensures.delivers.leads
 
-pub putmsg-requires : goal.putmsg-requires
-putmsg-requires g c = (
-  omega arith,
-  (
-    search rules,
-    (
-        let old = state_in (g.B.Blocks.value c.args.store.now) c.args.self.now in
-        let now : Bor (List ℕ) → List ℕ = λ bytes. bytes.now in
-        record {
-          rests = c.requires.rests;
-          room = rw c.in-Put.is at c.requires.room;
-          range = put-in_range old c.args.caller c.in-Put.prio (option_map now c.in-Put.control) (option_map now c.in-Put.body)
-              (ap (λ (e : Event (Bor (List ℕ))). refused_at_once old c.args.caller (request e)) (sym c.in-Put.is) ∙ c.requires.allowed);
-        }
-        ),
-  ),
-)
+pub putmsg-requires-clause-may : goal.putmsg-requires-clause-may
+putmsg-requires-clause-may g c =
+    let old = state_in (g.B.Blocks.value c.args.store.now) c.args.self.now in
+    let now : Bor (List ℕ) → List ℕ = λ bytes. bytes.now in
+    record {
+      rests = c.requires.rests;
+      room = rw c.in-Put.is at c.requires.room;
+      range = put-in_range old c.args.caller c.in-Put.prio (option_map now c.in-Put.control) (option_map now c.in-Put.body)
+          (ap (λ (e : Event (Bor (List ℕ))). refused_at_once old c.args.caller (request e)) (sym c.in-Put.is) ∙ c.requires.allowed);
+    }
 
 pub returns-in-OpenMaster-clause-leads : goal.returns-in-OpenMaster-clause-leads
 returns-in-OpenMaster-clause-leads g c =

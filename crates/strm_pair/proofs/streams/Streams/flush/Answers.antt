@@ -9,6 +9,11 @@ use Rattle.strm_pair.proofs.InHand.{made-alone, made-state, made-leads, made-lef
 use Rattle.strm_pair.proofs.PlaceCosts.{may-by}
 use Rattle.strm_pair.proofs.streams.Streams.flush.Goals as goal
 
+pub deliver_alone-requires-clause-alone : goal.deliver_alone-requires-clause-alone
+deliver_alone-requires-clause-alone g c =
+    let sends = c.make_flush-message.ensures in
+    made-alone (g.B.Blocks.value c.args.store.now) (g.B.Blocks.value c.make_flush-message.new.store) c.args.self.now c.requires.rests (token c.make_flush-message.result) sends.after sends.chain
+
 -- an M_FLUSH on its way down
 flush-few : (side : Side) (asked : FlushAsked) → most_of {C = ℕ} (record { side = side; at = 1; way = Down }) (flush_message (flush_bytes asked)) ≤ 5
 flush-few side asked = at (asked_by (flush_bytes asked)).for_write (asked_by (flush_bytes asked)).for_read
@@ -18,26 +23,16 @@ flush-few side asked = at (asked_by (flush_bytes asked)).for_write (asked_by (fl
     at true false = omega arith
     at false read = omega arith
 
-pub deliver_alone-requires : goal.deliver_alone-requires
-deliver_alone-requires g c = (
-  omega arith,
-  (
-    (
-        let sends = c.make_flush-message.ensures in
-        made-alone (g.B.Blocks.value c.args.store.now) (g.B.Blocks.value c.make_flush-message.new.store) c.args.self.now c.requires.rests (token c.make_flush-message.result) sends.after sends.chain
-        ),
-    (
-        let s = g.B.Blocks.value c.args.store.now in
-        let made = g.B.Blocks.value c.make_flush-message.new.store in
-        let i = token c.make_flush-message.result in
-        let sends = c.make_flush-message.ensures in
-        let same = ap spare (made-state s made c.args.self.now c.requires.rests i sends.after) in
-        let room = c.requires.room in
-        may-by made (spare (state_in made c.args.self.now)) (record { side = c.args.side; at = 1; way = Down }) (message_of (in_hand made i)) (flush_message (flush_bytes c.of.result)) 5 sends.shows (flush-few c.args.side c.of.result)
-        (record { mblks = omega (arith, room.mblks, sends.room_m); dblks = omega (arith, room.dblks, sends.room_d) }) (omega (arith, same, range-spare (state_in s c.args.self.now) c.requires.range))
-        ),
-  ),
-)
+pub deliver_alone-requires-clause-room : goal.deliver_alone-requires-clause-room
+deliver_alone-requires-clause-room g c =
+    let s = g.B.Blocks.value c.args.store.now in
+    let made = g.B.Blocks.value c.make_flush-message.new.store in
+    let i = token c.make_flush-message.result in
+    let sends = c.make_flush-message.ensures in
+    let same = ap spare (made-state s made c.args.self.now c.requires.rests i sends.after) in
+    let room = c.requires.room in
+    may-by made (spare (state_in made c.args.self.now)) (record { side = c.args.side; at = 1; way = Down }) (message_of (in_hand made i)) (flush_message (flush_bytes c.of.result)) 5 sends.shows (flush-few c.args.side c.of.result)
+    (record { mblks = omega (arith, room.mblks, sends.room_m); dblks = omega (arith, room.dblks, sends.room_d) }) (omega (arith, same, range-spare (state_in s c.args.self.now) c.requires.range))
 
 pub returns-clause-delivers : goal.returns-clause-delivers
 returns-clause-delivers g c =

@@ -5,7 +5,7 @@ use Rattle.strm_pair.proofs.Sides.{head-held}
 use Rattle.strm_pair.proofs.streams.Streams.hang_up.Goals as goal
 
 pub returns-then-is_open : goal.returns-then-is_open
-returns-then-is_open g c =
+returns-then-is_open c =
     let e = c.args.self.now.ends.slave in
     record {
       state = λ s. rw (sym c.is_open.ensures ∙ c.if-is_open.true) refl;

@@ -5,7 +5,7 @@ use Rattle.strm_pair.proofs.Becoming.{side-becomes}
 use Rattle.strm_pair.proofs.streams.Streams.keep.Goals as goal
 
 pub returns : goal.returns
-returns g c =
+returns c =
     side-becomes c.args.side c.args.self.now c.get_mut.result.now c.get_mut.ensures.value _ (λ t. with_driver_queue (record t.driver.queue { want_read = c.args.want_read }) t) (λ s. refl)
     (λ s is. record {
       head_list = is.head_list;

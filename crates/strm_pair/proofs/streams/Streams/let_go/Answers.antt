@@ -3,4 +3,4 @@ use Rattle.std.proofs.Common.{rules}
 use Rattle.strm_pair.proofs.streams.Streams.let_go.Goals as goal
 
 pub returns-then-lets_go : goal.returns-then-lets_go
-returns-then-lets_go g c = search rules steps 300000
+returns-then-lets_go c = search rules steps 300000

@@ -4,4 +4,4 @@ use Rattle.strm_pair.specs.Prelude.{place_named, Stream}
 use Rattle.strm_pair.proofs.streams.Streams.module_named.Goals as goal
 
 pub returns : goal.returns
-returns g c = λ s. c.place_named.ensures.place s ∙ ap (λ (t : Stream ℕ). place_named c.args.name t.modules) (c.end.ensures.stream s)
+returns c = λ s. c.place_named.ensures.place s ∙ ap (λ (t : Stream ℕ). place_named c.args.name t.modules) (c.end.ensures.stream s)

@@ -4,4 +4,4 @@ use Rattle.strm_laws.specs.State.{Stream}
 use Rattle.strm_pair.proofs.streams.Streams.modules_on.Goals as goal
 
 pub returns-clause-on : goal.returns-clause-on
-returns-clause-on g c = λ s. omega (arith, c.min.ensures, c.module_count.ensures s, ap (λ (t : Stream ℕ). length t.modules) (c.end.ensures.stream s))
+returns-clause-on c = λ s. omega (arith, c.min.ensures, c.module_count.ensures s, ap (λ (t : Stream ℕ). length t.modules) (c.end.ensures.stream s))

@@ -9,34 +9,29 @@ use Rattle.strm_pair.specs.Pairs.{state_in}
 use Rattle.strm_pair.proofs.TurnSteps.{ended-spare, taken-idle, taken-spare, up-few}
 use Rattle.strm_pair.proofs.streams.Streams.move_across.Goals as goal
 
-pub deliver_alone-requires : goal.deliver_alone-requires
-deliver_alone-requires g c = (
-  omega arith,
-  (
-    (
-        let got = g.B.Blocks.value c.take_first.new.store in
-        let i = token c.in-Some.message in
-        let e = c.in-Some.ensures in
-        record {
-          hand = e.hand ∙ ap (λ h. record { name = i; chain = in_hand got i } ∷ h) c.requires.may.rests.held.hand;
-          chain = e.chain;
-          beside = e.beside;
-          idle = subst AreIdle (sym e.state) (taken-idle c.args.side _ (state_in (g.B.Blocks.value c.args.store.now) c.args.self.now) c.requires.may.rests.idle);
-        }
-        ),
-    (
-        let old = state_in (g.B.Blocks.value c.args.store.now) c.args.self.now in
-        let m = message_of (in_hand (g.B.Blocks.value c.take_first.new.store) (token c.in-Some.message)) in
-        let few = up-few c.other-above.result c.modules_on-at.result m in
-        let e = c.in-Some.ensures.frees in
-        let room = c.requires.may.room in
-        record {
-          room = record { mblks = omega (arith, few, e.mblks, room.mblks); dblks = omega (arith, few, e.dblks, room.dblks) };
-          spare = omega (arith, few, range-spare old c.requires.may.range, ap spare c.in-Some.ensures.state, taken-spare c.args.side (left_with c.in-Some.ensures.rest (stream c.args.side old).driver.queue) old);
-        }
-        ),
-  ),
-)
+pub deliver_alone-requires-clause-alone : goal.deliver_alone-requires-clause-alone
+deliver_alone-requires-clause-alone g c =
+    let got = g.B.Blocks.value c.take_first.new.store in
+    let i = token c.in-Some.message in
+    let e = c.in-Some.ensures in
+    record {
+      hand = e.hand ∙ ap (λ h. record { name = i; chain = in_hand got i } ∷ h) c.requires.may.rests.held.hand;
+      chain = e.chain;
+      beside = e.beside;
+      idle = subst AreIdle (sym e.state) (taken-idle c.args.side _ (state_in (g.B.Blocks.value c.args.store.now) c.args.self.now) c.requires.may.rests.idle);
+    }
+
+pub deliver_alone-requires-clause-room : goal.deliver_alone-requires-clause-room
+deliver_alone-requires-clause-room g c =
+    let old = state_in (g.B.Blocks.value c.args.store.now) c.args.self.now in
+    let m = message_of (in_hand (g.B.Blocks.value c.take_first.new.store) (token c.in-Some.message)) in
+    let few = up-few c.other-above.result c.modules_on-at.result m in
+    let e = c.in-Some.ensures.frees in
+    let room = c.requires.may.room in
+    record {
+      room = record { mblks = omega (arith, few, e.mblks, room.mblks); dblks = omega (arith, few, e.dblks, room.dblks) };
+      spare = omega (arith, few, range-spare old c.requires.may.range, ap spare c.in-Some.ensures.state, taken-spare c.args.side (left_with c.in-Some.ensures.rest (stream c.args.side old).driver.queue) old);
+    }
 
 -- No message has more bytes than all blocks of a store.
 pub overflow_cast-result : goal.overflow_cast-result

@@ -8,13 +8,13 @@ use Rattle.strm_pair.proofs.Sides.{blank}
 use Rattle.strm_pair.proofs.streams.Streams.new.Goals as goal
 
 pub returns-clause-state : goal.returns-clause-state
-returns-clause-state g c = λ mblks dblks.
+returns-clause-state c = λ mblks dblks.
     let s = empty_store mblks dblks in
     let b = blank mblks dblks in
     rw (c.new_end.ensures.stream s (rw c.first_list.ensures.list b.0), c.new_end-2.ensures.stream s (rw c.first_list-2.ensures.list b.1), c.new.ensures, c.new-2.ensures, c.new-3.ensures) refl
 
 pub returns-clause-held : goal.returns-clause-held
-returns-clause-held g c = λ mblks dblks.
+returns-clause-held c = λ mblks dblks.
     let s = empty_store mblks dblks in
     let b = blank mblks dblks in
     let ends : Both StreamEnd = record { master = c.new_end.result; slave = c.new_end-2.result } in

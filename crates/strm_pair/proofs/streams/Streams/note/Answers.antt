@@ -4,11 +4,11 @@ use Rattle.strm_pair.proofs.NotesDone.{noted-last, noted-more}
 use Rattle.strm_pair.proofs.streams.Streams.note.Goals as goal
 
 pub returns-then-not-is_empty : goal.returns-then-not-is_empty
-returns-then-not-is_empty g c = λ s.
+returns-then-not-is_empty c = λ s.
     noted-more s c.args.side c.args.place c.args.at c.in-Some.first.now c.in-Some.rest.now c.args.notes.now c.args.self.now c.note_one.new.self
     c.note_each.new.self c.in-Some.ensures.cases.0 (c.note_one.ensures s) (c.note_each.ensures s)
 
 pub returns-else-not-is_empty : goal.returns-else-not-is_empty
-returns-else-not-is_empty g c = λ s.
+returns-else-not-is_empty c = λ s.
     noted-last s c.args.side c.args.place c.args.at c.in-Some.first.now c.in-Some.rest.now c.args.notes.now c.args.self.now c.note_one.new.self
     c.in-Some.ensures.cases.0 (sym c.is_empty.ensures ∙ c.if-not-is_empty.false) (c.note_one.ensures s)

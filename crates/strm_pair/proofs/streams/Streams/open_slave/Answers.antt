@@ -7,7 +7,7 @@ use Rattle.strm_pair.proofs.Sides.{none-left, renewed-beside, renewed-state}
 use Rattle.strm_pair.proofs.streams.Streams.open_slave.Goals as goal
 
 pub open-requires : goal.open-requires
-open-requires g c = (omega arith, (c.requires.beside Slave).head.ready)
+open-requires g c = (c.requires.beside Slave).head.ready
 
 pub returns-then-not-is_empty-clause-leads : goal.returns-then-not-is_empty-clause-leads
 returns-then-not-is_empty-clause-leads g c = λ told.

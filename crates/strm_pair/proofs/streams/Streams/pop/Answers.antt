@@ -10,24 +10,19 @@ use Rattle.strm_pair.proofs.Idle.{top-idle}
 use Rattle.strm_pair.proofs.Leading.{leads-then, rests-behind}
 use Rattle.strm_pair.proofs.streams.Streams.pop.Goals as goal
 
-pub put_mode-requires : goal.put_mode-requires
-put_mode-requires g c = (
-  omega arith,
-  (
-    (
-        let s = g.B.Blocks.value c.args.store.now in
-        let st = state_in s c.args.self.now in
-        let taken = top_taken ModulePopped c.args.side (stream c.args.side st).modules st in
-        rests-behind s (g.B.Blocks.value c.take_top-taken.new.store) c.take_top-taken.new.self c.args.told.now c.take_top-taken.new.told taken.state taken.gone c.take_top-taken.ensures.taken.leads
-        (top-idle ModulePopped c.args.side st c.requires.rests.idle)
-        ),
-    (
-        let frees = c.take_top-taken.ensures.taken.frees in
-        let room = c.requires.room in
-        record { mblks = omega (arith, frees.mblks, room.mblks); dblks = omega (arith, frees.dblks, room.dblks) }
-        ),
-  ),
-)
+pub put_mode-requires-clause-rests : goal.put_mode-requires-clause-rests
+put_mode-requires-clause-rests g c =
+    let s = g.B.Blocks.value c.args.store.now in
+    let st = state_in s c.args.self.now in
+    let taken = top_taken ModulePopped c.args.side (stream c.args.side st).modules st in
+    rests-behind s (g.B.Blocks.value c.take_top-taken.new.store) c.take_top-taken.new.self c.args.told.now c.take_top-taken.new.told taken.state taken.gone c.take_top-taken.ensures.taken.leads
+    (top-idle ModulePopped c.args.side st c.requires.rests.idle)
+
+pub put_mode-requires-clause-room : goal.put_mode-requires-clause-room
+put_mode-requires-clause-room g c =
+    let frees = c.take_top-taken.ensures.taken.frees in
+    let room = c.requires.room in
+    record { mblks = omega (arith, frees.mblks, room.mblks); dblks = omega (arith, frees.dblks, room.dblks) }
 
 pub returns-clause-leads : goal.returns-clause-leads
 returns-clause-leads g c =

@@ -1,5 +1,5 @@
 -- The head is told its mode, the module stands there, and what waits before it may come.
-use Rattle.strm_pair.proofs.Prelude.{rules, arith, ℕ, ◌≡◌, ◌∷◌, ap, sym, subst, ◌∙◌, Option, Some, IfSome}
+use Rattle.strm_pair.proofs.Prelude.{ℕ, ◌≡◌, ◌∷◌, ap, sym, subst, ◌∙◌, Option, Some, IfSome}
 use Rattle.strm_pair.specs.Prelude.{Carried, tallied, may_stand, mode_put, named_by, with_modules, have_queues, State, stream}
 use Rattle.strm_pair.specs.declared.streams.Streams.{Streams}
 use Rattle.std.specs.List.{AllByRecursion}
@@ -10,21 +10,14 @@ use Rattle.strm_pair.proofs.ModulePushed.{made-named}
 use Rattle.strm_pair.proofs.Modes.{driver_comes, modules-stay, pushed-is}
 use Rattle.strm_pair.proofs.streams.Streams.push.Goals as goal
 
-pub put_on-requires : goal.put_on-requires
-put_on-requires g c = (
-  omega arith,
-  (
-    search rules,
-    (
-        let K = g.M.Behaves.does in
-        let s = state_in (g.B.Blocks.value c.args.store.now) c.args.self.now in
-        let named = ap (λ (o : Option _). may_stand (named_by K o) (stream c.args.side s).modules) (sym c.in-Some.is) ∙ c.requires.may_stand in
-        ap (λ ms. may_stand (named_by K (Some c.in-Some.name)) ms)
-        (ap (λ (x : State ℕ). (stream c.args.side x).modules) c.put_mode.ensures.state ∙ modules-stay c.args.side c.mode_on_push.result s)
-        ∙ named
-        ),
-  ),
-)
+pub put_on-requires-clause-may_stand : goal.put_on-requires-clause-may_stand
+put_on-requires-clause-may_stand g c =
+    let K = g.M.Behaves.does in
+    let s = state_in (g.B.Blocks.value c.args.store.now) c.args.self.now in
+    let named = ap (λ (o : Option _). may_stand (named_by K o) (stream c.args.side s).modules) (sym c.in-Some.is) ∙ c.requires.may_stand in
+    ap (λ ms. may_stand (named_by K (Some c.in-Some.name)) ms)
+    (ap (λ (x : State ℕ). (stream c.args.side x).modules) c.put_mode.ensures.state ∙ modules-stay c.args.side c.mode_on_push.result s)
+    ∙ named
 
 pub returns-clause-leads : goal.returns-clause-leads
 returns-clause-leads g c =

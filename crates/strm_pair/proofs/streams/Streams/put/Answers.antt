@@ -1,5 +1,5 @@
 -- What stands at a place takes the message: the head, a module, or behind the modules what is below them.
-use Rattle.strm_pair.proofs.Prelude.{rules, ℕ, ◌≡◌, ◌≤◌, ◌<◌, true, false, sym, subst, arith, ◌==◌, nat_le, nat_tests, place-makes, place-own}
+use Rattle.strm_pair.proofs.Prelude.{ℕ, ◌≡◌, ◌≤◌, ◌<◌, true, false, sym, subst, arith, ◌==◌, nat_le, nat_tests, place-makes, place-own}
 use Rattle.strm_pair.specs.Prelude.{Up, Down, driver_own, put_at_driver, HasRoom, message_in, sent_of, token}
 use Rattle.strm_pair.specs.Pairs.{state_in}
 use Rattle.strm_pair.specs.PutBy.{PutBy}
@@ -15,87 +15,46 @@ not-top at not = grind (arith, nat_tests)
 stands-above : (at count : ℕ) → count < at → nat_le at count ≡ false
 stands-above at count past = grind (arith, nat_tests)
 
-pub put_head-requires : goal.put_head-requires
-put_head-requires g c = (
-  omega arith,
-  (
-    search rules,
-    (
-      (
-          let s = g.B.Blocks.value c.args.store.now in
-          head-room s (token c.args.message) c.args.to (state_in s c.args.self.now) c.requires.may.chain c.if-to-eq0.true c.requires.room.room
-          ),
-      search rules,
-    ),
-  ),
-)
+pub put_head-requires-clause-room : goal.put_head-requires-clause-room
+put_head-requires-clause-room g c =
+    let s = g.B.Blocks.value c.args.store.now in
+    head-room s (token c.args.message) c.args.to (state_in s c.args.self.now) c.requires.may.chain c.if-to-eq0.true c.requires.room.room
 
-pub put_module-requires : goal.put_module-requires
-put_module-requires g c = (
-  omega arith,
-  (
-    search rules,
-    (
-      (
-          let s = g.B.Blocks.value c.args.store.now in
-          let st = state_in s c.args.self.now in
-          let to = c.args.to in
-          let m = message_in s (token c.args.message) in
-          let below : (to.at == 0) ≡ false = not-top to.at c.if-to-eq0.false in
-          let stands = subst (λ n. nat_le to.at n ≡ true) (c.modules_on.ensures.on s) (stands-at to.at c.modules_on.result c.if-to-modules_on.true) in
-          subst (λ (n : ℕ). HasRoom s n) (sym (place-own to m st below stands)) c.requires.room.room
-          ),
-      (
-        (
-            let s = g.B.Blocks.value c.args.store.now in
-            let st = state_in s c.args.self.now in
-            let to = c.args.to in
-            let m = message_in s (token c.args.message) in
-            let below : (to.at == 0) ≡ false = not-top to.at c.if-to-eq0.false in
-            let stands = subst (λ n. nat_le to.at n ≡ true) (c.modules_on.ensures.on s) (stands-at to.at c.modules_on.result c.if-to-modules_on.true) in
-            omega (arith, place-makes to m st below stands, c.requires.room.spare)
-            ),
-        (
-          search rules,
-          search rules,
-        ),
-      ),
-    ),
-  ),
-)
+pub put_module-requires-clause-room : goal.put_module-requires-clause-room
+put_module-requires-clause-room g c =
+    let s = g.B.Blocks.value c.args.store.now in
+    let st = state_in s c.args.self.now in
+    let to = c.args.to in
+    let m = message_in s (token c.args.message) in
+    let below : (to.at == 0) ≡ false = not-top to.at c.if-to-eq0.false in
+    let stands = subst (λ n. nat_le to.at n ≡ true) (c.modules_on.ensures.on s) (stands-at to.at c.modules_on.result c.if-to-modules_on.true) in
+    subst (λ (n : ℕ). HasRoom s n) (sym (place-own to m st below stands)) c.requires.room.room
 
-pub put_driver-requires : goal.put_driver-requires
-put_driver-requires g c = (
-  omega arith,
-  (
-    search rules,
-    (
-        let s = g.B.Blocks.value c.args.store.now in
-        let st = state_in s c.args.self.now in
-        let i = token c.args.message in
-        let to = c.args.to in
-        let past = subst (λ n. nat_le to.at n ≡ false) (c.modules_on.ensures.on s) (stands-above to.at c.modules_on.result c.if-to-modules_on.false) in
-        subst (λ way. HasRoom s (driver_own way (message_in s i))) (sym c.in-Down.is) (behind-room Down s i to st c.in-Down.is c.if-to-eq0.false past c.requires.room.room)
-        ),
-  ),
-)
+pub put_module-requires-clause-books : goal.put_module-requires-clause-books
+put_module-requires-clause-books g c =
+    let s = g.B.Blocks.value c.args.store.now in
+    let st = state_in s c.args.self.now in
+    let to = c.args.to in
+    let m = message_in s (token c.args.message) in
+    let below : (to.at == 0) ≡ false = not-top to.at c.if-to-eq0.false in
+    let stands = subst (λ n. nat_le to.at n ≡ true) (c.modules_on.ensures.on s) (stands-at to.at c.modules_on.result c.if-to-modules_on.true) in
+    omega (arith, place-makes to m st below stands, c.requires.room.spare)
 
-pub put_up-requires : goal.put_up-requires
-put_up-requires g c = (
-  omega arith,
-  (
-    search rules,
-    (
-      (
-          let s = g.B.Blocks.value c.args.store.now in
-          let to = c.args.to in
-          let past = subst (λ n. nat_le to.at n ≡ false) (c.modules_on.ensures.on s) (stands-above to.at c.modules_on.result c.if-to-modules_on.false) in
-          behind-room Up s (token c.args.message) to (state_in s c.args.self.now) c.in-Up.is c.if-to-eq0.false past c.requires.room.room
-          ),
-      search rules,
-    ),
-  ),
-)
+pub put_driver-requires-clause-room : goal.put_driver-requires-clause-room
+put_driver-requires-clause-room g c =
+    let s = g.B.Blocks.value c.args.store.now in
+    let st = state_in s c.args.self.now in
+    let i = token c.args.message in
+    let to = c.args.to in
+    let past = subst (λ n. nat_le to.at n ≡ false) (c.modules_on.ensures.on s) (stands-above to.at c.modules_on.result c.if-to-modules_on.false) in
+    subst (λ way. HasRoom s (driver_own way (message_in s i))) (sym c.in-Down.is) (behind-room Down s i to st c.in-Down.is c.if-to-eq0.false past c.requires.room.room)
+
+pub put_up-requires-clause-room : goal.put_up-requires-clause-room
+put_up-requires-clause-room g c =
+    let s = g.B.Blocks.value c.args.store.now in
+    let to = c.args.to in
+    let past = subst (λ n. nat_le to.at n ≡ false) (c.modules_on.ensures.on s) (stands-above to.at c.modules_on.result c.if-to-modules_on.false) in
+    behind-room Up s (token c.args.message) to (state_in s c.args.self.now) c.in-Up.is c.if-to-eq0.false past c.requires.room.room
 
 pub returns-then-to-eq0-clause-does : goal.returns-then-to-eq0-clause-does
 returns-then-to-eq0-clause-does g c =

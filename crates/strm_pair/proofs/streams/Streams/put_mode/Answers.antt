@@ -13,26 +13,21 @@ pub make-message-requires-clause-kind : goal.make-message-requires-clause-kind
 unfolding is_data_kind
 make-message-requires-clause-kind g c = refl
 
+pub deliver_alone-requires-clause-alone : goal.deliver_alone-requires-clause-alone
+deliver_alone-requires-clause-alone g c =
+    let made = c.make-message.ensures in
+    made-alone (g.B.Blocks.value c.args.store.now) (g.B.Blocks.value c.make-message.new.store) c.args.self.now c.requires.rests (token c.make-message.result) made.after made.chain
+
 -- at a head it takes none
 mode-free : (side : Side) (bytes : List ℕ) → most_of {C = ℕ} (head_above side) (record { kind = Setopts; band = 0; control = None; body = None; plain = bytes }) ≤ 0
 mode-free side bytes = omega arith
 
-pub deliver_alone-requires : goal.deliver_alone-requires
-deliver_alone-requires g c = (
-  omega arith,
-  (
-    (
-        let made = c.make-message.ensures in
-        made-alone (g.B.Blocks.value c.args.store.now) (g.B.Blocks.value c.make-message.new.store) c.args.self.now c.requires.rests (token c.make-message.result) made.after made.chain
-        ),
-    (
-        let made = g.B.Blocks.value c.make-message.new.store in
-        let bytes = c.mode_number.result ∷ 0 ∷ [] in
-        may-by made (spare (state_in made c.args.self.now)) (head_above c.args.side) (message_of (in_hand made (token c.make-message.result))) (record { kind = Setopts; band = 0; control = None; body = None; plain = bytes }) 0
-        c.make-message.ensures.shows (mode-free c.args.side bytes) (record { mblks = omega arith; dblks = omega arith }) (omega arith)
-        ),
-  ),
-)
+pub deliver_alone-requires-clause-room : goal.deliver_alone-requires-clause-room
+deliver_alone-requires-clause-room g c =
+    let made = g.B.Blocks.value c.make-message.new.store in
+    let bytes = c.mode_number.result ∷ 0 ∷ [] in
+    may-by made (spare (state_in made c.args.self.now)) (head_above c.args.side) (message_of (in_hand made (token c.make-message.result))) (record { kind = Setopts; band = 0; control = None; body = None; plain = bytes }) 0
+    c.make-message.ensures.shows (mode-free c.args.side bytes) (record { mblks = omega arith; dblks = omega arith }) (omega arith)
 
 pub returns : goal.returns
 returns g c =

@@ -17,52 +17,47 @@ use Rattle.strm_pair.proofs.PlaceCosts.{plain-few}
 use Rattle.strm_pair.proofs.Sides.{modules-are}
 use Rattle.strm_pair.proofs.streams.Streams.put_module.Goals as goal
 
-pub book_made-requires : goal.book_made-requires
-book_made-requires g c = (
-  omega arith,
-  (
-    (
-        let K = g.M.Behaves.does in
-        let s = g.B.Blocks.value c.args.store.now in
-        let i = token c.args.message in
-        let p = c.args.self.now in
-        let to = c.args.to in
-        let m = message_in s i in
-        let st = state_in s p in
-        let f = c.args.told.now in
-        let f' = c.put_on_stack-acts.new.told in
-        let e = c.put_on_stack-acts.ensures in
-        let small = plain-few s i c.audit.ensures in
-        let tells = e.takes.told ∙ ap (λ ls. tallied (taken_at K to m ls).gone f) (sym (modules-are s p to.side)) in
-        let few = c.of-before.ensures.few in
-        let first = ap (λ (b : Made). b.from_master) c.of-before.ensures.counts in
-        let second = ap (λ (b : Made). b.from_slave) c.of-before.ensures.counts in
-        let made = ap (λ k. between k f'.made_from_master) first ∙ put-between to m st small K MasterToSlave f f' (omega (arith, few.0, first)) (omega (arith, few.1, second)) tells in
-        let book = ap (λ (y : Streams). y.books.master.made) (c.note.ensures s) ∙ ap (λ (y : Streams). y.books.master.made) e.streams in
-        λ some. (let fits = put-fits to m st small K c.requires.books MasterToSlave (omega (arith, some, made)) in omega (arith, made, book, fits))
-        ),
-    (
-        let K = g.M.Behaves.does in
-        let s = g.B.Blocks.value c.args.store.now in
-        let i = token c.args.message in
-        let p = c.args.self.now in
-        let to = c.args.to in
-        let m = message_in s i in
-        let st = state_in s p in
-        let f = c.args.told.now in
-        let f' = c.put_on_stack-acts.new.told in
-        let e = c.put_on_stack-acts.ensures in
-        let small = plain-few s i c.audit.ensures in
-        let tells = e.takes.told ∙ ap (λ ls. tallied (taken_at K to m ls).gone f) (sym (modules-are s p to.side)) in
-        let few = c.of-before.ensures.few in
-        let first = ap (λ (b : Made). b.from_master) c.of-before.ensures.counts in
-        let second = ap (λ (b : Made). b.from_slave) c.of-before.ensures.counts in
-        let made = ap (λ k. between k f'.made_from_slave) second ∙ put-between to m st small K SlaveToMaster f f' (omega (arith, few.0, first)) (omega (arith, few.1, second)) tells in
-        let book = ap (λ (y : Streams). y.books.slave.made) (c.note.ensures s) ∙ ap (λ (y : Streams). y.books.slave.made) e.streams in
-        λ some. (let fits = put-fits to m st small K c.requires.books SlaveToMaster (omega (arith, some, made)) in omega (arith, made, book, fits))
-        ),
-  ),
-)
+pub book_made-requires-clause-master : goal.book_made-requires-clause-master
+book_made-requires-clause-master g c =
+    let K = g.M.Behaves.does in
+    let s = g.B.Blocks.value c.args.store.now in
+    let i = token c.args.message in
+    let p = c.args.self.now in
+    let to = c.args.to in
+    let m = message_in s i in
+    let st = state_in s p in
+    let f = c.args.told.now in
+    let f' = c.put_on_stack-acts.new.told in
+    let e = c.put_on_stack-acts.ensures in
+    let small = plain-few s i c.audit.ensures in
+    let tells = e.takes.told ∙ ap (λ ls. tallied (taken_at K to m ls).gone f) (sym (modules-are s p to.side)) in
+    let few = c.of-before.ensures.few in
+    let first = ap (λ (b : Made). b.from_master) c.of-before.ensures.counts in
+    let second = ap (λ (b : Made). b.from_slave) c.of-before.ensures.counts in
+    let made = ap (λ k. between k f'.made_from_master) first ∙ put-between to m st small K MasterToSlave f f' (omega (arith, few.0, first)) (omega (arith, few.1, second)) tells in
+    let book = ap (λ (y : Streams). y.books.master.made) (c.note.ensures s) ∙ ap (λ (y : Streams). y.books.master.made) e.streams in
+    λ some. (let fits = put-fits to m st small K c.requires.books MasterToSlave (omega (arith, some, made)) in omega (arith, made, book, fits))
+
+pub book_made-requires-clause-slave : goal.book_made-requires-clause-slave
+book_made-requires-clause-slave g c =
+    let K = g.M.Behaves.does in
+    let s = g.B.Blocks.value c.args.store.now in
+    let i = token c.args.message in
+    let p = c.args.self.now in
+    let to = c.args.to in
+    let m = message_in s i in
+    let st = state_in s p in
+    let f = c.args.told.now in
+    let f' = c.put_on_stack-acts.new.told in
+    let e = c.put_on_stack-acts.ensures in
+    let small = plain-few s i c.audit.ensures in
+    let tells = e.takes.told ∙ ap (λ ls. tallied (taken_at K to m ls).gone f) (sym (modules-are s p to.side)) in
+    let few = c.of-before.ensures.few in
+    let first = ap (λ (b : Made). b.from_master) c.of-before.ensures.counts in
+    let second = ap (λ (b : Made). b.from_slave) c.of-before.ensures.counts in
+    let made = ap (λ k. between k f'.made_from_slave) second ∙ put-between to m st small K SlaveToMaster f f' (omega (arith, few.0, first)) (omega (arith, few.1, second)) tells in
+    let book = ap (λ (y : Streams). y.books.slave.made) (c.note.ensures s) ∙ ap (λ (y : Streams). y.books.slave.made) e.streams in
+    λ some. (let fits = put-fits to m st small K c.requires.books SlaveToMaster (omega (arith, some, made)) in omega (arith, made, book, fits))
 
 pub returns-clause-does : goal.returns-clause-does
 returns-clause-does g c =

@@ -1,5 +1,5 @@
 -- The module stands on its side's stack.
-use Rattle.strm_pair.proofs.Prelude.{arith, ap, sym, ◌∙◌, Some}
+use Rattle.strm_pair.proofs.Prelude.{ap, sym, ◌∙◌, Some}
 use Rattle.strm_pair.specs.Prelude.{may_stand, named_by}
 use Rattle.strm_pair.specs.declared.ends.StreamEnd.{StreamEnd}
 use Rattle.strm_pair.specs.Pairs.{end_at}
@@ -8,32 +8,25 @@ use Rattle.strm_pair.proofs.Sides.{modules-are}
 use Rattle.strm_pair.proofs.streams.Streams.put_on.Goals as goal
 use Rattle.strm_pair.specs.Stacks.{modules_in}
 
-pub push_named-requires : goal.push_named-requires
-push_named-requires g c = (
-  omega arith,
-  (
-    omega (arith, c.first_list.ensures.small),
-    (
-      (
-          let K = g.M.Behaves.does in
-          let s = g.B.Blocks.value c.args.store.now in
-          ap (λ ms. may_stand (named_by K (Some c.args.name)) ms)
-          (ap (λ (e : StreamEnd). modules_in s e.stack) c.get_mut-end.ensures.value ∙ sym (modules-are s c.args.self.now c.args.side)) ∙
-          c.requires.may_stand
-          ),
-      (
-        rw c.get_mut-end.ensures.value (c.requires.held.beside c.args.side).stack,
-        (
-          rw (c.get_mut-end.ensures.value, c.first_list.ensures.list) (c.requires.held.beside c.args.side).owned,
-          (
-            rw (c.get_mut-end.ensures.value, c.first_list.ensures.list) (c.requires.held.beside c.args.side).spare,
-            rw (c.get_mut-end.ensures.value, c.first_list.ensures.list) (c.requires.held.beside c.args.side).shelf,
-          ),
-        ),
-      ),
-    ),
-  ),
-)
+pub push_named-requires-clause-may_stand : goal.push_named-requires-clause-may_stand
+push_named-requires-clause-may_stand g c =
+    let K = g.M.Behaves.does in
+    let s = g.B.Blocks.value c.args.store.now in
+    ap (λ ms. may_stand (named_by K (Some c.args.name)) ms)
+    (ap (λ (e : StreamEnd). modules_in s e.stack) c.get_mut-end.ensures.value ∙ sym (modules-are s c.args.self.now c.args.side)) ∙
+    c.requires.may_stand
+
+pub push_named-requires-clause-held : goal.push_named-requires-clause-held
+push_named-requires-clause-held g c = rw c.get_mut-end.ensures.value (c.requires.held.beside c.args.side).stack
+
+pub push_named-requires-clause-owned : goal.push_named-requires-clause-owned
+push_named-requires-clause-owned g c = rw (c.get_mut-end.ensures.value, c.first_list.ensures.list) (c.requires.held.beside c.args.side).owned
+
+pub push_named-requires-clause-spare : goal.push_named-requires-clause-spare
+push_named-requires-clause-spare g c = rw (c.get_mut-end.ensures.value, c.first_list.ensures.list) (c.requires.held.beside c.args.side).spare
+
+pub push_named-requires-clause-shelf : goal.push_named-requires-clause-shelf
+push_named-requires-clause-shelf g c = rw (c.get_mut-end.ensures.value, c.first_list.ensures.list) (c.requires.held.beside c.args.side).shelf
 
 pub returns-clause-state : goal.returns-clause-state
 returns-clause-state g c =

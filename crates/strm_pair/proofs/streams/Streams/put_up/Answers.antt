@@ -40,20 +40,13 @@ at-other n ne = grind (arith, nat_tests)
 pub kind-requires-clause-in_hand : goal.kind-requires-clause-in_hand
 kind-requires-clause-in_hand g c = can-in_hand (g.B.Blocks.value c.args.store.now) (token c.args.message) (kept_by c.args.self.now) c.audit.ensures c.requires.may.can_put
 
-pub put_driver-requires : goal.put_driver-requires
-put_driver-requires g c = (
-  omega arith,
-  (
-    c.requires.may,
-    (
-        let s = g.B.Blocks.value c.args.store.now in
-        let i = token c.args.message in
-        let flush : is_bare_flush (message_in s i) ≡ true = bare-is (in_hand s i) c.requires.may.chain ∙ ap is_flush (sym c.kind.ensures) ∙ sym c.is_flush.ensures ∙ c.if-is_flush.true in
-        let across : is_across c.args.to (message_in s i) ≡ true = ap (λ b. b && (c.args.to.at == 4)) flush ∙ at-place c.args.to.at c.if-to.true in
-        subst (λ w. HasRoom s (driver_own w (message_in s i))) (sym c.requires.up) (subst (λ (b : Bool). HasRoom s (cond b 1 0)) across c.requires.room)
-        ),
-  ),
-)
+pub put_driver-requires-clause-room : goal.put_driver-requires-clause-room
+put_driver-requires-clause-room g c =
+    let s = g.B.Blocks.value c.args.store.now in
+    let i = token c.args.message in
+    let flush : is_bare_flush (message_in s i) ≡ true = bare-is (in_hand s i) c.requires.may.chain ∙ ap is_flush (sym c.kind.ensures) ∙ sym c.is_flush.ensures ∙ c.if-is_flush.true in
+    let across : is_across c.args.to (message_in s i) ≡ true = ap (λ b. b && (c.args.to.at == 4)) flush ∙ at-place c.args.to.at c.if-to.true in
+    subst (λ w. HasRoom s (driver_own w (message_in s i))) (sym c.requires.up) (subst (λ (b : Bool). HasRoom s (cond b 1 0)) across c.requires.room)
 
 pub returns-then-is_flush-clause-does : goal.returns-then-is_flush-clause-does
 returns-then-is_flush-clause-does g c =

@@ -13,6 +13,11 @@ use Rattle.strm_pair.proofs.streams.Streams.putmsg.Goals as goal
 abbrev shown : Option (Bor (List ℕ)) → Option (List ℕ)
 shown o = option_map (λ bytes. bytes.now) o
 
+pub deliver_alone-requires-clause-alone : goal.deliver_alone-requires-clause-alone
+deliver_alone-requires-clause-alone g c =
+    let sends = c.in-Some.ensures.made in
+    made-alone (g.B.Blocks.value c.args.store.now) (g.B.Blocks.value c.make_message.new.store) c.args.self.now c.requires.may.rests (token c.in-Some.message) sends.after sends.chain
+
 -- a message of parts takes no block on its way down, and no packet comes of it
 parts-free : (side : Side) (prio : Prio) (control body : Option (List ℕ)) → no_parts control body ≡ false → most_of (record { side = side; at = 1; way = Down }) (put_message prio control body) ≡ 0
 parts-free side prio None None some = absurd (cc)
@@ -20,6 +25,13 @@ parts-free side High (Some xs) body some = refl
 parts-free side (Band band) (Some xs) body some = refl
 parts-free side High None (Some ys) some = refl
 parts-free side (Band band) None (Some ys) some = refl
+
+pub deliver_alone-requires-clause-room : goal.deliver_alone-requires-clause-room
+deliver_alone-requires-clause-room g c =
+    let made = g.B.Blocks.value c.make_message.new.store in
+    let free = parts-free c.args.side c.args.prio (shown c.args.control) (shown c.args.body) c.in-Some.ensures.none in
+    may-by made (spare (state_in made c.args.self.now)) (record { side = c.args.side; at = 1; way = Down }) (message_of (in_hand made (token c.in-Some.message)))
+    (put_message c.args.prio (shown c.args.control) (shown c.args.body)) 0 c.in-Some.ensures.made.shows (omega (arith, free)) (record { mblks = omega arith; dblks = omega arith }) (omega arith)
 
 pub with_written-book-requires : goal.with_written-book-requires
 with_written-book-requires g c =
@@ -36,23 +48,6 @@ with_written-book-requires g c =
     let same = ap (λ (v : State ℕ). (book dir v).written) (made-state s made c.args.self.now c.requires.may.rests i c.in-Some.ensures.made.after) in
     let few = parts-few c.args.prio (shown c.args.control) (shown c.args.body) c.requires.allowed in
     omega (arith, book-low c.args.side old c.requires.may.range, is, sent, stays, same, few, c.len_of.ensures.value, c.len_of-2.ensures.value)
-
-pub deliver_alone-requires : goal.deliver_alone-requires
-deliver_alone-requires g c = (
-  omega arith,
-  (
-    (
-        let sends = c.in-Some.ensures.made in
-        made-alone (g.B.Blocks.value c.args.store.now) (g.B.Blocks.value c.make_message.new.store) c.args.self.now c.requires.may.rests (token c.in-Some.message) sends.after sends.chain
-        ),
-    (
-        let made = g.B.Blocks.value c.make_message.new.store in
-        let free = parts-free c.args.side c.args.prio (shown c.args.control) (shown c.args.body) c.in-Some.ensures.none in
-        may-by made (spare (state_in made c.args.self.now)) (record { side = c.args.side; at = 1; way = Down }) (message_of (in_hand made (token c.in-Some.message)))
-        (put_message c.args.prio (shown c.args.control) (shown c.args.body)) 0 c.in-Some.ensures.made.shows (omega (arith, free)) (record { mblks = omega arith; dblks = omega arith }) (omega arith)
-        ),
-  ),
-)
 
 pub returns-clause-delivers : goal.returns-clause-delivers
 returns-clause-delivers g c =

@@ -8,13 +8,13 @@ use Rattle.strm_pair.proofs.Sides.{blank}
 use Rattle.strm_pair.proofs.streams.Streams.renew.Goals as goal
 
 pub returns-clause-state : goal.returns-clause-state
-returns-clause-state g c = λ s mblks dblks beside.
+returns-clause-state c = λ s mblks dblks beside.
     let t = empty_store mblks dblks in
     let b = blank mblks dblks in
     rw (c.renew.ensures.stream s t 0 (beside Master) b.0, c.renew-2.ensures.stream s t 4 (beside Slave) b.1, c.new-self.ensures, c.new-self-2.ensures, c.new-self-3.ensures) refl
 
 pub returns-clause-held : goal.returns-clause-held
-returns-clause-held g c = λ s mblks dblks beside.
+returns-clause-held c = λ s mblks dblks beside.
     let t = empty_store mblks dblks in
     let b = blank mblks dblks in
     let ends : Both StreamEnd = record { master = c.renew.new.self; slave = c.renew-2.new.self } in

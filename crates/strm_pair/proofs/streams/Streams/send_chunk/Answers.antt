@@ -7,22 +7,17 @@ use Rattle.strm_pair.proofs.InHand.{made-alone, made-leads, made-left}
 use Rattle.strm_pair.proofs.PlaceCosts.{may-by}
 use Rattle.strm_pair.proofs.streams.Streams.send_chunk.Goals as goal
 
-pub deliver_alone-requires : goal.deliver_alone-requires
-deliver_alone-requires g c = (
-  omega arith,
-  (
-    (
-        let sends = c.write-message.ensures in
-        made-alone (g.B.Blocks.value c.args.store.now) (g.B.Blocks.value c.write-message.new.store) c.args.self.now c.requires.rests (token c.write-message.result) sends.after sends.chain
-        ),
-    (
-        let made = g.B.Blocks.value c.write-message.new.store in
-        let free = chunk-free c.args.side c.args.chunk.now in
-        may-by made (spare (state_in made c.args.self.now)) (below_head c.args.side) (message_of (in_hand made (token c.write-message.result))) (data_message c.args.chunk.now) 0 c.write-message.ensures.shows (omega (arith, free))
-        (record { mblks = omega arith; dblks = omega arith }) (omega arith)
-        ),
-  ),
-)
+pub deliver_alone-requires-clause-alone : goal.deliver_alone-requires-clause-alone
+deliver_alone-requires-clause-alone g c =
+    let sends = c.write-message.ensures in
+    made-alone (g.B.Blocks.value c.args.store.now) (g.B.Blocks.value c.write-message.new.store) c.args.self.now c.requires.rests (token c.write-message.result) sends.after sends.chain
+
+pub deliver_alone-requires-clause-room : goal.deliver_alone-requires-clause-room
+deliver_alone-requires-clause-room g c =
+    let made = g.B.Blocks.value c.write-message.new.store in
+    let free = chunk-free c.args.side c.args.chunk.now in
+    may-by made (spare (state_in made c.args.self.now)) (below_head c.args.side) (message_of (in_hand made (token c.write-message.result))) (data_message c.args.chunk.now) 0 c.write-message.ensures.shows (omega (arith, free))
+    (record { mblks = omega arith; dblks = omega arith }) (omega arith)
 
 -- it takes none
 free-of : (side : Side) (chunk : List ℕ) (m : Message ℕ) → m ≡ data_message chunk → most_of (below_head side) m ≡ 0

@@ -37,32 +37,27 @@ begun-rests s p q side command at_rest begun = record {
   idle = subst AreIdle (sym (begun.state s)) (begun-idle side command (state_in s p) at_rest.idle);
 }
 
-pub deliver_alone-requires : goal.deliver_alone-requires
-deliver_alone-requires g c = (
-  omega arith,
-  (
-    (
-        let s = g.B.Blocks.value c.args.store.now in
-        let sends = c.make_ioctl-message.ensures in
-        let q = c.begin_ioctl.new.self in
-        made-alone s (g.B.Blocks.value c.make_ioctl-message.new.store) q (begun-rests s c.args.self.now q c.args.side c.args.command c.requires.may.rests c.begin_ioctl.ensures) (token c.make_ioctl-message.result) sends.after sends.chain
-        ),
-    (
-        let s = g.B.Blocks.value c.args.store.now in
-        let made = g.B.Blocks.value c.make_ioctl-message.new.store in
-        let p = c.args.self.now in
-        let q = c.begin_ioctl.new.self in
-        let i = token c.make_ioctl-message.result in
-        let sends = c.make_ioctl-message.ensures in
-        let rests = begun-rests s p q c.args.side c.args.command c.requires.may.rests c.begin_ioctl.ensures in
-        let begun = made-state s made q rests i sends.after ∙ c.begin_ioctl.ensures.state s in
-        let room = c.requires.may.room in
-        may-by made (spare (state_in made q)) (record { side = c.args.side; at = 1; way = Down }) (message_of (in_hand made i)) (ioctl_message c.asking.result c.args.body.now) 30 sends.shows (ioctl-few c.args.side c.asking.result c.args.body.now)
-        (record { mblks = omega (arith, room.mblks, sends.room_m, blocks-few c.args.body.now); dblks = omega (arith, room.dblks, sends.room_d, blocks-few c.args.body.now) })
-        (omega (arith, ap spare begun, begun-spare c.args.side c.args.command (state_in s p), range-spare (state_in s p) c.requires.may.range))
-        ),
-  ),
-)
+pub deliver_alone-requires-clause-alone : goal.deliver_alone-requires-clause-alone
+deliver_alone-requires-clause-alone g c =
+    let s = g.B.Blocks.value c.args.store.now in
+    let sends = c.make_ioctl-message.ensures in
+    let q = c.begin_ioctl.new.self in
+    made-alone s (g.B.Blocks.value c.make_ioctl-message.new.store) q (begun-rests s c.args.self.now q c.args.side c.args.command c.requires.may.rests c.begin_ioctl.ensures) (token c.make_ioctl-message.result) sends.after sends.chain
+
+pub deliver_alone-requires-clause-room : goal.deliver_alone-requires-clause-room
+deliver_alone-requires-clause-room g c =
+    let s = g.B.Blocks.value c.args.store.now in
+    let made = g.B.Blocks.value c.make_ioctl-message.new.store in
+    let p = c.args.self.now in
+    let q = c.begin_ioctl.new.self in
+    let i = token c.make_ioctl-message.result in
+    let sends = c.make_ioctl-message.ensures in
+    let rests = begun-rests s p q c.args.side c.args.command c.requires.may.rests c.begin_ioctl.ensures in
+    let begun = made-state s made q rests i sends.after ∙ c.begin_ioctl.ensures.state s in
+    let room = c.requires.may.room in
+    may-by made (spare (state_in made q)) (record { side = c.args.side; at = 1; way = Down }) (message_of (in_hand made i)) (ioctl_message c.asking.result c.args.body.now) 30 sends.shows (ioctl-few c.args.side c.asking.result c.args.body.now)
+    (record { mblks = omega (arith, room.mblks, sends.room_m, blocks-few c.args.body.now); dblks = omega (arith, room.dblks, sends.room_d, blocks-few c.args.body.now) })
+    (omega (arith, ap spare begun, begun-spare c.args.side c.args.command (state_in s p), range-spare (state_in s p) c.requires.may.range))
 
 pub returns : goal.returns
 returns g c =

@@ -1,5 +1,5 @@
 -- What goes from the queues, one after the other, and then the side is closed.
-use Rattle.strm_pair.proofs.Prelude.{arith, sym, subst}
+use Rattle.strm_pair.proofs.Prelude.{sym, subst}
 use Rattle.strm_pair.specs.Prelude.{Master, Slave, EndClosed, Side, head_emptied, of_all}
 use Rattle.strm_laws.specs.Closes.{and_then, closed_at, driver_emptied, ended, hung_up_at, stream_emptied}
 use Rattle.strm_laws.specs.Pushes.{modules_emptied}
@@ -10,15 +10,11 @@ use Rattle.strm_pair.proofs.Leading.{leads-becoming, leads-quietly, leads-then, 
 use Rattle.strm_pair.proofs.streams.Streams.shut.Goals as goal
 
 pub clear_modules-requires : goal.clear_modules-requires
-clear_modules-requires g c = (
-  omega arith,
-  (
-      let s = g.B.Blocks.value c.args.store.now in
-      let st = state_in s c.args.self.now in
-      let emptied = head_emptied EndClosed of_all c.args.side st in
-      rests-behind s (g.B.Blocks.value c.clear_head.new.store) c.clear_head.new.self c.args.told.now c.clear_head.new.told emptied.state emptied.gone c.clear_head.ensures (emptied-idle c.args.side st c.requires.idle)
-      ),
-)
+clear_modules-requires g c =
+    let s = g.B.Blocks.value c.args.store.now in
+    let st = state_in s c.args.self.now in
+    let emptied = head_emptied EndClosed of_all c.args.side st in
+    rests-behind s (g.B.Blocks.value c.clear_head.new.store) c.clear_head.new.self c.args.told.now c.clear_head.new.told emptied.state emptied.gone c.clear_head.ensures (emptied-idle c.args.side st c.requires.idle)
 
 pub returns-in-Master-clause-leads : goal.returns-in-Master-clause-leads
 returns-in-Master-clause-leads g c =

@@ -1,5 +1,5 @@
 -- Nothing of a turn is under way at the modules, so that their stack keeps nothing in hand.
-use Rattle.strm_pair.proofs.Prelude.{arith, ◌≡◌, ap, sym, subst, ◌∙◌, Option, None, Some, IfSome, MatchOption, is_some, AllIdle}
+use Rattle.strm_pair.proofs.Prelude.{◌≡◌, ap, sym, subst, ◌∙◌, Option, None, Some, IfSome, MatchOption, is_some, AllIdle}
 use Rattle.strm_pair.specs.Prelude.{is_met, below_top}
 use Rattle.std.specs.Prelude.{IfNone, true, ◌+◌}
 use Rattle.strm_pair.specs.declared.ends.StreamEnd.{StreamEnd}
@@ -12,19 +12,15 @@ use Rattle.strm_pair.proofs.streams.Streams.take_off.Goals as goal
 use Rattle.strm_pair.specs.ModuleStacks.{stack-idle}
 use Rattle.strm_pair.specs.Stacks.{modules_in, stack_owns}
 
-pub take_top-requires : goal.take_top-requires
-take_top-requires g c = (
-  omega arith,
-  (
-    rw c.get_mut.ensures.value (c.requires.held.beside c.args.side).stack,
-    (
-        let s = g.B.Blocks.value c.args.store.now in
-        let p = c.args.self.now in
-        let side = c.args.side in
-        rw c.get_mut.ensures.value (stack-idle s (end_at side p).stack (c.requires.held.beside side).stack (subst AllIdle (modules-are s p side) (c.requires.idle side)))
-        ),
-  ),
-)
+pub take_top-requires-clause-held : goal.take_top-requires-clause-held
+take_top-requires-clause-held g c = rw c.get_mut.ensures.value (c.requires.held.beside c.args.side).stack
+
+pub take_top-requires-clause-rests : goal.take_top-requires-clause-rests
+take_top-requires-clause-rests g c =
+    let s = g.B.Blocks.value c.args.store.now in
+    let p = c.args.self.now in
+    let side = c.args.side in
+    rw c.get_mut.ensures.value (stack-idle s (end_at side p).stack (c.requires.held.beside side).stack (subst AllIdle (modules-are s p side) (c.requires.idle side)))
 
 pub returns-clause-streams : goal.returns-clause-streams
 returns-clause-streams g c = (end-there c.args.self.now c.args.side c.get_mut.result.now c.take_top.new.end c.get_mut.ensures.value c.take_top.ensures.end).1
@@ -50,8 +46,7 @@ returns-clause-took g c =
     let t = g.B.Blocks.value c.take_top.new.store in
     let x = (end_at c.args.side c.args.self.now).stack in
     let there = (end-there c.args.self.now c.args.side c.get_mut.result.now c.take_top.new.end c.get_mut.ensures.value c.take_top.ensures.end).0 in
-    subst (λ (e : StreamEnd). MatchOption c.take_top.result (TookNone s t x e.stack c.args.told.now c.take_top.new.told)
-    (λ taken. TookTop c.args.side c.args.rule s t x e.stack c.args.told.now c.take_top.new.told taken)) (sym there)
+    subst (λ (e : StreamEnd). MatchOption c.take_top.result (TookNone s t x e.stack c.args.told.now c.take_top.new.told) (λ taken. TookTop c.args.side c.args.rule s t x e.stack c.args.told.now c.take_top.new.told taken)) (sym there)
     (rw c.get_mut.ensures.value at c.take_top.ensures.took)
 
 pub returns-clause-met : goal.returns-clause-met

@@ -7,7 +7,7 @@ use Rattle.strm_pair.proofs.Becoming.{head-becomes, next-becomes}
 use Rattle.strm_pair.proofs.streams.Streams.tell_group.Goals as goal
 
 pub returns-clause-becomes : goal.returns-clause-becomes
-returns-clause-becomes g c =
+returns-clause-becomes c =
     let p = c.args.self.now in
     let r = c.get_mut.result.now in
     next-becomes p (with_end c.args.side (record r { head = c.tell_group.new.self }) p) _ (p.next_ioctl + 1) (omega arith)

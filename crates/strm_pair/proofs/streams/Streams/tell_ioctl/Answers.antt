@@ -4,5 +4,5 @@ use Rattle.strm_pair.proofs.Becoming.{head-becomes}
 use Rattle.strm_pair.proofs.streams.Streams.tell_ioctl.Goals as goal
 
 pub returns-clause-becomes : goal.returns-clause-becomes
-returns-clause-becomes g c =
+returns-clause-becomes c =
     head-becomes c.args.side c.args.self.now c.get_mut.result.now c.get_mut.ensures.value c.tell_ioctl.new.self (λ h. record h { ioctl = slot_behind h.ioctl }) c.tell_ioctl.ensures.queue c.tell_ioctl.ensures.state

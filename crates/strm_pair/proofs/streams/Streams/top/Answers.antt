@@ -4,4 +4,4 @@ use Rattle.strm_pair.specs.Prelude.{top_name, module_name, Stream}
 use Rattle.strm_pair.proofs.streams.Streams.top.Goals as goal
 
 pub returns : goal.returns
-returns g c = λ s. c.look.ensures s ∙ ap (λ (t : Stream ℕ). top_name module_name t.modules) (c.end.ensures.stream s)
+returns c = λ s. c.look.ensures s ∙ ap (λ (t : Stream ℕ). top_name module_name t.modules) (c.end.ensures.stream s)

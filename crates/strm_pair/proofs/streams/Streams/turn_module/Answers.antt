@@ -1,5 +1,5 @@
 -- Where the module may serve, its calls are those of the turn's definition.
-use Rattle.strm_pair.proofs.Prelude.{rules, ℕ, ◌≡◌, false, [], refl, sym, ap, subst, ◌∙◌, arith, not, ◌==◌, turn-few, range-spare, same-spare, spare-low}
+use Rattle.strm_pair.proofs.Prelude.{ℕ, ◌≡◌, false, [], refl, sym, ap, subst, ◌∙◌, arith, not, ◌==◌, turn-few, range-spare, same-spare, spare-low}
 use Rattle.strm_pair.specs.Prelude.{Moved, plain, tallied, AreIdle, module_turn_ended, module_turned, FewBooked, spare, bytes_left, discipline_of}
 use Rattle.strm_pair.specs.Prelude.{module_at, TurnOutcome}
 use Rattle.strm_laws.proofs.Balances.{range-low}
@@ -13,17 +13,8 @@ use Rattle.strm_pair.proofs.CallsOn.{some-taken, turned-by}
 use Rattle.strm_pair.proofs.MovingOn.{serves-moves, stays-moves}
 use Rattle.strm_pair.proofs.streams.Streams.turn_module.Goals as goal
 
-pub end_module_turn-requires : goal.end_module_turn-requires
-end_module_turn-requires g c = (
-  omega arith,
-  (
-    search rules,
-    (
-      search rules,
-      let stands = c.call_on-bytes.ensures.treats.stands in let inside = c.in-Serves.ensures.begins.inside in omega arith,
-    ),
-  ),
-)
+pub end_module_turn-requires-clause-within : goal.end_module_turn-requires-clause-within
+end_module_turn-requires-clause-within g c = let stands = c.call_on-bytes.ensures.treats.stands in let inside = c.in-Serves.ensures.begins.inside in omega arith
 
 -- No more is treated than the first message has.
 pub overflow_cast-result : goal.overflow_cast-result

@@ -2,7 +2,7 @@
 use Rattle.strm_pair.proofs.Prelude.{rules, can-in_hand, false≢true}
 use Rattle.strm_pair.specs.Prelude.{token}
 use Rattle.strm_pty.proofs.Alone.{alone-ready, alone-stands}
-use Rattle.strm_pair.proofs.owned.OwnedModule.put.Goals as goal
+use Rattle.strm_pair.proofs.owned.OwnPutProcedure.put.Goals as goal
 
 pub pass-sent-requires : goal.pass-sent-requires
 pass-sent-requires g c = record {
