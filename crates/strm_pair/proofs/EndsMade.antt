@@ -4,7 +4,6 @@ use Rattle.strm_pair.proofs.Prelude.{is_some, sum_by, Option, nat_tests, sum_by-
 use Rattle.strm_pair.specs.Prelude.{MsgKind, Openness, is_data_kind, is_body_kind, is_control_kind, EachOnce, module_name, is_part_kind, Block}
 use Rattle.strm_pair.specs.Prelude.{StoreValue, block_at, list_at, message_of, queue_in, HoldsReadable, IsHeadQueue, Head, head_in, all_of, Stack}
 use Rattle.strm_pair.specs.Prelude.{ModuleText, StreamText, laid_blocks, module_now, modules_now, names_now, queue_now, laid_now, Tables, owns}
-use Rattle.strm_pair.specs.Prelude.{Behaviour}
 use Rattle.std.specs.List.{AllByRecursion}
 use Rattle.strm_types.specs.declared.kinds.MsgKind.TheVariants as kinds
 use Rattle.strm_types.specs.Queue as state
@@ -78,8 +77,7 @@ names-same (m ∷ ms) = ap (λ ns. module_name (module_now m) ∷ ns) (names-sam
 
 -- ---- what stands there
 
-module _ {s a b d : StoreValue} {first : ℕ} {q r : Queue} (K : Behaviour) (text : StreamText) (opened : Openness)
-    (good : IsStreamText K text)
+module _ {s a b d : StoreValue} {first : ℕ} {q r : Queue} (text : StreamText) (opened : Openness) (good : IsStreamText text)
     (h : Fills s a first q) (head_is : queue_in a q ≡ queue_now text.head) (head_spent : Spent s a (queue_blocks (queue_now text.head)))
     (w : Fills a b (first + 1) r) (driver_is : queue_in b r ≡ queue_now text.driver) (driver_spent : Spent a b (queue_blocks (queue_now text.driver)))
     (stack : Stack AnyModule) (shelf : Option Tables) (stacked : AreStacked b d (first + 2) text.modules.items stack.modules.items shelf)

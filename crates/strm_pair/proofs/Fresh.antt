@@ -6,7 +6,9 @@ use Rattle.std.specs.Prelude.{◌≤◌, length}
 use Rattle.strm_pair.specs.declared.streams.Streams.{Streams}
 use Rattle.strm_pair.specs.declared.journal.Journal.{Journal}
 use Rattle.strm_pair.specs.Pairs.{state_in, AreHeld, free_in, journal_of}
+use Rattle.strm_laws.specs.Known.{all_known}
 use Rattle.strm_laws.proofs.BaseSteps.{opening-base}
+use Rattle.strm_laws.proofs.KnownStay.{opening-known}
 use Rattle.strm_pair.specs.PairViews.{pair_of, IsKept}
 use Rattle.strm_pair.specs.BaseTexts.{begun_at, image_room}
 use Rattle.strm_pair.specs.Starts.{Start, new_start}
@@ -29,6 +31,7 @@ fresh-kept K s p j b limits fates is blank fresh empty events bytes none = recor
   few = subst FewBooked (sym (ap (λ v. state_in v p) blank ∙ fresh.state)) opening-base.few;
   told = none ∙ sym (ap (λ (t : Start). t.fates) is) ∙ ap (λ js. told_by K plain b.state js b.fates) (sym empty);
   held = subst (λ v. AreHeld v p) (sym blank) fresh.held;
+  known = ap (all_known K) (ap (λ v. state_in v p) blank ∙ fresh.state) ∙ opening-known ℕ K;
   mblks = ap (λ (v : StoreValue). v.mblks) blank;
   dblks = ap (λ (v : StoreValue). v.dblks) blank;
   events = events;

@@ -11,7 +11,6 @@ use Rattle.strm_types.specs.Standings.{of_part}
 use Rattle.strm_laws.specs.Stacked.{of_kind}
 use Rattle.strm_frame.specs.Does.{Serves}
 use Rattle.strm_ldterm.specs.Stands as stands
-use Rattle.strm_ldterm.specs.declared.ldterm.Ldterm.{Ldterm}
 use Rattle.strm_pty.specs.declared.pckt.Pckt.{Pckt}
 use Rattle.strm_pty.specs.declared.ptem.Ptem.{Ptem}
 use Rattle.strm_pair.specs.declared.modules.AnyModule.{AnyModule}
@@ -23,27 +22,24 @@ later-same : (again : Bool) (m n : ℕ) (sent : List (Parcel ℕ)) → (again �
 later-same true m n sent same = ap (λ k. later_cost true k sent) (same refl)
 later-same false m n sent same = refl
 
-module _ {M X P : Type 0} (wrap : X → AnyModule) (made : P → Module ℕ) (in_itself : StoreValue → X → P)
-    (IsHeld : StoreValue → X → Option QueuePair → Type 0) (keeps : X → ℕ → ℕ) where
+module _ {M P : Type 0} (wrap : M → AnyModule) (made : P → Module ℕ) (in_itself : StoreValue → M → P) (IsHeld : StoreValue → M → Option QueuePair → Type 0) (keeps : M → ℕ → ℕ) where
   pub record IsKind : Type 0 where
-    pub shows : (s : StoreValue) (x : X) → kind_in s (wrap x) ≡ made (in_itself s x)
-    pub fits : (s : StoreValue) (x : X) (queues : Option QueuePair) → IsHeld s x queues → IsKindHeld s (wrap x) queues
-    pub back : (s : StoreValue) (x : X) (queues : Option QueuePair) → IsKindHeld s (wrap x) queues → IsHeld s x queues
-    pub keeps_same : (x : X) → kind_keeps (wrap x) ≡ keeps x
+    pub shows : (s : StoreValue) (x : M) → kind_in s (wrap x) ≡ made (in_itself s x)
+    pub fits : (s : StoreValue) (x : M) (queues : Option QueuePair) → IsHeld s x queues → IsKindHeld s (wrap x) queues
+    pub back : (s : StoreValue) (x : M) (queues : Option QueuePair) → IsKindHeld s (wrap x) queues → IsHeld s x queues
+    pub keeps_same : (x : M) → kind_keeps (wrap x) ≡ keeps x
 
   module _ (kind : IsKind) where
     -- where it stands, it is what it is there by itself
-    kind-stands : (s : StoreValue) (x : X) (q : Option QueuePair) → standing_in kind_in s (standing (wrap x) q)
-        ≡ of_kind made (standing_in in_itself s (standing x q))
+    kind-stands : (s : StoreValue) (x : M) (q : Option QueuePair) → standing_in kind_in s (standing (wrap x) q) ≡ of_kind made (standing_in in_itself s (standing x q))
     kind-stands s x q = ap (λ (p : Module ℕ). stood p (queues_in s q)) (kind.shows s x)
 
     -- it fits where one of any kind does
-    pub kind-fits : (s : StoreValue) (any : AnyModule) (x : X) (q : Option QueuePair) → any ≡ wrap x → Fits IsKindHeld s (standing any q)
-        → Fits IsHeld s (standing x q)
+    pub kind-fits : (s : StoreValue) (any : AnyModule) (x : M) (q : Option QueuePair) → any ≡ wrap x → Fits IsKindHeld s (standing any q) → Fits IsHeld s (standing x q)
     kind-fits s any x q is held = record { queues = held.queues; itself = kind.back s x q (subst (λ m. IsKindHeld s m q) is held.itself) }
 
     -- its put
-    pub kind-puts : (s t : StoreValue) (x y : X) (q r : Option QueuePair) (holds : Bool) (message most : ℕ) (acts : Acts) (f f' : Fates)
+    pub kind-puts : (s t : StoreValue) (x y : M) (q r : Option QueuePair) (holds : Bool) (message most : ℕ) (acts : Acts) (f f' : Fates)
         (is : Acted ℕ (plain.Standing P ℕ))
         → Puts (standing_in in_itself) (Fits IsHeld) owns (keeps_of keeps) s t (standing x q) (standing y r) holds message most acts f f' is
         → Puts (standing_in kind_in) (Fits IsKindHeld) owns (keeps_of kind_keeps) s t (standing (wrap x) q) (standing (wrap y) r) holds message most acts f f'
@@ -69,7 +65,7 @@ module _ {M X P : Type 0} (wrap : X → AnyModule) (made : P → Module ℕ) (in
     module _ (cost : P → ℕ) (any_cost : Module ℕ → ℕ) where
       module _ (MayStop : ℕ → plain.Standing P ℕ → Type 0) (MayEnd : ℕ → Standing ℕ → Type 0) (ends : (n : ℕ) (p : plain.Standing P ℕ) → MayStop n p → MayEnd n (of_kind made p)) where
         -- and a call of its service procedure
-        pub kind-serves : (s t : StoreValue) (x y : X) (q r : Option QueuePair) (served : Served) (f f' : Fates) (is : Serving ℕ (plain.Standing P ℕ))
+        pub kind-serves : (s t : StoreValue) (x y : M) (q r : Option QueuePair) (served : Served) (f f' : Fates) (is : Serving ℕ (plain.Standing P ℕ))
             → (is.again ≡ true → (p : P) → any_cost (made p) ≡ cost p)
             → Serves (standing_in in_itself) (Fits IsHeld) owns (keeps_of keeps) (of_part cost) MayStop s t (standing x q) (standing y r) served f f' is
             → Serves (standing_in kind_in) (Fits IsKindHeld) owns (keeps_of kind_keeps) (of_part any_cost) MayEnd s t (standing (wrap x) q) (standing (wrap y) r) served f f' (served_by (of_kind made) is)
@@ -100,18 +96,14 @@ module _ {M X P : Type 0} (wrap : X → AnyModule) (made : P → Module ℕ) (in
             }
 
 -- the kinds
-pub ldterm-kind : let wrap : Ldterm
-    → AnyModule = kinds.Ldterm in IsKind wrap OfLdterm stands.own_in stands.HasInHand stands.keeps_itself
+pub ldterm-kind : IsKind kinds.Ldterm OfLdterm stands.own_in stands.HasInHand stands.keeps_itself
 ldterm-kind = record { shows = λ s x. refl; fits = λ s x queues held. held; back = λ s x queues held. held; keeps_same = λ x. refl }
 
-pub ptem-kind : let wrap : Ptem
-    → AnyModule = kinds.Ptem in IsKind wrap OfPtem (λ (s : StoreValue) (x : Ptem). ptem_in x) (λ s x queues. queues ≡ None) (λ x i. 0)
+pub ptem-kind : IsKind kinds.Ptem OfPtem (λ (s : StoreValue) (x : Ptem). ptem_in x) (λ s x queues. queues ≡ None) (λ x i. 0)
 ptem-kind = record { shows = λ s x. refl; fits = λ s x queues held. held; back = λ s x queues held. held; keeps_same = λ x. refl }
 
-pub pckt-kind : let wrap : Pckt
-    → AnyModule = kinds.Pckt in IsKind wrap OfPckt (λ (s : StoreValue) (x : Pckt). pckt_in) (λ s x queues. queues ≡ None) (λ x i. 0)
+pub pckt-kind : IsKind kinds.Pckt OfPckt (λ (s : StoreValue) (x : Pckt). pckt_in) (λ s x queues. queues ≡ None) (λ x i. 0)
 pckt-kind = record { shows = λ s x. refl; fits = λ s x queues held. held; back = λ s x queues held. held; keeps_same = λ x. refl }
 
-pub own-kind : let wrap : Own
-    → AnyModule = kinds.Own in IsKind wrap OfOwn (λ (s : StoreValue) (x : Own). x) (λ s x queues. queues ≡ None) (λ x i. 0)
+pub own-kind : IsKind kinds.Own OfOwn (λ (s : StoreValue) (x : Own). x) (λ s x queues. queues ≡ None) (λ x i. 0)
 own-kind = record { shows = λ s x. refl; fits = λ s x queues held. held; back = λ s x queues held. held; keeps_same = λ x. refl }

@@ -42,8 +42,8 @@ start_of x = record { state = x.state; fates = fates_in x; past = [] }
 
 module _ (s : StoreValue) (p : Streams) (j : Journal) (b : Start) (limits : Config) (fates : Fates) (x : Imaged)
     (begins : b ≡ start_of x) (state : state_in s p ≡ x.state) (none : journal_of j ≡ []) (gone : fates ≡ fates_in x) where
-  pub restored-kept : (K : Behaviour) → IsBase x.state (fates_in x) → AreHeld s p → s.mblks ≡ limits.mblks → s.dblks ≡ limits.dblks → j.most_entries ≡ limits.journal_events → j.most_bytes ≡ limits.journal_bytes → IsKept K s p j b limits fates
-  restored-kept K based held mblks dblks events bytes = record {
+  pub restored-kept : (K : Behaviour) → all_known K x.state ≡ true → IsBase x.state (fates_in x) → AreHeld s p → s.mblks ≡ limits.mblks → s.dblks ≡ limits.dblks → j.most_entries ≡ limits.journal_events → j.most_bytes ≡ limits.journal_bytes → IsKept K s p j b limits fates
+  restored-kept K known based held mblks dblks events bytes = record {
     based = subst (λ (t : Start). IsBase t.state t.fates) (sym begins) based;
     replayed = state ∙ sym (ap (λ (t : Start). t.state) begins) ∙ sym (led-nowhere K b j none);
     legal = subst (λ js. IsLegal K plain b.state js) (sym none) tt;
@@ -51,6 +51,7 @@ module _ (s : StoreValue) (p : Streams) (j : Journal) (b : Start) (limits : Conf
     few = subst FewBooked (sym state) based.few;
     told = gone ∙ sym (ap (λ (t : Start). t.fates) begins) ∙ ap (λ js. told_by K plain b.state js b.fates) (sym none);
     held = held;
+    known = ap (all_known K) state ∙ known;
     mblks = mblks;
     dblks = dblks;
     events = events;

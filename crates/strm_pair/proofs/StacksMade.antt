@@ -197,8 +197,8 @@ placed-bare s first shelf t x is held rests own none = record {
 
 pub placed-ldterm : (s t : StoreValue) (first : ℕ) (was is : Option Tables) (text : ModuleText) (l : LdtermText) (x : Ldterm) (pair : QueuePair) → text ≡ texts.Ldterm l → own_in t x ≡ own_now l → pair_in t pair ≡ pair_now l
     → HasInHand t x (Some pair) → IsPairReady t pair → ((i : ℕ) → keeps_itself x i ≡ 0) → ((k : ℕ) → queues_own (Some pair) k ≡ once first k + once (first + 1) k) → FillsTwo s t first → Spent s t (ldterm_blocks l)
-    → let y : AnyStanding = standing (kinds.Ldterm x) (Some pair) in IsPlaced s t first was is text y
-placed-ldterm {M} s t first was is text l x pair e own_is pair_is held ready rests own fills spent = subst (λ m. IsPlaced s t first was is m (standing (kinds.Ldterm x) (Some pair))) (sym e) (record {
+    → IsPlaced s t first was is text (standing (kinds.Ldterm x) (Some pair))
+placed-ldterm s t first was is text l x pair e own_is pair_is held ready rests own fills spent = subst (λ m. IsPlaced s t first was is m (standing (kinds.Ldterm x) (Some pair))) (sym e) (record {
   state = ap (λ part. stood (OfLdterm part) (Some (pair_in t pair))) own_is ∙ ap (λ queues. stood (OfLdterm (own_now l)) (Some queues)) pair_is;
   held = record { queues = ready; itself = held };
   rests = rests;

@@ -3,9 +3,11 @@ use Rattle.strm_pair.proofs.Prelude.{ℕ, List, refl, ◌≡◌, ◌∙◌, ◌+
 use Rattle.strm_pair.specs.Prelude.{Config, plain, Fates, tallied, PlainEntry, IsBase, AreIdle, told_by, FewBooked, restarted, AreWithinEntries}
 use Rattle.strm_pair.specs.Prelude.{State, after, replay, IsLegal, StoreValue, Behaviour}
 use Rattle.strm_laws.specs.Kept.{gone}
+use Rattle.strm_laws.specs.Known.{all_known}
 use Rattle.strm_laws.specs.Restorable.{IsWithinEntry}
 use Rattle.strm_laws.specs.Step.{Step}
 use Rattle.strm_laws.proofs.BaseSteps.{base-on}
+use Rattle.strm_laws.proofs.KnownStay.{after-known}
 use Rattle.strm_laws.proofs.Replay.{kept-legal, replay-append}
 use Rattle.strm_pair.specs.declared.streams.Streams.{Streams}
 use Rattle.strm_pair.specs.declared.journal.Journal.{Journal}
@@ -56,6 +58,7 @@ kept-step K s new p q j k b limits fates fates' entry kept step within leads few
       ∙ sym (told-on K b.state (journal_of j) entry b.fates)
       ∙ ap (λ js. told_by K plain b.state js b.fates) (sym added);
   held = leads.held;
+  known = ap (all_known K) leads.state ∙ after-known K plain (state_in s p) entry kept.known;
   mblks = leads.pool.mblks ∙ kept.mblks;
   dblks = leads.pool.dblks ∙ kept.dblks;
   events = events ∙ kept.events;
@@ -100,6 +103,7 @@ module _ (K : Behaviour) (s : StoreValue) (p : Streams) (j k : Journal) (b c : S
     few = kept.few;
     told = sym went ∙ ap (λ js. told_by K plain c.state js c.fates) (sym empty);
     held = kept.held;
+    known = kept.known;
     mblks = kept.mblks;
     dblks = kept.dblks;
     events = events ∙ kept.events;

@@ -6,6 +6,7 @@ use Rattle.strm_pair.specs.declared.streams.Streams.{Streams}
 use Rattle.strm_pair.specs.declared.base.Base.{Base}
 use Rattle.strm_pair.specs.declared.journal.Journal.{Journal}
 use Rattle.strm_pair.specs.BaseTexts.{IsWritten, start_in}
+use Rattle.strm_laws.specs.Known.{all_known}
 use Rattle.strm_pair.specs.Pairs.{state_in, free_in, journal_of, AreHeld}
 use Rattle.strm_pair.specs.Starts.{Start}
 

@@ -8,20 +8,14 @@ use Rattle.strm_image.proofs.FitImages.{are_queues}
 use Rattle.strm_pair.specs.Laying.{IsStood, stream_now}
 use Rattle.strm_pair.specs.Streams.{IsBlank}
 use Rattle.strm_pair.proofs.PairsMade.{blank-behind, blank-last, both-sides, master-stream}
-use Rattle.strm_pair.proofs.TextsTold.{names-known, stream-told}
+use Rattle.strm_pair.proofs.TextsTold.{stream-told}
 use Rattle.strm_pair.proofs.images.made_pairs.streams_of.Goals as goal
 
 pub end_of-master-requires-clause-good : goal.end_of-master-requires-clause-good
-end_of-master-requires-clause-good g c =
-    let K = g.M.Behaves.does in
-    stream-told K Master c.args.text.now.opened.master c.args.text.now.streams.master (c.requires.good.streams Master) (c.requires.good.heads Master)
-    (names-known K c.args.text.now c.requires.known).0
+end_of-master-requires-clause-good g c = stream-told Master c.args.text.now.opened.master c.args.text.now.streams.master (c.requires.good.streams Master) (c.requires.good.heads Master)
 
 pub end_of-slave-requires-clause-good : goal.end_of-slave-requires-clause-good
-end_of-slave-requires-clause-good g c =
-    let K = g.M.Behaves.does in
-    stream-told K Slave c.args.text.now.opened.slave c.args.text.now.streams.slave (c.requires.good.streams Slave) (c.requires.good.heads Slave)
-    (names-known K c.args.text.now c.requires.known).1
+end_of-slave-requires-clause-good g c = stream-told Slave c.args.text.now.opened.slave c.args.text.now.streams.slave (c.requires.good.streams Slave) (c.requires.good.heads Slave)
 
 pub end_of-slave-requires-clause-blank : goal.end_of-slave-requires-clause-blank
 end_of-slave-requires-clause-blank g c =

@@ -16,10 +16,9 @@ stack_of-stack-requires-clause-room g c =
 
 pub returns : goal.returns
 returns g c =
-    let K = g.M.Behaves.does in
     let s = g.B.Blocks.value c.queue_of-driver.new.store in
     let t = g.B.Blocks.value c.stack_of-stack.new.store in
-    stood K c.args.text.now c.args.opened c.requires.good c.queue_of-queue.ensures.fills c.queue_of-queue.ensures.queue c.queue_of-queue.ensures.spent
+    stood c.args.text.now c.args.opened c.requires.good c.queue_of-queue.ensures.fills c.queue_of-queue.ensures.queue c.queue_of-queue.ensures.spent
     c.queue_of-driver.ensures.fills c.queue_of-driver.ensures.queue c.queue_of-driver.ensures.spent c.stack_of-stack.result c.stack_of-stack.new.shelf
     (subst (λ ms. AreStacked s t (c.args.first + 2) ms c.stack_of-stack.result.modules.items c.stack_of-stack.new.shelf) c.as_slice.ensures.value c.stack_of-stack.ensures)
     c.head_of.result c.head_of.ensures.queue c.head_of.ensures.head

@@ -4,8 +4,8 @@ use Rattle.strm_pair.specs.Prelude.{token}
 use Rattle.strm_pty.proofs.Alone.{alone-ready, alone-stands}
 use Rattle.strm_pair.proofs.owned.OwnPutProcedure.put.Goals as goal
 
-pub pass-sent-requires : goal.pass-sent-requires
-pass-sent-requires g c = record {
+pub put-sent-requires : goal.put-sent-requires
+put-sent-requires g c = record {
   held = can-in_hand (g.B.Blocks.value c.args.store.now) (token c.args.message) (λ _. 0) c.audit.ensures c.requires.can_put;
   chain = c.requires.chain;
   inside = c.requires.inside;
@@ -15,10 +15,10 @@ pass-sent-requires g c = record {
 pub returns : goal.returns
 returns g c =
     let s = g.B.Blocks.value c.args.store.now in
-    let t = g.B.Blocks.value c.pass-sent.new.store in
+    let t = g.B.Blocks.value c.put-sent.new.store in
     let queues = c.args._queues.now in
     let none = c.requires.held.itself in
-    let e = c.pass-sent.ensures in
+    let e = c.put-sent.ensures in
     record {
       state = alone-stands s t queues none _ _ e.state;
       notes = search rules;

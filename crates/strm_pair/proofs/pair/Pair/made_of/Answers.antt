@@ -42,7 +42,7 @@ invariant_of-result g c =
     let r = c.requires.reserved in
     record {
       kept =
-          restored-kept u c.streams_of-streams.result c.args.reserved.journal (start_in c.at-base.result) c.args.limits fates x begins made.state r.journal c.fates_of-fates.ensures K
+          restored-kept u c.streams_of-streams.result c.args.reserved.journal (start_in c.at-base.result) c.args.limits fates x begins made.state r.journal c.fates_of-fates.ensures K c.requires.known
           (image_base x (fates_in x) told refl) made.held m d r.events r.bytes;
       written = is-written c.at-base.result _ fates [] c.args.limits c.at-base.ensures.start c.at-base.ensures.text (omega (arith, r.base, c.at-base.ensures.memory));
     }

@@ -13,14 +13,14 @@ write-requires-clause-has g c =
     let K = g.M.Behaves.does in
     let p = c.self.inside in
     let s = g.B.Blocks.value p.store in
-    has-image K s p.streams p.journal (start_in p.base) p.limits p.fates c.self.invariant.kept c.audit.ensures c.know_fates.ensures (c.know_streams.ensures.numbers s)
+    has-image K s p.streams p.journal (start_in p.base) p.limits p.fates c.self.invariant.kept c.audit.ensures c.know_fates.ensures (c.know_streams.ensures s)
 
 pub write-requires-clause-room : goal.write-requires-clause-room
 write-requires-clause-room g c =
     let K = g.M.Behaves.does in
     let p = c.self.inside in
     let s = g.B.Blocks.value p.store in
-    let room = image-room K s p.streams p.journal (start_in p.base) p.limits p.fates c.self.invariant.kept c.audit.ensures c.know_fates.ensures (c.know_streams.ensures.numbers s) in
+    let room = image-room K s p.streams p.journal (start_in p.base) p.limits p.fates c.self.invariant.kept c.audit.ensures c.know_fates.ensures (c.know_streams.ensures s) in
     omega (arith, room, c.self.invariant.written.room)
 
 pub invariant_of-self : goal.invariant_of-self
