@@ -36,6 +36,6 @@ impl Streams {
         ensures takes { let s = B.value store.old in let t = B.value store.new in
             Takes s t (spare (state_in s self.old)) (spare (state_in t self.new)) (most_of to (message_in s (token message))) 0 }
     {
-        deliver::<M, B, Streams>(store, self, HOPS, to, message, told);
+        deliver::<B, M, Streams>(store, self, HOPS, to, message, told);
     }
 }

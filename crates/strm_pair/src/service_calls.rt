@@ -144,7 +144,7 @@ impl Streams {
             stopped: served.stopped,
             again: served.again,
         };
-        deliver_all::<M, B, Streams>(store, self, HOPS, served.acts.sent, told);
+        deliver_all::<B, M, Streams>(store, self, HOPS, served.acts.sent, told);
         call
     }
 
