@@ -6,7 +6,7 @@ use Rattle.strm_frame.specs.Hands.{once}
 use Rattle.strm_frame.specs.Outboxes.{message_in}
 use Rattle.strm_frame.proofs.Handing.{can-in_hand, freed-hands, freed-spends, none-hands, none-chains, no-parts, one-parts, one-chains, one-hands}
 use Rattle.strm_tests.proofs.ToySteps.{counts-top, counts-on, free-takes, still-spends}
-use Rattle.strm_tests.proofs.frame.counter.CounterStations.put_at.Goals as goal
+use Rattle.strm_tests.proofs.frame.counter.CounterStationsUnit.put_at.Goals as goal
 use Rattle.strm_blocks.specs.Blocks.{token}
 
 pub free-requires : goal.free-requires

@@ -9,7 +9,7 @@ use Rattle.strm_frame.proofs.Handing.{can-in_hand, freed-hands, freed-spends, no
 use Rattle.strm_tests.proofs.RigSteps.{none-taken, rig-ends}
 use Rattle.strm_tests.proofs.ToySteps.{free-takes, freed-same}
 use Rattle.strm_frame.specs.Standings.{standing_in}
-use Rattle.strm_tests.proofs.frame.rig.RigStations.put_at.Goals as goal
+use Rattle.strm_tests.proofs.frame.rig.RigStationsUnit.put_at.Goals as goal
 
 pub free-requires : goal.free-requires
 free-requires g c = can-in_hand _ _ _ c.audit.ensures c.requires.can_put
