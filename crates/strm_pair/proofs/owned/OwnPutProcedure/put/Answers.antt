@@ -6,10 +6,12 @@ use Rattle.strm_pair.proofs.owned.OwnPutProcedure.put.Goals as goal
 
 pub put-sent-requires : goal.put-sent-requires
 put-sent-requires g c = record {
-  held = can-in_hand (g.B.Blocks.value c.args.store.now) (token c.args.message) (λ _. 0) c.audit.ensures c.requires.can_put;
-  chain = c.requires.chain;
-  inside = c.requires.inside;
-  small = c.requires.small;
+  may = record {
+    held = can-in_hand (g.B.Blocks.value c.args.store.now) (token c.args.message) (λ _. 0) c.audit.ensures c.requires.can_put;
+    chain = c.requires.chain;
+    inside = c.requires.inside;
+    small = c.requires.small;
+  };
 }
 
 pub returns : goal.returns
