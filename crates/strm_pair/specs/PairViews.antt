@@ -1,5 +1,5 @@
 -- What a pair over a store stands for, and what holds of each.
-use Rattle.std.specs.Prelude.{ℕ, ◌≡◌}
+use Rattle.std.specs.Prelude.{ℕ, ◌≡◌, true}
 use Rattle.strm_pair.specs.Prelude.{Config, Fates, plain, IsBase, told_by, FewBooked, PairState, AreWithinEntries, State, replay, IsLegal, StoreValue}
 use Rattle.strm_pair.specs.Prelude.{Behaviour}
 use Rattle.strm_pair.specs.declared.streams.Streams.{Streams}
