@@ -8,7 +8,7 @@ p = argparse.ArgumentParser()
 p.add_argument("root"); p.add_argument("crate"); p.add_argument("--built", default="auto"); p.add_argument("--jobs", default="1")
 p.add_argument("--only", action="append", default=[]); p.add_argument("--test", action="store_true"); p.add_argument("--inc"); p.add_argument("--libs")
 p.add_argument("--holes", action="store_true"); p.add_argument("rest", nargs="*")
-a = p.parse_args()
+a, more = p.parse_known_args(); a.rest += more
 os.chdir(a.root)
 crates = {c.name: c for c in rt.crates_below(a.root)}
 it = crates[a.crate]
