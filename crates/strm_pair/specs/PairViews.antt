@@ -33,7 +33,8 @@ pair_of s streams journal base limits fates = record {
 
 -- The blocks stand for the state to which the journal leads from the base, each entry of it is a legal step, and names a band that queues have; no more
 -- is booked than a ledger can hold; the numbers that are kept beside the blocks are those of the blocks, and nothing is in hand; what has gone is told
--- by its rules, from what had gone at the base on; and the sizes are those that the pair was made with.
+-- by its rules, from what had gone at the base on; there are modules of all names on the streams; and the sizes are those that the pair was made
+-- with.
 pub record IsKept (K : Behaviour) (s : StoreValue) (streams : Streams) (journal : Journal) (base : Start) (limits : Config)
     (fates : Fates) : Type 0 where
   pub based : IsBase base.state base.fates
