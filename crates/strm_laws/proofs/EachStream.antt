@@ -1,5 +1,6 @@
 -- What holds of each stream of a pair holds behind each call, turn and step, where it holds of a stream that changes as steps change it.
-use Rattle.strm_laws.proofs.Prelude.{ℕ, ◌≡◌, ◌==◌, ◌||◌, Bool, true, false, cond, List, [], ◌∷◌, refl, subst, sym, arith, Option, None, Some, min, set-all}
+use Rattle.strm_laws.proofs.Prelude.{ℕ, ◌≡◌, ◌==◌, ◌||◌, Bool, true, false, cond, List, [], ◌∷◌, refl, subst, sym, arith, Option, None, Some, min}
+use Rattle.strm_laws.proofs.Prelude.{set-all}
 use Rattle.strm_laws.specs.Prelude.{Turn, Called, Turned, Caller, OpenMaster, OpenSlave, Shut, Push, Pop, Write, Read, Put, Get, Mode, IoctlResult}
 use Rattle.strm_laws.specs.Prelude.{Signals, READ_MAX, ControlMode, Prio, ReadMode, ModuleName, Openness, Open, Closed, QueueName, Side, Master}
 use Rattle.strm_laws.specs.Prelude.{Slave, Way, Up, Down, EndClosed, Free, Waiting, Spot, AllSides, Cells, cells_written, Took, of_all, queue_behind}
@@ -89,7 +90,8 @@ module _ {C : Type 0} (P : Side → Stream C → Type 0) where
       each-stays = record {
         head = head-each;
         driver = λ side here m s all. driver-each side _ s all;
-        modules = λ side ps s same all. changed side (record (stream side s) { modules = ps }) s (λ holds. changes.modules side ps (stream side s) (any ps) holds) all;
+        modules = λ side ps s same all.
+            changed side (record (stream side s) { modules = ps }) s (λ holds. changes.modules side ps (stream side s) (any ps) holds) all;
         names = λ names s adds all. all;
         books = λ dir n s all. all;
         waits = waits;
@@ -219,7 +221,8 @@ module _ {C : Type 0} (P : Side → Stream C → Type 0) where
       call-each caller _ s all = all
 
       pub called-each : (caller : Caller) (asked : Request) (s : State C) → OfEach s → OfEach (called K cells caller asked s).state
-      called-each caller asked s all = of-called K cells caller asked s (λ outcome. OfEach outcome.state) (λ signal. all) (call-each caller asked s all)
+      called-each caller asked s all =
+          of-called K cells caller asked s (λ outcome. OfEach outcome.state) (λ signal. all) (call-each caller asked s all)
 
       module _ (turns : (name : QueueName) (turn : Turn) (s : State C) → OfEach s → OfEach (turned K cells name turn s).state) where
         -- an entry of a journal, and a step

@@ -41,7 +41,8 @@ module _ {C : Type 0} where
       act-names (λ p. (module_serves cells here made again stop p).acted) (λ p. ((lawful p).call cells here made again).name stop) i ps
 
   -- a queue of one changes, or a writer waits at one
-  pub queue-names : (way : Way) (change : Queue C → Queue C) (i : ℕ) (ps : List (Standing C)) → map module_name (change_among (queue_changed way change) i ps) ≡ map module_name ps
+  pub queue-names : (way : Way) (change : Queue C → Queue C) (i : ℕ) (ps : List (Standing C))
+      → map module_name (change_among (queue_changed way change) i ps) ≡ map module_name ps
   queue-names way change i ps = change-names (queue_changed way change) (λ p. refl) i ps
 
   pub waits-names : (way : Way) (band at : ℕ) (ps : List (Standing C)) → map module_name (waits_past way band at ps) ≡ map module_name ps

@@ -3,15 +3,14 @@ use Rattle.strm_pair.proofs.Prelude.{ℕ, suc, ◌≡◌, Bool, true, false, con
 use Rattle.strm_pair.proofs.Prelude.{◌&&◌, ◌||◌, not, nat_le, nat_lt, min, get-set-same}
 use Rattle.strm_pair.specs.Prelude.{MODULES, ReadMode, ModuleName, Side, Master, Slave, Up, EndClosed, plain, Carried, Fate, Goes, Took, before_among}
 use Rattle.strm_pair.specs.Prelude.{before_by, places_of, cells_of, first_place, stands, direction_at, driver_of, enable_if, have_queues, is_open}
-use Rattle.strm_pair.specs.Prelude.{kind_name, other}
 use Rattle.strm_pair.specs.Prelude.{same_module, mode_message, head_above, may_stand, mode_put, module_named, named_by, with_modules, delivered}
-use Rattle.strm_pair.specs.Prelude.{is_none_left, Standing, module_name, State, Stream, stream, with_stream, Behaviour}
+use Rattle.strm_pair.specs.Prelude.{is_none_left, other, Standing, module_name, State, Stream, stream, with_stream, Behaviour}
 use Rattle.std.specs.Prelude.{length}
 use Rattle.std.specs.List.{AllByRecursion}
 use Rattle.strm_types.specs.declared.names.ModuleName.TheVariants as names
 use Rattle.strm_types.specs.Heads.{with_options}
 use Rattle.strm_types.specs.Options.{options_in, mode_number}
-use Rattle.strm_laws.specs.Pushes.{enable_waiting, is_known, kind_named, let_come, mode_on_push, pushed_named}
+use Rattle.strm_laws.specs.Pushes.{enable_waiting, is_known, let_come, mode_on_push, pushed_named}
 use Rattle.strm_laws.proofs.FlushDelivered.{carries, went_on}
 use Rattle.strm_laws.proofs.SameNames.{kind-is}
 use Rattle.strm_pair.specs.AnyModules.{HasAsNamed}
