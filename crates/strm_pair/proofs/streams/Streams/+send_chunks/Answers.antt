@@ -52,7 +52,7 @@ send_chunks-more-requires g t c κs within =
     let spends = c.send_chunk.ensures.spends in
     let room_m : c.args.chunks - 1 ≤ free_m mid = omega (arith, some, room.mblks, spends.mblks) in
     let room_d : c.args.chunks - 1 ≤ free_d mid = omega (arith, some, room.dblks, spends.dblks) in
-    (omega arith, (within, (rests, record { mblks = room_m; dblks = room_d })))
+    (omega arith, (within.0, (within.1, (rests, record { mblks = room_m; dblks = room_d }))))
 
 pub returns-clause-taken : goal.returns-clause-taken
 returns-clause-taken g t c =

@@ -2,7 +2,7 @@
 use Rattle.strm_pair.proofs.Prelude.{◌≤◌, sym, subst, arith, Option}
 use Rattle.strm_pair.specs.Prelude.{first_size, QueuePair, queues_in}
 use Rattle.strm_types.specs.Standings.{messages_on}
-use Rattle.strm_pair.proofs.owned.OwnModule.asks.Goals as goal
+use Rattle.strm_pair.proofs.owned.OwnModuleImpl.asks.Goals as goal
 
 pub returns-clause-few : goal.returns-clause-few
 returns-clause-few g c =

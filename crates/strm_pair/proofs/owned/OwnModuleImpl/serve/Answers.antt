@@ -1,7 +1,7 @@
 -- Nothing is done.
 use Rattle.strm_pair.proofs.Prelude.{rules}
 use Rattle.strm_frame.proofs.Handing.{no-parts, no-room, none-chains, none-hands, still-hands}
-use Rattle.strm_pair.proofs.owned.OwnModule.serve.Goals as goal
+use Rattle.strm_pair.proofs.owned.OwnModuleImpl.serve.Goals as goal
 
 pub returns : goal.returns
 returns g c =
