@@ -132,7 +132,8 @@ pub acted-same : (here : Spot) (again : Bool) (stop : Option ℕ) (s : State ℕ
 acted-same here again stop s =
     let stays = same-stays s in
     let t = called here again stop (stream here.side s).modules in
-    acted-holds (SameButMade s) stays.names stays.books here t s (stays.modules here.side t.state s (same-itself s))
+    acted-holds (SameButMade s) stays.names stays.books here t s
+    (stays.modules here.side t.state s (serve-names plain here 0 again stop (here.at - 1) (stream here.side s).modules) (same-itself s))
 
 -- and which modules stand there
 pub acted-stands : (here : Spot) (again : Bool) (stop : Option ℕ) (s : State ℕ)
