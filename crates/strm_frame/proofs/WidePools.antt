@@ -73,8 +73,8 @@ module _ (s : StoreValue) where
   room-le-free_d = by (nat_le s.mblks s.dblks) refl
     where
       by : (b : Bool) → nat_le s.mblks s.dblks ≡ b → cond b (free_m s) (free_d s) ≤ free_d s
-      by true yes = free_m-le-free_d (grind (arith, nat_tests))
-      by false no = omega arith
+      by true wide = free_m-le-free_d (grind (arith, nat_tests))
+      by false narrow = omega arith
 
   -- what is free of both kinds may be counted on
   pub free-le-room : (n : ℕ) → n ≤ free_m s → n ≤ free_d s → n ≤ room_d s
@@ -104,11 +104,18 @@ module _ (s t : StoreValue) (pool : SamePool s t) where
       by true = m
       by false = d
 
-  pub room-less : (takes : ℕ) → free_m s ≤ free_m t + takes → free_d s ≤ free_d t + takes → room_d s ≤ room_d t + takes
-  room-less takes m d = let r = room-takes 0 takes (omega arith) (omega arith) in omega arith
+  pub room-fewer : (takes : ℕ) → free_m s ≤ free_m t + takes → free_d s ≤ free_d t + takes → room_d s ≤ room_d t + takes
+  room-fewer takes m d = let r = room-takes 0 takes (omega arith) (omega arith) in omega arith
 
   pub room-more : FreesBlocks s t → room_d s ≤ room_d t
   room-more frees = let m = frees.mblks in let d = frees.dblks in let r = room-takes 0 0 (omega arith) (omega arith) in omega arith
 
   pub spends-free : (most later : ℕ) → free_m s + later ≤ free_m t + most → free_d s + later ≤ free_d t + most → Spends s t most later
   spends-free most later m d = record { mblks = m; dblks = room-takes later most m d }
+
+  -- as many may be counted on, where as many of both kinds are free
+  pub room-same : free_m t ≡ free_m s → free_d t ≡ free_d s → room_d t ≡ room_d s
+  unfolding room_d
+  room-same m d =
+      let same : nat_le t.mblks t.dblks ≡ nat_le s.mblks s.dblks = rw (pool.mblks, pool.dblks) refl in
+      rw (same, m, d) refl

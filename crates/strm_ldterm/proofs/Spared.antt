@@ -15,6 +15,7 @@ use Rattle.strm_ldterm.specs.Turns.{leaves, needs}
 use Rattle.strm_ldterm.proofs.OutWhole.{goes-whole}
 use Rattle.strm_ldterm.proofs.Spending.{Leaves, stages-spare}
 use Rattle.strm_ldterm.proofs.Turned.{again-serves, down-serves, first-serves}
+use Rattle.strm_frame.proofs.WidePools.{free-le-room, room-is-free}
 
 -- what goes up at the end of a turn may become a packet
 abbrev at_end : Way → ℕ
@@ -168,7 +169,9 @@ module _ (here : Spot) where
           let takes : later_cost more (turn_cost here true (by_itself q)) sent ≡ cost_of most sent + 0 = ap (λ v. cost_of most sent + cond {A = ℕ} v (turn_cost here true (by_itself q)) 0) ends in
           record {
             mblks = (let r = room.mblks in let f = frees.mblks in omega (arith, counts, few, same, takes, r, f));
-            dblks = (let r = room.dblks in let f = frees.dblks in omega (arith, counts, few, same, takes, r, f));
+            dblks = free-le-room new (later_cost more (turn_cost here true (by_itself q)) sent)
+            (let r = room.mblks in let f = frees.mblks in omega (arith, counts, few, same, takes, r, f))
+            (let r = room-is-free old (turn_cost here again (by_itself p)) room in let f = frees.dblks in omega (arith, counts, few, same, takes, r, f));
           }
 
       treated-room : (whole : passes_whole here.way again p ≡ false) → (here.way ≡ Up → again ≡ true → is_some p.in_work ≡ true) → (more ≡ true → HasRoom new (leaves q.stage)) → (here.way ≡ Up → HasRoom new 1) → HasRoom new (later_cost more (turn_cost here true (by_itself q)) sent)
