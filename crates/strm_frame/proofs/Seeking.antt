@@ -1,5 +1,5 @@
 -- Messages that go one after the other, as the M_IOCTL of a number is sought among them.
-use Rattle.strm_frame.proofs.Prelude.{ℕ, ◌≡◌, ◌≤◌, ◌<◌, ◌+◌, Bool, true, false, cond, List, [], ◌∷◌, length, refl, sym, ap, subst, ◌∙◌, arith}
+use Rattle.strm_frame.proofs.Prelude.{ℕ, ◌≡◌, ◌<◌, Bool, true, false, cond, List, [], ◌∷◌, length, refl, sym, ap, subst, ◌∙◌, arith}
 use Rattle.strm_frame.proofs.Prelude.{nat_tests, ◌||◌, ◌==◌}
 use Rattle.strm_frame.specs.Prelude.{of_all, Message, is_none_left, StoreValue, IsInHand, IsStore, dropped, in_hand, times_in, Queue, queue_in}
 use Rattle.strm_frame.specs.Prelude.{messages_on, IsReady, Changes, FreesBlocks, Dequeued}
@@ -9,7 +9,6 @@ use Rattle.strm_types.specs.Queue as plain
 use Rattle.strm_blocks.specs.Blocks.{without}
 use Rattle.strm_msg.proofs.Hands.{held-is}
 use Rattle.strm_queue.specs.Flows.{plain_flows}
-use Rattle.strm_frame.specs.Hands.{once}
 use Rattle.strm_frame.specs.Outboxes.{message_in}
 use Rattle.strm_frame.proofs.Handing.{dropped-frees}
 
