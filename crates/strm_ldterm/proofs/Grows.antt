@@ -6,7 +6,8 @@ use Rattle.strm_ldterm.proofs.Prelude.{data-shown, data-all, data-control, data_
 use Rattle.strm_ldterm.proofs.Prelude.{chunk-one}
 use Rattle.strm_ldterm.specs.Prelude.{MsgKind, Message, cells_of, data_message, is_high_priority, chunk_count, Block, Held, StoreValue, times_in}
 use Rattle.strm_ldterm.specs.Prelude.{IsStore, IsInHand, block_at, in_hand, dropped, changed, extended, with_block, written, total, names_of, free_m}
-use Rattle.strm_ldterm.specs.Prelude.{free_d, room_d, bytes_of, data_bytes, MadeOf, TooFew, message_of, AreData, IsChain, once, HasRoom, SamePool, message_in}
+use Rattle.strm_ldterm.specs.Prelude.{free_d, room_d, bytes_of, data_bytes, MadeOf, TooFew, message_of, AreData, IsChain, once, HasRoom, SamePool}
+use Rattle.strm_ldterm.specs.Prelude.{message_in}
 use Rattle.strm_types.specs.declared.kinds.MsgKind.TheVariants as kinds
 use Rattle.strm_blocks.proofs.Laws.{free_d-same}
 use Rattle.strm_msg.proofs.AdjustingBytes.{bytes-append}
@@ -42,7 +43,7 @@ begins-one s t i bytes few m =
       are = record { are = record { chain = one.shows.one; kind = one.shows.kind }; band = sym (band-is (in_hand t i)) ∙ ap (λ (x : Message ℕ). x.band) one.shows.is };
       shows = one.shows.is;
       mblks = (let r = one.room_m in let e = ap free_m one.is in omega arith);
-      dblks = room-fewer s t pool 1 (let r = one.room_m in let e = ap free_m one.is in omega arith) (let r = one.room_d in let e = ap free_d one.is in omega arith);
+      dblks = room-fewer s t pool 1 (omega (arith, one.room_m, ap free_m one.is)) (omega (arith, one.room_d, ap free_d one.is));
     }
 
 -- a chain of M_DATA blocks is a message of data
@@ -122,8 +123,8 @@ module _ (s t : StoreValue) (i : ℕ) (c : List Block) (st : IsStore s) (is : Is
       }
 
 -- as many blocks are free, where chains have as many blocks and names
-same-free : (s t : StoreValue) → t.mblks ≡ s.mblks → t.dblks ≡ s.dblks → total length t ≡ total length s → ((d : ℕ) → total (names_of d) t ≡ total (names_of d) s)
-    → (free_m t ≡ free_m s) × (room_d t ≡ room_d s)
+same-free : (s t : StoreValue) → t.mblks ≡ s.mblks → t.dblks ≡ s.dblks → total length t ≡ total length s
+    → ((d : ℕ) → total (names_of d) t ≡ total (names_of d) s) → (free_m t ≡ free_m s) × (room_d t ≡ room_d s)
 same-free s t mblks dblks len names =
     let m : free_m t ≡ free_m s =
     (let a = free_m-is s in let b = free_m-is t in let u = used-is s in let v = used-is t in omega arith) in

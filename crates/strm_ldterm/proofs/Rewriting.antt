@@ -51,7 +51,10 @@ module _ (s v : StoreValue) (q q1 : Queue) (i : ℕ) (taken : TakenLast s v q q1
       }
 
   pub taken-room : (n : ℕ) → HasRoom s n → HasRoom v n
-  taken-room n room = record { mblks = (let a = taken.frees.mblks in let r = room.mblks in omega arith); dblks = (let a = room-more s v (record { mblks = taken.mblks; dblks = taken.dblks }) taken.frees in let r = room.dblks in omega arith) }
+  taken-room n room = record {
+    mblks = (let a = taken.frees.mblks in let r = room.mblks in omega arith);
+    dblks = (let a = room-more s v (record { mblks = taken.mblks; dblks = taken.dblks }) taken.frees in let r = room.dblks in omega arith);
+  }
 
 -- A message that came in hand is put on a queue, and what was in hand is as it was.
 rewritten : (s u t : StoreValue) (q q1 q' : Queue) (e n : ℕ) → IsStore u → Shifts s u (λ _. 0) (once e) n → ((k : ℕ) → k ≢ q.list → list_at u k ≡ list_at s k) → q1.list ≡ q.list

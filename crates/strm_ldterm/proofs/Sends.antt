@@ -31,7 +31,8 @@ never-few s t n few room fails =
     elim fails.few [ inl m ↦ absurd (let r = room.mblks in omega arith) | inr d ↦ absurd (let r = room-is-free s 1 room in omega arith) ]
 
 pub never-none : (s t : StoreValue) → HasRoom s 1 → NoneFree s t → ⊥
-never-none s t room fails = elim fails.none [ inl m ↦ absurd (let r = room.mblks in omega arith) | inr d ↦ absurd (let r = room-is-free s 1 room in omega arith) ]
+never-none s t room fails =
+    elim fails.none [ inl m ↦ absurd (let r = room.mblks in omega arith) | inr d ↦ absurd (let r = room-is-free s 1 room in omega arith) ]
 
 pub made-bare : (s t : StoreValue) (i : ℕ) (kind : MsgKind) (bytes : List ℕ) → is_data_kind kind ≡ false → length bytes ≤ 256 → MadeOf s t i kind 0 bytes → MadeOne s t i (bare kind bytes)
 made-bare s t i kind bytes none few m =

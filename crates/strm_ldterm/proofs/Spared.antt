@@ -159,7 +159,8 @@ module _ (here : Spot) where
       same-cost : cost_of most sent ≡ cost_of most call.acted.sent
       same-cost = ap (cost_of most) parcels
 
-      passed-room : (whole : passes_whole here.way again p ≡ true) → HasRoom old (turn_cost here again (by_itself p)) → Spends old new 0 0 → HasRoom new (later_cost more (turn_cost here true (by_itself q)) sent)
+      passed-room : (whole : passes_whole here.way again p ≡ true) → HasRoom old (turn_cost here again (by_itself p)) → Spends old new 0 0
+          → HasRoom new (later_cost more (turn_cost here true (by_itself q)) sent)
       passed-room whole room spends =
           let passes = serves-pass here.way again refl refl whole in
           let counts = whole-counts here.way again whole in
@@ -200,7 +201,8 @@ module _ (here : Spot) where
               let room = last-room here.way refl in
               record { mblks = (let r = room.mblks in omega (arith, most, same, r)); dblks = (let r = room.dblks in omega (arith, most, same, r)) }
 
-      pub call-room : (here.way ≡ Up → again ≡ true → is_some p.in_work ≡ true) → HasRoom old (turn_cost here again (by_itself p)) → (passes_whole here.way again p ≡ true → Spends old new 0 0)
+      pub call-room : (here.way ≡ Up → again ≡ true → is_some p.in_work ≡ true) → HasRoom old (turn_cost here again (by_itself p))
+          → (passes_whole here.way again p ≡ true → Spends old new 0 0)
           → (more ≡ true → HasRoom new (leaves q.stage)) → (here.way ≡ Up → HasRoom new 1) → HasRoom new (later_cost more (turn_cost here true (by_itself q)) sent)
       call-room work room spends behind at_last = at (passes_whole here.way again p) refl
         where

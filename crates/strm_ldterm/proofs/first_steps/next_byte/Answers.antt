@@ -43,4 +43,6 @@ returns-clause-byte g c = λ q held.
     busy-byte s x c.in-Some.message there c.take_byte-byte.result.1 held c.take_byte-byte.ensures.byte
 
 pub returns-clause-spends : goal.returns-clause-spends
-returns-clause-spends g c = let shifts = c.take_byte-byte.ensures.became.hands in record { mblks = omega (arith, shifts.mblks); dblks = omega (arith, shifts.dblks) }
+returns-clause-spends g c =
+    let shifts = c.take_byte-byte.ensures.became.hands in
+    record { mblks = omega (arith, shifts.mblks); dblks = omega (arith, shifts.dblks) }

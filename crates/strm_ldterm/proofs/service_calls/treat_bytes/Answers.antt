@@ -28,7 +28,8 @@ treat_run-ran-requires-clause-room g c =
     record { mblks = (let r = many.mblks in omega (arith, r)); dblks = (let r = many.dblks in omega (arith, r)) }
 
 pub treat_byte-more-requires-clause-room : goal.treat_byte-more-requires-clause-room
-treat_byte-more-requires-clause-room g c = are-many (g.B.Blocks.value c.treat_run-ran.new.store) (sym c.are_few-else-left-eq0.ensures ∙ c.if-are_few.false)
+treat_byte-more-requires-clause-room g c =
+    are-many (g.B.Blocks.value c.treat_run-ran.new.store) (sym c.are_few-else-left-eq0.ensures ∙ c.if-are_few.false)
 
 pub treat_run-ran-requires-clause-stage : goal.treat_run-ran-requires-clause-stage
 treat_run-ran-requires-clause-stage g c =
