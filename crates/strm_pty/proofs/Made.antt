@@ -7,6 +7,7 @@ use Rattle.strm_types.specs.declared.kinds.Band.{Band}
 use Rattle.strm_types.specs.Flushing.{read_flush}
 use Rattle.strm_types.specs.Ioctls.{refused}
 use Rattle.strm_types.specs.Write.{chunk_count}
+use Rattle.strm_blocks.specs.Outcomes.{NoneFree}
 use Rattle.strm_blocks.proofs.Laws.{in_hand-held}
 use Rattle.strm_msg.specs.Made.{MadeOf, TooFew, copies_of, pieces}
 use Rattle.strm_msg.proofs.MadePlain.{made-plain}
@@ -21,6 +22,10 @@ pub never-few : (s t : StoreValue) (n : ℕ) → n ≤ 256 → HasRoom s 1 → T
 never-few s t n few room fails =
     let one = chunk-one n few in
     elim fails.few [ inl m ↦ absurd (let r = room.mblks in omega arith) | inr d ↦ absurd (let r = room-is-free s 1 room in omega arith) ]
+
+pub never-none : (s t : StoreValue) → HasRoom s 1 → NoneFree s t → ⊥
+never-none s t room fails =
+    elim fails.none [ inl m ↦ absurd (let r = room.mblks in omega arith) | inr d ↦ absurd (let r = room-is-free s 1 room in omega arith) ]
 
 pub made-one : (s t : StoreValue) (i : ℕ) (kind : MsgKind) (bytes : List ℕ) → is_data_kind kind ≡ false → length bytes ≤ 256 → MadeOf s t i kind 0 bytes → MadeOne s t i kind bytes
 made-one s t i kind bytes none few m =
