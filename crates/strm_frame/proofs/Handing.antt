@@ -1,8 +1,8 @@
 -- Messages in hand, where a message is put, and each that this gives rise to is carried on.
 use Rattle.strm_frame.proofs.Prelude.{ℕ, ◌≡◌, ◌≤◌, ◌<◌, ◌+◌, true, false, cond, List, [], ◌∷◌, length, refl, sym, ap, subst, ◌∙◌, arith, inl, inr}
 use Rattle.strm_frame.proofs.Prelude.{cases_eq, nat_tests, sum_by-cons}
-use Rattle.strm_frame.specs.Prelude.{Block, StoreValue, IsStore, IsInHand, in_hand, dropped, times_in, token, Parcel, IsChain, FreesBlocks, beyond, cost_of, most}
-use Rattle.strm_frame.specs.Prelude.{At}
+use Rattle.strm_frame.specs.Prelude.{Block, StoreValue, IsStore, IsInHand, in_hand, dropped, times_in, token, Parcel, IsChain, beyond, cost_of, most}
+use Rattle.strm_frame.specs.Prelude.{At, FreesBlocks}
 use Rattle.std.proofs.Common.{◌≢◌, eqb}
 use Rattle.strm_blocks.specs.Blocks.{Held, without, names_of}
 use Rattle.strm_blocks.proofs.Laws.{in_hand-dropped, total-dropped, used-is, free_m-is, free_d-more, references-is}

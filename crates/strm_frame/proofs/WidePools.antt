@@ -1,7 +1,6 @@
 -- The data blocks that may be counted on: they are free, and no fewer where no fewer blocks of either kind are.
-use Rattle.strm_frame.proofs.Prelude.{ℕ, zero, suc, ◌≡◌, ◌≤◌, ◌+◌, Bool, true, false, cond, List, length, refl, ap, arith}
+use Rattle.strm_frame.proofs.Prelude.{ℕ, zero, suc, ◌≡◌, ◌≤◌, ◌+◌, Bool, true, false, cond, List, [], ◌∷◌, length, refl, ap, arith}
 use Rattle.strm_frame.proofs.Prelude.{nat_tests, sum_by, sum_by-cons}
-use Rattle.std.proofs.Common.{[], ◌∷◌}
 use Rattle.std.specs.Prelude.{count_by, nat_lt, nat_le, ◌==◌}
 use Rattle.std.proofs.lemmas.List.Sums.{count_by-le-length, sum_by-le-sum_by}
 use Rattle.strm_blocks.specs.Blocks.{Block, Held, StoreValue, free_d, free_m, names_of, references, total, zeros_below}

@@ -12,4 +12,4 @@ returns g c =
     let t = g.B.Blocks.value c.empty-relieved.new.store in
     let e = c.empty-relieved.ensures in
     let hands : Shifts s t (λ _. 0) (λ _. 0) 0 = shifts-same s t e.keeps.hand e.keeps.mblks e.keeps.dblks e.frees in
-    first_of (search rules, search (rules, hands), grind (arith, common_steps), grind (arith, common_steps, hands))
+    first_of (search rules, grind (arith, common_steps))
