@@ -53,6 +53,9 @@ pub struct Pair<B: Blocks + Drop, M: OwnModule = NoModule> {
     base: Base,
     limits: Config,
     fates: Fates,
+    // No store, and no byte of memory. What calls a pair has to know that one's size is below 2^63: of a type that holds a pair over any store that
+    // is known by this array, as it is of all that hold an array of a type which isn't known.
+    none: [B; 0],
 }
 
 /// What a pair's journal holds: the base at which it begins, as an image of version 2, its entries, and their bytes in order.
@@ -114,6 +117,7 @@ impl<B: Blocks + Drop, M: OwnModule> Pair<B, M> {
             base,
             limits,
             fates,
+            none: [],
         })
     }
 

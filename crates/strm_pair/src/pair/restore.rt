@@ -72,6 +72,7 @@ impl<B: Blocks + Drop, M: OwnModule> Pair<B, M> {
             base,
             limits,
             fates,
+            none: [],
         }
     }
 
