@@ -1,4 +1,4 @@
-use Rattle.std.proofs.Common.{◌≡◌, suc, ◌+◌, ◌-◌, [], ◌∷◌, ◌++◌, length, ap, sym, ◌∙◌, arith}
+use Rattle.std.proofs.Common.{◌≡◌, suc, ◌+◌, ◌-◌, ◌/◌, [], ◌∷◌, ◌++◌, length, ap, sym, ◌∙◌, arith}
 use Rattle.std.proofs.lemmas.List.{length-append, map-append}
 use Rattle.std.proofs.lemmas.Simd.{map-map}
 use Rattle.std.specs.Prelude.{map, replicate}
@@ -23,6 +23,12 @@ loop-system-preserved g c =
       c.in_ok-push-2.ensures.items ∙ ap (λ zs. zs ++ c.in-Ok.opener ∷ []) c.loop-system.invariant.1 ∙ ap (λ o. map first systems ++ o ∷ []) c.in-Ok.ensures.3 ∙ sym (ap (λ xs. map first xs) all ∙ map-append first systems (made ∷ [])),
       ap length all ∙ length-append systems (made ∷ []) ∙ ap (λ k. k + 1) c.loop-system.invariant.2,
     )
+
+pub returns-clause-laid : goal.returns-clause-laid
+returns-clause-laid g c =
+    let row : Plan → _ = λ s. map (λ (k : LockId). k.sizes) s.locks in
+    let all : c.loop-system.system ≡ (c.args.pairs + 63) / 64 = omega (arith, c.loop-system-test.false, c.loop-system.auto.system-end) in
+    ap (λ xs. map row xs) c.of.ensures.systems ∙ c.loop-system.invariant.0 ∙ ap (λ n. laid c.args.pairs c.args.sizes n) all
 
 pub returns-clause-own : goal.returns-clause-own
 returns-clause-own g c =

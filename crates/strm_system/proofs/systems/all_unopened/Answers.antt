@@ -1,5 +1,5 @@
 -- One pair more, of these sizes.
-use Rattle.std.proofs.Common.{◌≡◌, ◌+◌, [], ◌∷◌, ◌++◌, length, ap, sym, subst, ◌∙◌}
+use Rattle.std.proofs.Common.{rules, ◌≡◌, ◌+◌, [], ◌∷◌, ◌++◌, length, ap, sym, subst, ◌∙◌}
 use Rattle.std.proofs.lemmas.List.{length-append, map-append, replicate-append-replicate}
 use Rattle.std.proofs.lemmas.List.Elements.{All-append, All-cons, All-nil}
 use Rattle.std.specs.Bool.{if◌then◌else◌}
@@ -18,3 +18,6 @@ loop-made-preserved g c =
     let grown = ap (λ xs. map (λ p. p.pair.limits) xs) items ∙ map-append (λ p. p.pair.limits) all (one ∷ []) ∙ ap (λ zs. zs ++ one.pair.limits ∷ []) c.loop-made.invariant.2
     ∙ ap (λ p. replicate c.loop-made.made sizes ++ p.limits ∷ []) c.in_ok-pair.ensures.1 ∙ replicate-append-replicate c.loop-made.made 1 sizes in
     (ap length items ∙ length-append all (one ∷ []) ∙ ap (λ n. n + 1) c.loop-made.invariant.0, subst (λ xs. All (λ p. p.pair ≡ new_pair sizes) xs) (sym items) made, grown)
+
+pub returns : goal.returns
+returns g c = search rules steps 3000000
