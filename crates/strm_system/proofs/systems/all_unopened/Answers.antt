@@ -1,5 +1,5 @@
 -- One pair more, of these sizes.
-use Rattle.std.proofs.Common.{rules, ◌≡◌, ◌+◌, [], ◌∷◌, ◌++◌, length, ap, sym, subst, ◌∙◌}
+use Rattle.std.proofs.Common.{arith, ◌≡◌, ◌+◌, [], ◌∷◌, ◌++◌, length, ap, sym, subst, ◌∙◌}
 use Rattle.std.proofs.lemmas.List.{length-append, map-append, replicate-append-replicate}
 use Rattle.std.proofs.lemmas.List.Elements.{All-append, All-cons, All-nil}
 use Rattle.std.specs.Bool.{if◌then◌else◌}
@@ -20,4 +20,6 @@ loop-made-preserved g c =
     (ap length items ∙ length-append all (one ∷ []) ∙ ap (λ n. n + 1) c.loop-made.invariant.0, subst (λ xs. All (λ p. p.pair ≡ new_pair sizes) xs) (sym items) made, grown)
 
 pub returns : goal.returns
-returns g c = search rules steps 3000000
+returns g c =
+    let all : c.loop-made.made ≡ c.args.pairs = omega (arith, c.loop-made-test.false, c.loop-made.auto.made-end) in
+    (c.loop-made.invariant.0 ∙ all, (c.loop-made.invariant.1, c.loop-made.invariant.2 ∙ ap (λ n. replicate n c.args.sizes) all))
