@@ -10,7 +10,7 @@ STANDS = {
     "write": {DATA, PROTO, IOCTL},
     "driver": {DATA, PROTO, PCPROTO, IOCTL, IOCACK, IOCNAK, STOP, START},
 }
-LDTERM, PTEM, PCKT = 1, 2, 3
+LDTERM, PTEM, PCKT, OWN = 1, 2, 3, 4
 
 
 class Fault(Exception):
@@ -64,6 +64,8 @@ class Module:
     column: int = 0
     line: bytes = b""
     window: bytes = bytes(8)
+    own: int = 0  # the number of one of a user's own, and what it is set to
+    settings: bytes = b""
     read: Queue = None
     write: Queue = None
 
@@ -149,6 +151,8 @@ def write_module(m, version):
     if m.kind == LDTERM:
         rest = m.termios + bytes(m.flags) + number(m.column, 4) + bytes([len(m.line)]) + m.line
         return bytes([m.kind]) + rest + write_queue(m.read, version) + write_queue(m.write, version)
+    if m.kind == OWN:
+        return bytes([m.kind, m.own]) + number(len(m.settings), 2) + m.settings
     return bytes([m.kind]) + (m.termios + m.window if m.kind == PTEM else b"")
 
 
@@ -248,7 +252,7 @@ def read_queue(r, at):
 
 def read_module(r, above):
     kind = r.number(1)
-    need(kind in (LDTERM, PTEM, PCKT), "module")
+    need(kind in (LDTERM, PTEM, PCKT), "module")  # the programs that are compared have none of a user's own
     need(kind not in [m.kind for m in above], "module twice")
     m = Module(kind)
     if kind != PCKT:

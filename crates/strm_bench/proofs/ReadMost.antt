@@ -13,6 +13,7 @@ use Rattle.strm_types.specs.declared.refusals.Refusal.{Refusal}
 use Rattle.strm_types.specs.declared.signals.StopSignal.{StopSignal}
 use Rattle.strm_types.specs.Cells.{plain, bytes_of}
 use Rattle.strm_types.specs.Journal.{answer_len, reply_in}
+use Rattle.strm_laws.proofs.NoOwn.{none as no_own}
 use Rattle.strm_laws.specs.Pair.{PairState, AddsEntry}
 use Rattle.strm_types.specs.Events.{Reply}
 use Rattle.strm_types.specs.Heads.{Head}
@@ -50,10 +51,10 @@ stopped (Stop other) out signal len is = sym len
 stopped (Signals n) out signal len is = absurd (cc)
 
 pub read-most : (old new : PairState) (caller : Caller) (n : ℕ) (out : List ℕ) (r : Result (Answer ℕ) Refusal)
-    → IfOk r (λ answer. AddsEntry old new (Called caller (Read n) (reply_in answer out)))
+    → IfOk r (λ answer. AddsEntry no_own old new (Called caller (Read n) (reply_in answer out)))
     → IfOk r (λ answer. answer_len answer ≡ length out) → OnTrue (is_ok r) (length out ≤ n)
 read-most old new caller n out (Ok answer) adds filled =
-    of-called plain caller (Read n) old.state (λ outcome. outcome.answer ≡ reply_in answer out → length out ≤ n)
+    of-called no_own plain caller (Read n) old.state (λ outcome. outcome.answer ≡ reply_in answer out → length out ≤ n)
     (λ signal is. omega (arith, stopped answer out signal filled is))
     (λ is. omega (
       arith,

@@ -8,7 +8,7 @@ use crate::plans::{Act, Round};
 use std::alloc::Global;
 use strm_blocks::{Blocks, Reserve};
 use strm_pair::Pair;
-use strm_types::{Answer, Band, Caller, Config, Content, Event, Prio, TIOCGWINSZ, Wanted};
+use strm_types::{Answer, Band, Caller, Config, Content, Event, Prio, Refusal, TIOCGWINSZ, Wanted};
 
 // How often a round writes, and reads behind each write, at most.
 const OFTEN: u32 = 4096;
@@ -187,7 +187,8 @@ fn restores<B: Reserve>(alloc: Global, pair: &Pair<B>, round: &Round) -> Option<
     let Ok(store) = B::reserve(alloc, sizes.mblks, sizes.dblks) else {
         return None;
     };
-    if Pair::restore(alloc, sizes, text.as_slice(), store).is_err() {
+    let made: Result<Pair<B>, (Refusal, B)> = Pair::restore(alloc, sizes, text.as_slice(), store);
+    if made.is_err() {
         return None;
     }
     counted(round, text.len())

@@ -19,6 +19,7 @@ use Rattle.strm_types.specs.Journal.{answer_len, content_max, reply_in}
 use Rattle.strm_types.specs.Message.{part}
 use Rattle.strm_types.specs.Reads.{head_draw}
 use Rattle.strm_types.proofs.ReadKeeps.{head_draw-most}
+use Rattle.strm_laws.proofs.NoOwn.{none as no_own}
 use Rattle.strm_laws.specs.Calls.{called, get_at, name_told, performed, read_at}
 use Rattle.strm_laws.specs.Pair.{PairState, AddsEntry}
 use Rattle.strm_laws.specs.Pushes.{top_on}
@@ -72,16 +73,16 @@ name-fits None = omega arith
 name-fits (Some name) = omega arith
 
 called-fits : (caller : Caller) (asked : Request) (s : State ℕ)
-    → length (content_of (performed plain caller asked s).answer) ≤ content_max asked
-    → length (content_of (called plain caller asked s).answer) ≤ content_max asked
+    → length (content_of (performed no_own plain caller asked s).answer) ≤ content_max asked
+    → length (content_of (called no_own plain caller asked s).answer) ≤ content_max asked
 called-fits caller asked s fits =
-    of-called plain caller asked s (λ outcome. length (content_of outcome.answer) ≤ content_max asked) (λ signal. omega arith) fits
+    of-called no_own plain caller asked s (λ outcome. length (content_of outcome.answer) ≤ content_max asked) (λ signal. omega arith) fits
 
 few-fits : (caller : Caller) (asked : Request) (s : State ℕ)
-    → KeepsFew asked s → length (content_of (called plain caller asked s).answer) ≤ content_max asked
-few-fits caller (Ioctl command body) s few = content-fits plain caller (Ioctl command body) s few
-few-fits caller (IoctlResult number) s few = content-fits plain caller (IoctlResult number) s few
-few-fits caller Signals s few = content-fits plain caller Signals s few
+    → KeepsFew asked s → length (content_of (called no_own plain caller asked s).answer) ≤ content_max asked
+few-fits caller (Ioctl command body) s few = content-fits plain no_own caller (Ioctl command body) s few
+few-fits caller (IoctlResult number) s few = content-fits plain no_own caller (IoctlResult number) s few
+few-fits caller Signals s few = content-fits plain no_own caller Signals s few
 few-fits caller Look s few = called-fits caller Look s (name-fits (top_on caller.side s))
 few-fits caller (Read n) s few = called-fits caller (Read n) s (read-fits caller.side n s)
 few-fits caller (Get wanted cmax dmax) s few = called-fits caller (Get wanted cmax dmax) s (get-fits caller.side wanted cmax dmax s)
@@ -95,7 +96,7 @@ content-length caller answer content filled =
 
 -- and no more than the call asks room for
 content-few : (old new : PairState) (caller : Caller) (asked : Request) (answer : Answer ℕ) (content : List ℕ)
-    → KeepsFew asked old.state → AddsEntry old new (Called caller asked (reply_in answer content))
+    → KeepsFew asked old.state → AddsEntry no_own old new (Called caller asked (reply_in answer content))
     → answer_len answer ≡ length content → length content ≤ content_max asked
 content-few old new caller asked answer content few adds filled =
     subst (λ n. n ≤ content_max asked)

@@ -5,6 +5,7 @@ use Rattle.strm_types.specs.declared.names.Side.{Side}
 use Rattle.strm_types.specs.declared.refusals.Refusal.{Refusal}
 use Rattle.strm_types.specs.declared.refusals.Refusal.TheVariants.{Einval}
 use Rattle.strm_types.specs.Numbers.{number_of}
+use Rattle.strm_laws.proofs.NoOwn.{none as no_own}
 use Rattle.strm_laws.specs.Pair.{PairState}
 use Rattle.strm_laws.specs.Refusals.{enough}
 use Rattle.strm_pair.specs.Readiness.{readiness}
@@ -46,7 +47,7 @@ TurnsFirst pair was told a r b =
 
 -- What a side of the pair is ready for, as strm_ready tells it of a pair without a reserve, and which queue is enabled first.
 abbrev pub IsReady : LockId → Side → Prospect → Type 0
-IsReady lock side told = (v : Visited) × (p : PairState) × IsLook lock v p × (told.bits ≡ bits_of (readiness side p.state) (enough 36 p.free))
+IsReady lock side told = (v : Visited) × (p : PairState) × IsLook lock v p × (told.bits ≡ bits_of (readiness no_own side p.state) (enough 36 p.free))
     × (queue_at told.queue ≡ slice_get p.state.enabled 0) × (told.queue ≤ 12)
 
 abbrev pub LooksOf : Option Side → ℕ → (was told : Prospect) → Seated → Outcome → Seated → Type 0

@@ -1,6 +1,7 @@
 //! Visits to any pair of the host: turns, looks and audits.
 
 ghost use Rattle.std.specs.Prelude.{◌≡◌, ◌<◌, ◌≤◌, None, IfNone, IfSome, length, slice_get};
+ghost use Rattle.strm_laws.proofs.NoOwn.{none as no_own};
 ghost use Rattle.strm_laws.specs.Refusals.{enough};
 ghost use Rattle.strm_locks.specs.Systems.{Plan};
 ghost use Rattle.strm_pair.specs.Readiness.{readiness};
@@ -54,7 +55,7 @@ fn visit(made: Option<Made>) -> Visit
 
 // What a side of a pair is ready for.
 fn prospect(object: &Object, side: Side) -> Prospect
-    ensures bits { result.bits ≡ bits_of (readiness side object.now.pair.state) (enough 36 object.now.pair.free) }
+    ensures bits { result.bits ≡ bits_of (readiness no_own side object.now.pair.state) (enough 36 object.now.pair.free) }
     ensures queue { queue_at result.queue ≡ slice_get object.now.pair.state.enabled 0 }
     ensures few { result.queue ≤ 12 }
 {

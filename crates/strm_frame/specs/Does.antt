@@ -49,8 +49,8 @@ module _ {X P : Type 0} (plain : StoreValue → X → P) (IsHeld : StoreValue �
 
 module _ {X P : Type 0} (plain : StoreValue → X → P) (IsHeld : StoreValue → X → Type 0) (owns keeps : X → ℕ → ℕ) where
   -- A put procedure did what a definition says: the message has gone, and what is sent on has come in hand. Only the module's own lists changed. No more
-  -- blocks of each kind were taken than `most`. An M_DATA or M_PROTO frees none.
-  pub record Puts (old new : StoreValue) (x y : X) (message most : ℕ) (acts : Acts) (t t' : Fates) (is : Acted ℕ P) : Type 0 where
+  -- blocks of each kind were taken than `most`. An M_DATA or M_PROTO frees none where the module holds what it is given.
+  pub record Puts (old new : StoreValue) (x y : X) (holds : Bool) (message most : ℕ) (acts : Acts) (t t' : Fates) (is : Acted ℕ P) : Type 0 where
     pub state : plain new y ≡ is.state
     pub notes : acts.notes.items ≡ is.notes
     pub sent : parcels_in new (sent_of acts.sent) ≡ is.sent
@@ -60,7 +60,7 @@ module _ {X P : Type 0} (plain : StoreValue → X → P) (IsHeld : StoreValue �
     pub chains : AreChains new (sent_of acts.sent)
     pub hands : Hands old new message (keeps x) (keeps y) (λ i. times_sent i (sent_of acts.sent))
     pub spends : Spends old new most 0
-    pub blocks : is_held (message_in old message).kind ≡ true → FreesNone old new
+    pub blocks : holds ≡ true → is_held (message_in old message).kind ≡ true → FreesNone old new
     pub pool : SamePool old new
 
   -- A call of a service procedure did what a definition says: what is sent has come in hand, beside what the module keeps. Only the module's own lists

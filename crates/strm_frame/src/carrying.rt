@@ -20,7 +20,7 @@ use strm_types::{Fates, Spot};
 ///
 /// The cost is that of the puts. No byte is copied but by a put, and no memory is taken.
 #[cycle(delivery)]
-pub fn deliver<B: Blocks, S: Stations<B>>(
+pub fn deliver<B: Blocks, W, S: Stations<B, W>>(
     store: &mut B,
     stations: &mut S,
     hops: usize,
@@ -45,13 +45,13 @@ pub fn deliver<B: Blocks, S: Stations<B>>(
         return;
     }
     let left = hops - 1;
-    deliver_all(store, stations, left, sent, told);
+    deliver_all::<B, W, S>(store, stations, left, sent, told);
 }
 
 /// Delivers messages one after the other, each with all that it gives rise to before the next. Each is handed on at most `hops`
 /// times. One that is alone and stays frees no block.
 #[cycle(delivery)]
-pub fn deliver_all<B: Blocks, S: Stations<B>>(
+pub fn deliver_all<B: Blocks, W, S: Stations<B, W>>(
     store: &mut B,
     stations: &mut S,
     hops: usize,
@@ -75,6 +75,6 @@ pub fn deliver_all<B: Blocks, S: Stations<B>>(
     }
     while let Some(next) = left.take_first() {
         store.audit();
-        deliver(store, stations, hops, next.to, next.message, told);
+        deliver::<B, W, S>(store, stations, hops, next.to, next.message, told);
     }
 }

@@ -11,6 +11,7 @@ ghost use Rattle.strm_types.specs.declared.keys.TheConstants.{LINE_MAX};
 ghost use Rattle.strm_types.specs.declared.limits.TheConstants.{MODULES};
 ghost use Rattle.strm_types.specs.Budgets.{Table, Within, emits_at, own_at};
 ghost use Rattle.strm_types.specs.Deliver.{Acted};
+ghost use Rattle.strm_types.specs.Owns.{Own};
 ghost use Rattle.strm_types.specs.Shapes.{shape_of};
 ghost use Rattle.strm_types.specs.Service.{Serving};
 ghost use Rattle.strm_types.specs.Standings.{Standing, messages_at, of_part};
@@ -77,8 +78,8 @@ pub trait Module: Drop {
     /// How often it keeps a message of a name in hand.
     ghost keeps: { Self → ℕ → ℕ };
 
-    /// What a message does that is put here.
-    ghost puts: { Spot → Message ℕ → Standing Plain ℕ → Acted ℕ (Standing Plain ℕ) };
+    /// What a message does that is put here, by what is done at modules of a user's own, where it is one of these.
+    ghost puts: { (Spot → Message ℕ → Own → Acted ℕ Own) → Spot → Message ℕ → Standing Plain ℕ → Acted ℕ (Standing Plain ℕ) };
 
     /// Its unfinished line of input, and the same module without it.
     ghost line_of: { Plain → List ℕ };
@@ -104,6 +105,9 @@ pub trait Module: Drop {
     /// bytes, and what it sends on.
     ghost does: { Plain → Table };
 
+    /// Whether an M_DATA or M_PROTO that is put here waits, or goes on, in all its blocks.
+    ghost holds: { Plain → Bool };
+
     /// How many blocks of each kind a call of its service procedure takes at most, the first one of a turn or one more. That
     /// depends on what is under way in the module.
     ghost turn_cost: { Spot → Bool → Plain → ℕ };
@@ -111,26 +115,6 @@ pub trait Module: Drop {
     /// Its name.
     fn name(&self) -> ModuleName
         ensures { (s : StoreValue) → result ≡ name_of (plain s self.now) };
-
-    /// Puts a message in hand here, on its way up or down, and says what it does: `put(9E)`. An M_DATA or M_PROTO frees no block.
-    fn put<B: Blocks>(
-        &mut self,
-        queues: &mut Option<QueuePair>,
-        store: &mut B,
-        here: Spot,
-        message: InHand,
-        told: &mut Fates,
-    ) -> Acts
-        requires held { Fits IsHeld (B.value store.old) (standing self.old queues.old) }
-        requires can_put { CanPut (B.value store.old) (token message) (keeps self.old) }
-        requires chain { IsChain (in_hand (B.value store.old) (token message)) }
-        requires room { let s = B.value store.old in
-            HasRoom s (own_at (does (plain s self.old)) here (message_in s (token message))) }
-        requires inside { 0 < here.at }
-        requires small { here.at ≤ MODULES }
-        ensures { let s = B.value store.old in let m = message_in s (token message) in let x = standing self.old queues.old in
-            Puts (standing_in plain) (Fits IsHeld) owns (keeps_of keeps) s (B.value store.new) x (standing self.new queues.new) (token message)
-            (own_at (does (plain s self.old)) here m) result told.old told.new (puts here m (standing_in plain s x)) };
 
     /// What the first message of its queue of a way asks before it goes on. A message has no more bytes than all blocks of a
     /// store.
@@ -174,10 +158,6 @@ pub trait Module: Drop {
         ensures held { (s : StoreValue) (queues : Option QueuePair) → IsHeld s self.old queues → IsHeld s self.new queues }
         ensures keeps { (i : ℕ) → keeps self.new i ≡ keeps self.old i };
 
-    /// What a put sends on is within its table.
-    ghost within: { (here : Spot) (m : Message ℕ) (x : Standing Plain ℕ) →
-        Within (puts here m x).sent (emits_at here (does x.part here.way (shape_of m))) };
-
     /// It stands for the same, and fits, wherever its queues' lists are the same and what it keeps in hand is, whatever their flags.
     ghost frame: { (s t : StoreValue) (x : Self) (queues others : Option QueuePair) → lists_of others ≡ lists_of queues →
         SameOwn s t (queues_own queues) (keeps x) → IsHeld s x queues → (plain t x ≡ plain s x) × IsHeld t x others };
@@ -197,11 +177,43 @@ pub trait Module: Drop {
     ghost turn_goes: { (here : Spot) (again : Bool) (stop : Option ℕ) (x : Standing Plain ℕ) → MayServe here.way again x.part →
         let t = serves here again stop x in MayServe here.way t.again t.acted.state.part };
 
-    /// It may be served as before behind a put, as where a message comes back to it between two calls.
-    ghost put_stays: { (here : Spot) (m : Message ℕ) (x : Standing Plain ℕ) (way : Way) (again : Bool) → MayServe way again x.part →
-        MayServe way again (puts here m x).state.part };
-
     /// So it may without its unfinished line.
     ghost line_stays: { (p : Plain) (way : Way) (again : Bool) → MayServe way again p →
         MayServe way again (without_line p) };
+}
+
+/// The put procedure of a module: `put(9E)`. What is done at modules of a user's own `W` says; that of most kinds is for `()`.
+pub trait PutProcedure<W>: Module {
+    /// What is done at modules of a user's own.
+    ghost by: { Spot → Message ℕ → Own → Acted ℕ Own };
+
+    /// Puts a message in hand here, on its way up or down, and says what it does: `put(9E)`. Where it holds what it is given an
+    /// M_DATA or M_PROTO frees no block.
+    fn put<B: Blocks>(
+        &mut self,
+        queues: &mut Option<QueuePair>,
+        store: &mut B,
+        here: Spot,
+        message: InHand,
+        told: &mut Fates,
+    ) -> Acts
+        requires held { Fits Self.IsHeld (B.value store.old) (standing self.old queues.old) }
+        requires can_put { CanPut (B.value store.old) (token message) (Self.keeps self.old) }
+        requires chain { IsChain (in_hand (B.value store.old) (token message)) }
+        requires room { let s = B.value store.old in
+            HasRoom s (own_at (Self.does (Self.plain s self.old)) here (message_in s (token message))) }
+        requires inside { 0 < here.at }
+        requires small { here.at ≤ MODULES }
+        ensures { let s = B.value store.old in let m = message_in s (token message) in let x = standing self.old queues.old in
+            let p = Self.plain s self.old in
+            Puts (standing_in Self.plain) (Fits Self.IsHeld) owns (keeps_of Self.keeps) s (B.value store.new) x (standing self.new queues.new)
+            (Self.holds p) (token message) (own_at (Self.does p) here m) result told.old told.new (Self.puts Self.by here m (standing_in Self.plain s x)) };
+
+    /// What a put sends on is within its table.
+    ghost within: { (here : Spot) (m : Message ℕ) (x : Standing Self.Plain ℕ) →
+        Within (Self.puts Self.by here m x).sent (emits_at here (Self.does x.part here.way (shape_of m))) };
+
+    /// It may be served as before behind a put, as where a message comes back to it between two calls.
+    ghost put_stays: { (here : Spot) (m : Message ℕ) (x : Standing Self.Plain ℕ) (way : Way) (again : Bool) →
+        Self.MayServe way again x.part → Self.MayServe way again (Self.puts Self.by here m x).state.part };
 }

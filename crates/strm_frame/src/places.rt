@@ -18,7 +18,7 @@ use strm_blocks::{Blocks, InHand};
 use strm_types::{Fates, Spot};
 
 /// Stations at which messages are put: heads, modules and drivers with their queues, on a store of blocks.
-pub trait Stations<B: Blocks> {
+pub trait Stations<B: Blocks, W> {
     /// The plain state of the stations.
     ghost Plain: { Type 0 };
 

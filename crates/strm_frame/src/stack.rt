@@ -15,7 +15,7 @@ ghost use Rattle.strm_types.specs.ModuleQueues.{at_place};
 ghost use Rattle.strm_frame.specs.Outboxes.{message_in};
 ghost use Rattle.strm_frame.specs.Hands.{CanPut, HasRoom};
 
-use crate::modules::{Acts, Module};
+use crate::modules::{Acts, Module, PutProcedure};
 use crate::standing::Standing;
 use arrayvec::ArrayVec;
 use strm_blocks::{Blocks, InHand};
@@ -50,7 +50,7 @@ fn line_lens<M: Module>(modules: &[Standing<M>]) -> usize
 }
 
 // Puts a message at one of several modules, counted from 0.
-fn put_among<B: Blocks, M: Module>(
+fn put_among<W, B: Blocks, M: PutProcedure<W>>(
     store: &mut B,
     modules: &mut [Standing<M>],
     at: usize,
@@ -70,11 +70,12 @@ fn put_among<B: Blocks, M: Module>(
     ensures length { length modules.new ≡ length modules.old }
     ensures does { let s = B.value store.old in let m = message_in s (token message) in let ps = all_in (standing_in M.plain) s modules.old in
         Puts (all_in (standing_in M.plain)) (AreHeld (Fits M.IsHeld) owns) (all_of owns) (all_of (keeps_of M.keeps)) s (B.value store.new)
-        modules.old modules.new (token message) (slice_index_or (map (of_part (λ p. own_at (M.does p) to m)) ps) at 0)
-        result told.old told.new (put_among M.puts at to m ps) }
+        modules.old modules.new (slice_index_or (map (of_part M.holds) ps) at true) (token message)
+        (slice_index_or (map (of_part (λ p. own_at (M.does p) to m)) ps) at 0)
+        result told.old told.new (put_among (M.puts M.by) at to m ps) }
 {
     store.audit();
-    modules[at].put(store, to, message, told)
+    modules[at].put::<W, B>(store, to, message, told)
 }
 
 impl<M: Module + Default> Stack<M> {
@@ -136,13 +137,15 @@ impl<M: Module + Default> Stack<M> {
     }
 
     /// Puts a message at a module, whose place counts from 1 for the one on top. The cost is that of its put.
-    pub fn put<B: Blocks>(
+    pub fn put<W, B: Blocks>(
         &mut self,
         store: &mut B,
         to: Spot,
         message: InHand,
         told: &mut Fates,
     ) -> Acts
+    where
+        M: PutProcedure<W>,
         requires inside { 0 < to.at }
         requires within { to.at ≤ length self.old.modules.items }
         requires held { AreHeld (Fits M.IsHeld) owns (B.value store.old) self.old.modules.items }
@@ -155,10 +158,11 @@ impl<M: Module + Default> Stack<M> {
         ensures does { let s = B.value store.old in let m = message_in s (token message) in
             let xs = self.old.modules.items in let ps = all_in (standing_in M.plain) s xs in
             Puts (all_in (standing_in M.plain)) (AreHeld (Fits M.IsHeld) owns) (all_of owns) (all_of (keeps_of M.keeps)) s (B.value store.new)
-            xs self.new.modules.items (token message) (at_place (of_part (λ p. own_at (M.does p) to m)) 0 to.at ps)
-            result told.old told.new (put_among M.puts (to.at - 1) to m ps) }
+            xs self.new.modules.items (at_place (of_part M.holds) true to.at ps) (token message)
+            (at_place (of_part (λ p. own_at (M.does p) to m)) 0 to.at ps)
+            result told.old told.new (put_among (M.puts M.by) (to.at - 1) to m ps) }
     {
-        put_among(
+        put_among::<W, B, M>(
             store,
             self.modules.as_mut_slice(),
             to.at as usize - 1,

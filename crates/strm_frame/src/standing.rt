@@ -20,7 +20,7 @@ ghost use Rattle.strm_frame.specs.Outboxes.{message_in};
 ghost use Rattle.strm_frame.specs.Serves.{stop_of};
 ghost use Rattle.strm_frame.specs.Standings.{Fits, IsPairReady, keeps_of, owns, standing_in};
 
-use crate::modules::{Acts, LetGo, Module};
+use crate::modules::{Acts, LetGo, Module, PutProcedure};
 use crate::queue_pair::{QueuePair, direction_at};
 use crate::queues::Emptied;
 use crate::service::{Served, TurnEnd};
@@ -171,13 +171,15 @@ impl<M: Module> Standing<M> {
     }
 
     /// Puts a message in hand at the module, on its way up or down: `put(9E)`.
-    pub fn put<B: Blocks>(
+    pub fn put<W, B: Blocks>(
         &mut self,
         store: &mut B,
         here: Spot,
         message: InHand,
         told: &mut Fates,
     ) -> Acts
+    where
+        M: PutProcedure<W>,
         requires held { Fits M.IsHeld (B.value store.old) self.old }
         requires can_put { CanPut (B.value store.old) (token message) (keeps_of M.keeps self.old) }
         requires chain { IsChain (in_hand (B.value store.old) (token message)) }
@@ -186,8 +188,8 @@ impl<M: Module> Standing<M> {
         requires inside { 0 < here.at }
         requires small { here.at ≤ MODULES }
         ensures { let s = B.value store.old in let m = message_in s (token message) in let x = standing_in M.plain s self.old in
-            Puts (standing_in M.plain) (Fits M.IsHeld) owns (keeps_of M.keeps) s (B.value store.new) self.old self.new (token message)
-            (own_at (M.does x.part) here m) result told.old told.new (M.puts here m x) }
+            Puts (standing_in M.plain) (Fits M.IsHeld) owns (keeps_of M.keeps) s (B.value store.new) self.old self.new (M.holds x.part)
+            (token message) (own_at (M.does x.part) here m) result told.old told.new (M.puts M.by here m x) }
     {
         self.module
             .put(&mut self.queues, store, here, message, told)

@@ -9,6 +9,7 @@ use Rattle.strm_types.specs.Events.{Request}
 use Rattle.strm_types.specs.Journal.{content_max}
 use Rattle.strm_types.specs.Numbers.{number_of}
 use Rattle.strm_types.specs.Refused.{or_else, unless}
+use Rattle.strm_laws.proofs.NoOwn.{none as no_own}
 use Rattle.strm_laws.specs.Pair.{call_refused, restarted}
 use Rattle.strm_laws.proofs.Replay.{or_else-none, unless-none}
 use Rattle.strm_handle.specs.Few.{FewBytes}
@@ -58,19 +59,19 @@ before-where false caller asked room k = refl
 pub called-early : (caller : Caller) (asked : Request) (room : ℕ) (stays : Type 0) (done : KeptPair → KeptPair → Type 0) (k : KeptPair) (r : Refusal) (n : ℕ)
     → refused_before caller asked room k ≡ Some r → n ≡ number_of r → stays → CallsAt (refused_within caller asked room) stays done k k n
 called-early caller asked room stays done k r n is told stay =
-    refused-early (refused_within caller asked room) stays done k r n (ap (λ o. or_else o (call_refused k.pair caller asked)) is)
+    refused-early (refused_within caller asked room) stays done k r n (ap (λ o. or_else o (call_refused no_own k.pair caller asked)) is)
     (ap is_full (sym is) ∙ before-other caller asked room k) told stay
 
 pub called-at : (caller : Caller) (asked : Request) (room : ℕ) (stays : Type 0) (done : KeptPair → KeptPair → Type 0) (old new : KeptPair) (n : ℕ)
     → refused_before caller asked room old ≡ None → IsKept old → FewBytes asked
-    → (let at : KeptPair = record old { pair = begun old.anew (call_refused old.pair caller asked) old.pair } in Decided (call_refused at.pair caller asked) ((new ≡ at) × stays) (done at new) n)
+    → (let at : KeptPair = record old { pair = begun old.anew (call_refused no_own old.pair caller asked) old.pair } in Decided (call_refused no_own at.pair caller asked) ((new ≡ at) × stays) (done at new) n)
     → CallsAt (refused_within caller asked room) stays done old new n
 called-at caller asked room stays done old new n free kept few told =
-    let at : KeptPair = record old { pair = begun old.anew (call_refused old.pair caller asked) old.pair } in
-    let behind : refused_before caller asked room at ≡ None = before-where (is_full (call_refused old.pair caller asked) && old.anew) caller asked room old ∙ free in
-    by-pair (refused_within caller asked room) (λ p. call_refused p caller asked) stays done old new n
-    (ap (λ o. or_else o (call_refused old.pair caller asked)) free)
-    (ap (λ o. or_else o (call_refused at.pair caller asked)) behind)
+    let at : KeptPair = record old { pair = begun old.anew (call_refused no_own old.pair caller asked) old.pair } in
+    let behind : refused_before caller asked room at ≡ None = before-where (is_full (call_refused no_own old.pair caller asked) && old.anew) caller asked room old ∙ free in
+    by-pair (refused_within caller asked room) (λ p. call_refused no_own p caller asked) stays done old new n
+    (ap (λ o. or_else o (call_refused no_own old.pair caller asked)) free)
+    (ap (λ o. or_else o (call_refused no_own at.pair caller asked)) behind)
     (λ anew. call-other old.pair caller asked (kept.anew anew) few)
     told
 

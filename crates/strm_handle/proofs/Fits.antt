@@ -9,6 +9,7 @@ use Rattle.strm_types.specs.declared.entries.Entry.TheVariants.{Called}
 use Rattle.strm_types.specs.declared.events.Caller.{Caller}
 use Rattle.strm_types.specs.declared.limits.Config.{Config}
 use Rattle.strm_types.specs.declared.refusals.Refusal.{Refusal}
+use Rattle.strm_laws.proofs.NoOwn.{none as no_own}
 use Rattle.strm_laws.specs.State.{State}
 use Rattle.strm_types.specs.declared.events.Event.TheVariants as shapes
 use Rattle.strm_types.specs.Events.{Request, content_of}
@@ -31,18 +32,18 @@ content-length caller answer content filled =
 
 -- and no more than the call asks room for
 pub content-small : (old new : PairState) (caller : Caller) (asked : Request) (answer : Answer ℕ) (content : List ℕ)
-    → AreWithin old.state → AddsEntry old new (Called caller asked (reply_in answer content)) → answer_len answer ≡ length content → length content ≤ content_max asked
+    → AreWithin old.state → AddsEntry no_own old new (Called caller asked (reply_in answer content)) → answer_len answer ≡ length content → length content ≤ content_max asked
 content-small old new caller asked answer content within adds filled =
     subst (λ n. n ≤ content_max asked)
     (ap (λ a. length (content_of a)) adds.step.answered ∙ content-length caller answer content filled)
-    (content-fits plain caller asked old.state within)
+    (content-fits plain no_own caller asked old.state within)
 
 -- each step leaves heads as they have to be
-pub stays-within : (old new : PairState) (entry : PlainEntry) → AreWithin old.state → AddsEntry old new entry → AreWithin new.state
-stays-within old new entry within adds = step-within plain old.state new.state entry within adds.step
+pub stays-within : (old new : PairState) (entry : PlainEntry) → AreWithin old.state → AddsEntry no_own old new entry → AreWithin new.state
+stays-within old new entry within adds = step-within no_own plain old.state new.state entry within adds.step
 
 -- and a pair that is kept stays so
-pub stays-kept : (old new : KeptPair) (entry : PlainEntry) → IsKept old → SameChoices old new → AddsEntry old.pair new.pair entry → IsKept new
+pub stays-kept : (old new : KeptPair) (entry : PlainEntry) → IsKept old → SameChoices old new → AddsEntry no_own old.pair new.pair entry → IsKept new
 stays-kept old new entry kept choices adds = record {
   within = stays-within old.pair new.pair entry kept.within adds;
   anew = λ is. subst (λ (l : Config). TakesAny l) (sym adds.limits) (kept.anew (sym choices.anew ∙ is));
@@ -67,13 +68,13 @@ told-over reply answer content rest bytes replies filled =
 -- a call's answer, with its bytes at the front of the buffer
 pub answered : (caller : Caller) (asked : Request) (reply : Reply) (answer : Answer ℕ) (content before out : List ℕ) (old new : KeptPair)
     → reply.bytes ≡ answer_len answer → Replies reply answer → answer_len answer ≡ length content → length content ≤ length before → out ≡ content ++ drop (length content) before
-    → AddsEntry old.pair new.pair (Called caller asked (reply_in answer content)) → SameChoices old new → Answers caller asked reply before out old new
+    → AddsEntry no_own old.pair new.pair (Called caller asked (reply_in answer content)) → SameChoices old new → Answers caller asked reply before out old new
 answered caller asked reply answer content before out old new bytes replies filled few is adds choices =
     let rest : List ℕ = drop (length content) before in
     let told : answer_in reply out ≡ Some (reply_in answer content) = ap (λ b. answer_in reply b) is ∙ told-over reply answer content rest bytes replies filled in
     record {
-      adds = subst (λ o. IsSomeAnd o (λ a. AddsEntry old.pair new.pair (Called caller asked a) × (reply.bytes ≡ length (content_of a)))) (sym told)
-          (adds, bytes ∙ filled ∙ sym (content-length caller answer content filled));
+      adds = subst (λ o. IsSomeAnd o (λ a. AddsEntry no_own old.pair new.pair (Called caller asked a) × (reply.bytes ≡ length (content_of a))))
+          (sym told) (adds, bytes ∙ filled ∙ sym (content-length caller answer content filled));
       choices = choices;
       fits = omega (arith, bytes, filled, few);
       others = ap (λ b. drop reply.bytes b) is ∙ ap (λ n. drop n (content ++ rest)) (bytes ∙ filled) ∙ drop-append_seam content rest ∙ ap (λ n. drop n before) (sym (bytes ∙ filled));

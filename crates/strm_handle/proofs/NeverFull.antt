@@ -31,6 +31,7 @@ use Rattle.strm_types.specs.PutMsg.{is_no_prio, is_too_long, put_refusal}
 use Rattle.strm_types.specs.Reads.{finds_none, read_refusal, starts_refused}
 use Rattle.strm_types.specs.Refused.{or_else, turn_blocks, unless}
 use Rattle.strm_types.specs.Slots.{result_refusal}
+use Rattle.strm_laws.proofs.NoOwn.{none as no_own}
 use Rattle.strm_laws.specs.Pair.{PairState, call_refused, queue_refused, refused_of, restarted}
 use Rattle.strm_laws.specs.Refusals.{at_end, blocks_asked, enough, has_room, hold, in_range, is_numbered, is_reached, refused_at_once, refused_by_state, unfit, unmet}
 use Rattle.strm_laws.specs.State.{State, stream}
@@ -89,7 +90,7 @@ read-other : (mode : ControlMode) (end : Bool) (n : ℕ) (q : List (Message ℕ)
 read-other mode end n q =
     either-other (n == 0) _ _ refl (either-other (finds_none mode q) _ _ (either-other end _ _ refl refl) (either-other (starts_refused mode q) _ _ refl refl))
 
-unfit-other : (s : State ℕ) (caller : Caller) (asked : Request) → is_full (unfit s caller asked) ≡ false
+unfit-other : (s : State ℕ) (caller : Caller) (asked : Request) → is_full (unfit no_own s caller asked) ≡ false
 unfit-other s caller OpenMaster = unless-other _ Einval refl
 unfit-other s caller OpenSlave =
     or-other (unless (not (is_open (stream Slave s).opened)) Einval) (unless (not s.locked) Eagain) (unless-other (not (is_open (stream Slave s).opened)) Einval refl)
@@ -110,10 +111,10 @@ unfit-other s caller (Mode mode) = refl
 unfit-other s caller Nread = refl
 unfit-other s caller Signals = refl
 
-state-other : (s : State ℕ) (caller : Caller) (asked : Request) → is_full (refused_by_state s caller asked) ≡ false
+state-other : (s : State ℕ) (caller : Caller) (asked : Request) → is_full (refused_by_state no_own s caller asked) ≡ false
 state-other s caller asked =
     let h = (stream caller.side s).head in
-    verdict-other (hold s caller asked) (unfit s caller asked) (held-eio (needs asked).access h.tostop (foreground h.hung_up h.group) caller) (unfit-other s caller asked)
+    verdict-other (hold s caller asked) (unfit no_own s caller asked) (held-eio (needs asked).access h.tostop (foreground h.hung_up h.group) caller) (unfit-other s caller asked)
 
 put-other : (prio : Prio) (control body : Option (List ℕ)) → is_full (put_refusal prio control body) ≡ false
 put-other prio control body = either-other (is_no_prio prio control) _ _ refl (either-other (is_too_long control body) _ _ refl refl)
@@ -197,14 +198,14 @@ room-for limits n takes le =
     both-are (nat_lt 0 limits.journal_events) (nat_le (0 + n) limits.journal_bytes) first second
 
 -- a call at a pair whose journal is empty
-pub call-other : (p : PairState) (caller : Caller) (asked : Request) → TakesAny p.limits → FewBytes asked → is_full (call_refused (restarted p) caller asked) ≡ false
+pub call-other : (p : PairState) (caller : Caller) (asked : Request) → TakesAny p.limits → FewBytes asked → is_full (call_refused no_own (restarted p) caller asked) ≡ false
 call-other p caller asked takes brings =
     let n = needs asked in
     or-behind (refused_at_once p.state caller asked) _ (unmet-other p.state caller.side n (wrong-other asked)) (λ none.
     let room : has_room [] p.limits (n.brings + n.gives) ≡ true = room-for p.limits _ takes (few asked brings (met p.state caller.side n none).right) in
     let free = enough (blocks_asked asked) p.free in
-    or-other (unless (has_room [] p.limits (n.brings + n.gives)) JournalFull) (or_else (unless free Enosr) (refused_by_state p.state caller asked)) (ap (λ b. is_full (unless b JournalFull)) room)
-    (or-other (unless free Enosr) (refused_by_state p.state caller asked) (unless-other free Enosr refl) (state-other p.state caller asked)))
+    or-other (unless (has_room [] p.limits (n.brings + n.gives)) JournalFull) (or_else (unless free Enosr) (refused_by_state no_own p.state caller asked)) (ap (λ b. is_full (unless b JournalFull)) room)
+    (or-other (unless free Enosr) (refused_by_state no_own p.state caller asked) (unless-other free Enosr refl) (state-other p.state caller asked)))
 
 -- and a turn
 pub turn-other : (p : PairState) (name : QueueName) → TakesAny p.limits → is_full (queue_refused (restarted p) name) ≡ false

@@ -4,17 +4,18 @@ use Rattle.std.specs.Prelude.{None, Option}
 use Rattle.strm_types.specs.declared.refusals.Refusal.{Refusal}
 use Rattle.strm_types.specs.declared.refusals.Refusal.TheVariants as refusals
 use Rattle.strm_types.specs.Numbers.{number_of}
+use Rattle.strm_laws.proofs.NoOwn.{none as no_own}
 use Rattle.strm_laws.specs.Refusals.{enough}
 use Rattle.strm_image.specs.Image.{Imaged}
-use Rattle.strm_pair.specs.Restored.{IsImageOf, IsNoImage, image_blocks}
+use Rattle.strm_pair.specs.Restored.{IsImageFor, IsNoImage, image_blocks}
 use Rattle.strm_handle.specs.declared.choices.Choices.{Choices}
 use Rattle.strm_handle.specs.Kept.{KeptPair, are_fit}
 use Rattle.strm_handle.specs.Restored.{Restores, RestoresOf, restores_where}
 
 -- what is known of a refusal
 pub record IsRefused (c : Choices) (text : List ℕ) (why : Refusal) : Type 0 where
-  pub einval : why ≡ refusals.Einval → IsNoImage text
-  pub enosr : why ≡ refusals.Enosr → (x : Imaged) × (IsImageOf text x × (enough (image_blocks x) (record { mblks = c.blocks; dblks = c.blocks }) ≡ false))
+  pub einval : why ≡ refusals.Einval → IsNoImage no_own text
+  pub enosr : why ≡ refusals.Enosr → (x : Imaged) × (IsImageFor no_own text x × (enough (image_blocks x) (record { mblks = c.blocks; dblks = c.blocks }) ≡ false))
   pub others : (why ≢ refusals.Einval) → (why ≢ refusals.Enosr) → why ≡ refusals.NoMemory
 
 numbered-einval : (why : Refusal) → number_of why ≡ 1 → why ≡ refusals.Einval

@@ -6,6 +6,7 @@ use Rattle.strm_types.specs.declared.answers.Turn.{Turn}
 use Rattle.strm_types.specs.declared.entries.Entry.TheVariants.{Turned}
 use Rattle.strm_types.specs.declared.names.QueueName.{QueueName}
 use Rattle.strm_types.specs.declared.refusals.Refusal.{Refusal}
+use Rattle.strm_laws.proofs.NoOwn.{none as no_own}
 use Rattle.strm_laws.specs.Pair.{AddsEntry, PairState, RanTurns, Stops, TurnOfFirst, next_refused, queue_refused, refused_of}
 use Rattle.strm_laws.specs.State.{State}
 use Rattle.strm_handle.specs.Kept.{IsKept, KeptPair, SameChoices, begun, is_full, made_at}
@@ -17,7 +18,8 @@ pub made-plain : (k : KeptPair) → k.anew ≡ false → made_at run_refused k �
 made-plain k plain =
     ap (λ b. record k { pair = begun b (run_refused k) k.pair }) plain ∙ ap (λ p. record k { pair = p }) (plain-stays (run_refused k) k.pair)
 
-pub ran-plain : (n : ℕ) (old : KeptPair) (new : PairState) → old.anew ≡ false → RanTurns n old.pair new → RanAt n old (record old { pair = new })
+pub ran-plain : (n : ℕ) (old : KeptPair) (new : PairState) → old.anew ≡ false → RanTurns no_own n old.pair new
+    → RanAt n old (record old { pair = new })
 ran-plain zero old new plain ran = ap (λ p. record old { pair = p }) ran
 ran-plain (suc n) old new plain ran =
     let mid : KeptPair = record old { pair = ran.0 } in (
@@ -25,7 +27,7 @@ ran-plain (suc n) old new plain ran =
       (
         ran-plain n old ran.0 plain ran.1.0,
         record {
-          turn = subst (λ (k : KeptPair). TurnOfFirst k.pair new) (sym (made-plain mid plain)) ran.1.1;
+          turn = subst (λ (k : KeptPair). TurnOfFirst no_own k.pair new) (sym (made-plain mid plain)) ran.1.1;
           choices = record { anew = refl; reserve = refl };
         },
       ),
@@ -33,7 +35,7 @@ ran-plain (suc n) old new plain ran =
 
 -- the turn of the queue that was enabled first, at the pair that it is made at
 pub turned-first : (old new : KeptPair) (name : QueueName) (turn : Turn) → slice_get old.pair.state.enabled 0 ≡ Some name → SameChoices old new
-    → AddsEntry (begun old.anew (queue_refused old.pair name) old.pair) new.pair (Turned name turn)
+    → AddsEntry no_own (begun old.anew (queue_refused old.pair name) old.pair) new.pair (Turned name turn)
     → Stops (begun old.anew (queue_refused old.pair name) old.pair) new.pair name turn → TurnsFirst old new
 turned-first old new name turn first choices adds stops =
     let at : PairState = begun old.anew (queue_refused old.pair name) old.pair in
@@ -41,7 +43,8 @@ turned-first old new name turn first choices adds stops =
     let state = (begun-keeps old.anew (queue_refused old.pair name) old.pair).0 in
     let here : slice_get at.state.enabled 0 ≡ Some name = ap (λ (s : State ℕ). slice_get s.enabled 0) state ∙ first in
     record {
-      turn = subst (λ (p : PairState). TurnOfFirst p new.pair) same (record { name = name; turn = turn; first = here; adds = adds; stops = stops });
+      turn = subst (λ (p : PairState). TurnOfFirst no_own p new.pair) same
+          (record { name = name; turn = turn; first = here; adds = adds; stops = stops });
       choices = choices;
     }
 
@@ -70,7 +73,7 @@ refused-first k new name r first is =
 not_so : false ≡ true → ⊥
 not_so e = subst (λ b. T (not b)) e tt
 
-pub ran-on : (n : ℕ) (k : KeptPair) (p : PairState) (told : ℕ) → k.anew ≡ false → RanTurns n k.pair p → told ≡ number_told (next_refused p)
+pub ran-on : (n : ℕ) (k : KeptPair) (p : PairState) (told : ℕ) → k.anew ≡ false → RanTurns no_own n k.pair p → told ≡ number_told (next_refused p)
     → IfNone (next_refused p) (p.state.enabled ≡ []) → RunsQueues n k (record k { pair = p }) told
 ran-on n k p told plain ran is rest =
     let last : KeptPair = record k { pair = p } in

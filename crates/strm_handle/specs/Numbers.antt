@@ -1,5 +1,5 @@
 -- What the numbers of include/strm.h stand for: one that stands for nothing is None.
-use Rattle.std.specs.Prelude.{ℕ, ◌==◌, nat_lt, nat_le, if◌then◌else◌, List, length, take, drop, Option, None, Some, option_map}
+use Rattle.std.specs.Prelude.{ℕ, ◌-◌, ◌==◌, nat_lt, nat_le, if◌then◌else◌, List, length, take, drop, Option, None, Some, option_map}
 use Rattle.strm_types.specs.declared.answers.Turn.{Turn}
 use Rattle.strm_types.specs.declared.answers.Turn.TheVariants as turns
 use Rattle.strm_types.specs.declared.events.FlushQueues.{FlushQueues}
@@ -31,9 +31,15 @@ use Rattle.strm_types.specs.Names.{direction_from}
 abbrev pub side_at : ℕ → Option Side
 side_at n = if n == 0 then Some Master else (if n == 1 then Some Slave else None)
 
--- a module
+-- a module of a user's own, of those that have no name
+abbrev pub own_at : ℕ → Option ModuleName
+own_at n = if nat_lt n 256 then Some (modules.Own n) else None
+
+-- a module: those of a user's own from 16 on
 abbrev pub module_at : ℕ → Option ModuleName
-module_at n = if n == 1 then Some modules.Ldterm else (if n == 2 then Some modules.Ptem else (if n == 3 then Some modules.Pckt else None))
+module_at n =
+    if n == 1 then Some modules.Ldterm else (if n == 2 then Some modules.Ptem else (if n == 3 then Some modules.Pckt
+    else (if nat_lt n 16 then None else own_at (n - 16))))
 
 -- A queue of a place where queues stand: of the master 0 to 5, of the slave 6 to 11, from the head down, each place's read queue before its write
 -- queue. Of modules ldterm alone has queues.
@@ -49,15 +55,24 @@ queue_at n =
     else (if n == 8 then queue_of Slave (Module modules.Ldterm) Up else (if n == 9 then queue_of Slave (Module modules.Ldterm) Down
     else (if n == 10 then queue_of Slave Driver Up else (if n == 11 then queue_of Slave Driver Down else None)))))))))))
 
+-- A queue of a module of a user's own: 256 numbers of each side and way.
+abbrev queue_of_own : ℕ → Option QueueName
+queue_of_own n =
+    if nat_lt n 512 then queue_of Master (Module (modules.Own (n - 256))) Up
+    else (if nat_lt n 768 then queue_of Master (Module (modules.Own (n - 512))) Down
+    else (if nat_lt n 1024 then queue_of Slave (Module (modules.Own (n - 768))) Up
+    else (if nat_lt n 1280 then queue_of Slave (Module (modules.Own (n - 1024))) Down else None)))
+
 -- What a number in an answer stands for. No call takes those from 16 on, which are of modules that have no queues: 16 to 19 of ptem, 20 to 23 of
--- pckt.
+-- pckt, and from 256 on of a user's own.
 abbrev pub queue_told : ℕ → Option QueueName
 queue_told n =
-    if n == 16 then queue_of Master (Module modules.Ptem) Up else (if n == 17 then queue_of Master (Module modules.Ptem) Down
+    if nat_le 256 n then queue_of_own n
+    else (if n == 16 then queue_of Master (Module modules.Ptem) Up else (if n == 17 then queue_of Master (Module modules.Ptem) Down
     else (if n == 18 then queue_of Slave (Module modules.Ptem) Up else (if n == 19 then queue_of Slave (Module modules.Ptem) Down
     else (if n == 20 then queue_of Master (Module modules.Pckt) Up else (if n == 21 then queue_of Master (Module modules.Pckt) Down
     else (if n == 22 then queue_of Slave (Module modules.Pckt) Up else (if n == 23 then queue_of Slave (Module modules.Pckt) Down
-    else queue_at n)))))))
+    else queue_at n))))))))
 
 -- a priority: a band, or 256 for high
 abbrev pub prio_at : ℕ → Option Prio

@@ -12,6 +12,7 @@ use Rattle.strm_types.specs.JobControl.{caller_of}
 use Rattle.strm_types.specs.Journal.{content_max}
 use Rattle.strm_types.specs.Numbers.{number_of}
 use Rattle.strm_types.specs.Refused.{or_else, unless}
+use Rattle.strm_laws.proofs.NoOwn.{none as no_own}
 use Rattle.strm_laws.specs.Pair.{PairState, new_pair, restarted, call_refused, queue_refused, next_refused, AddsEntry, TurnOfFirst}
 use Rattle.strm_laws.specs.Refusals.{blocks_asked}
 use Rattle.strm_handle.specs.declared.asks.Ask.{Ask}
@@ -57,7 +58,7 @@ abbrev pub refused_before : Caller → Request → ℕ → KeptPair → Option R
 refused_before caller asked room k = or_else (unless (nat_le (content_max asked) room) Einval) (unless (not (is_held caller asked k)) Eagain)
 
 abbrev pub refused_within : Caller → Request → ℕ → KeptPair → Option Refusal
-refused_within caller asked room k = or_else (refused_before caller asked room k) (call_refused k.pair caller asked)
+refused_within caller asked room k = or_else (refused_before caller asked room k) (call_refused no_own k.pair caller asked)
 
 -- what a refused call leaves to its caller: the buffer and the reply
 abbrev pub Stay : (before out : List ℕ) (told reply : Reply) → Type 0
@@ -70,7 +71,7 @@ no_bytes = []
 -- A call is made: the journal gains it with the answer that the reply and the buffer tell, whose bytes the reply counts, 0 of an answer without
 -- any. They fit the buffer, and behind them it stays.
 pub record Answers (caller : Caller) (asked : Request) (reply : Reply) (before out : List ℕ) (old new : KeptPair) : Type 0 where
-  pub adds : IsSomeAnd (answer_in reply out) (λ answer. AddsEntry old.pair new.pair (Called caller asked answer) × (reply.bytes ≡ length (content_of answer)))
+  pub adds : IsSomeAnd (answer_in reply out) (λ answer. AddsEntry no_own old.pair new.pair (Called caller asked answer) × (reply.bytes ≡ length (content_of answer)))
   pub choices : SameChoices old new
   pub fits : reply.bytes ≤ length before
   pub others : drop reply.bytes out ≡ drop reply.bytes before
@@ -107,7 +108,8 @@ abbrev pub turn_refused : ℕ → KeptPair → Option Refusal
 turn_refused queue k = turn_of (queue_at queue) k
 
 pub record Turns (queue : ℕ) (went : Went) (old new : KeptPair) : Type 0 where
-  pub adds : IsSomeAnd (queue_at queue) (λ name. IsSomeAnd (turn_at went.kind went.moved) (λ turn. AddsEntry old.pair new.pair (Turned name turn)))
+  pub adds : IsSomeAnd (queue_at queue) (λ name. IsSomeAnd (turn_at went.kind went.moved)
+      (λ turn. AddsEntry no_own old.pair new.pair (Turned name turn)))
   pub choices : SameChoices old new
 
 -- Turns were made, each of the queue that was enabled first, at the pair or at the pair begun anew.
@@ -115,7 +117,7 @@ abbrev pub run_refused : KeptPair → Option Refusal
 run_refused k = next_refused k.pair
 
 pub record TurnsFirst (old new : KeptPair) : Type 0 where
-  pub turn : TurnOfFirst (made_at run_refused old).pair new.pair
+  pub turn : TurnOfFirst no_own (made_at run_refused old).pair new.pair
   pub choices : SameChoices old new
 
 abbrev pub RanAt : ℕ → KeptPair → KeptPair → Type 0

@@ -2,6 +2,7 @@
 use Rattle.std.specs.Prelude.{ℕ, ◌≡◌, ◌+◌, ◌&&◌, min, not, Bool, if◌then◌else◌, length, Option, Some}
 use Rattle.strm_types.specs.declared.names.Side.{Side}
 use Rattle.strm_types.specs.Journal.{room_used}
+use Rattle.strm_laws.proofs.NoOwn.{none as no_own}
 use Rattle.strm_laws.specs.Pair.{PairState}
 use Rattle.strm_laws.specs.Refusals.{enough}
 use Rattle.strm_pair.specs.declared.readiness.Ready.{Ready}
@@ -21,7 +22,7 @@ bits_of r has_blocks =
 
 -- a write of 1024 bytes asks for 36 blocks
 abbrev pub ready_at : Option Side → Option KeptPair → ℕ
-ready_at (Some side) (Some k) = bits_of (readiness side k.pair.state) (enough 36 k.pair.free && not (is_held_back side 36 k))
+ready_at (Some side) (Some k) = bits_of (readiness no_own side k.pair.state) (enough 36 k.pair.free && not (is_held_back side 36 k))
 ready_at _ _ = 0
 
 -- how many blocks are free of the kind of which fewer are, and how many entries and bytes the journal takes yet

@@ -4,6 +4,7 @@ ghost use Rattle.std.specs.Prelude.{◌≡◌, ◌&&◌, IfOk, IsOk, MatchOption
 ghost use Rattle.strm_types.specs.declared.entries.Entry.TheVariants.{Called, Turned};
 ghost use Rattle.strm_types.specs.Events.{request};
 ghost use Rattle.strm_types.specs.Journal.{answer_len, reply_in};
+ghost use Rattle.strm_laws.proofs.NoOwn.{none as no_own};
 ghost use Rattle.strm_laws.specs.Pair.{AddsEntry, Stops, call_refused, queue_refused};
 ghost use Rattle.strm_handle.specs.Kept.{begun, is_full, refusal_in};
 
@@ -26,10 +27,10 @@ pub(crate) fn call_at(
     event: &Event<&[u8]>,
     out: &mut Content,
 ) -> Result<Answer<u32>, Refusal>
-    ensures refused { let asked = request event.now in let at = begun anew (call_refused pair.old caller asked) pair.old in
-        MatchOption (call_refused at caller asked) (IsOk result) (λ r. (result ≡ Err r) × ((pair.new ≡ at) × (out.new ≡ out.old))) }
-    ensures adds { let asked = request event.now in let at = begun anew (call_refused pair.old caller asked) pair.old in
-        IfOk result (λ answer. AddsEntry at pair.new (Called caller asked (reply_in answer out.new.items))) }
+    ensures refused { let asked = request event.now in let at = begun anew (call_refused no_own pair.old caller asked) pair.old in
+        MatchOption (call_refused no_own at caller asked) (IsOk result) (λ r. (result ≡ Err r) × ((pair.new ≡ at) × (out.new ≡ out.old))) }
+    ensures adds { let asked = request event.now in let at = begun anew (call_refused no_own pair.old caller asked) pair.old in
+        IfOk result (λ answer. AddsEntry no_own at pair.new (Called caller asked (reply_in answer out.new.items))) }
     ensures filled { IfOk result (λ answer. answer_len answer ≡ length out.new.items) }
 {
     let told = pair.call(caller, event, out);
@@ -49,7 +50,8 @@ pub(crate) fn turn_at(
 ) -> Result<Turn, Refusal>
     ensures refused { let at = begun anew (queue_refused pair.old name) pair.old in
         MatchOption (queue_refused at name) (IsOk result) (λ r. (result ≡ Err r) × (pair.new ≡ at)) }
-    ensures adds { let at = begun anew (queue_refused pair.old name) pair.old in IfOk result (λ turn. AddsEntry at pair.new (Turned name turn)) }
+    ensures adds { let at = begun anew (queue_refused pair.old name) pair.old in
+        IfOk result (λ turn. AddsEntry no_own at pair.new (Turned name turn)) }
     ensures stops { let at = begun anew (queue_refused pair.old name) pair.old in IfOk result (λ turn. Stops at pair.new name turn) }
 {
     let told = pair.turn(name);

@@ -16,6 +16,9 @@ const HIGH: u32 = 256;
 /// Any message, or all bands.
 const ANY: u32 = 257;
 
+/// From here on numbers are of modules of a user's own.
+const OWN: u32 = 16;
+
 /// The number that is no queue's.
 pub const NO_QUEUE: u32 = 12;
 
@@ -40,6 +43,16 @@ pub fn side_number(side: Side) -> u32
     }
 }
 
+// The module of a user's own of a number among them.
+fn own_of(number: u32) -> Option<ModuleName>
+    ensures { result ≡ codes.own_at number }
+{
+    match u8::try_from(number) {
+        Ok(number) => Some(ModuleName::Own(number)),
+        Err(_) => None,
+    }
+}
+
 /// The module of a number.
 pub(crate) fn module_of(number: u32) -> Option<ModuleName>
     ensures { result ≡ codes.module_at number }
@@ -48,7 +61,8 @@ pub(crate) fn module_of(number: u32) -> Option<ModuleName>
         1 => Some(ModuleName::Ldterm),
         2 => Some(ModuleName::Ptem),
         3 => Some(ModuleName::Pckt),
-        _ => None,
+        _ if number < OWN => None,
+        _ => own_of(number - OWN),
     }
 }
 
@@ -61,6 +75,7 @@ pub(crate) fn module_number(name: Option<ModuleName>) -> u32
         Some(ModuleName::Ldterm) => 1,
         Some(ModuleName::Ptem) => 2,
         Some(ModuleName::Pckt) => 3,
+        Some(ModuleName::Own(number)) => OWN + u32::from(number),
     }
 }
 
@@ -113,6 +128,14 @@ pub fn queue_number(name: QueueName) -> u32
         (Side::Master, Place::Module(ModuleName::Pckt), Way::Down) => 21,
         (Side::Slave, Place::Module(ModuleName::Pckt), Way::Up) => 22,
         (Side::Slave, Place::Module(ModuleName::Pckt), Way::Down) => 23,
+        (Side::Master, Place::Module(ModuleName::Own(number)), Way::Up) => 256 + u32::from(number),
+        (Side::Master, Place::Module(ModuleName::Own(number)), Way::Down) => {
+            512 + u32::from(number)
+        }
+        (Side::Slave, Place::Module(ModuleName::Own(number)), Way::Up) => 768 + u32::from(number),
+        (Side::Slave, Place::Module(ModuleName::Own(number)), Way::Down) => {
+            1024 + u32::from(number)
+        }
     }
 }
 

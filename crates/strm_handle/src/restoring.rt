@@ -2,9 +2,10 @@
 
 ghost use Rattle.std.specs.Prelude.{◌≡◌, ◌≢◌, true, false, IfErr, IfOk};
 ghost use Rattle.strm_types.specs.declared.refusals.Refusal.TheVariants.{Einval, Enosr, NoMemory};
+ghost use Rattle.strm_laws.proofs.NoOwn.{none as no_own};
 ghost use Rattle.strm_laws.specs.Refusals.{enough};
 ghost use Rattle.strm_image.specs.Image.{Imaged};
-ghost use Rattle.strm_pair.specs.Restored.{IsImageOf, IsNoImage, image_blocks, restored};
+ghost use Rattle.strm_pair.specs.Restored.{IsImageFor, IsNoImage, image_blocks, restored};
 ghost use Rattle.strm_handle.specs.Kept.{are_fit, kept_by, sizes_of};
 ghost use Rattle.strm_handle.specs.Restored.{Restores};
 
@@ -19,9 +20,9 @@ use strm_types::{Content, Refusal};
 // The pair of an image, over a store of its own.
 fn kept_of(alloc: Global, choices: &Choices, text: &[u8]) -> Result<Box<Kept, Global>, Refusal>
     requires { are_fit choices.now ≡ true }
-    ensures ok { IfOk result (λ kept. (x : Imaged) × (IsImageOf text.now x × (kept.value ≡ kept_by choices.now (restored (sizes_of choices.now) x)))) }
-    ensures einval { IfErr result (λ why. why ≡ Einval → IsNoImage text.now) }
-    ensures enosr { IfErr result (λ why. why ≡ Enosr → (x : Imaged) × (IsImageOf text.now x
+    ensures ok { IfOk result (λ kept. (x : Imaged) × (IsImageFor no_own text.now x × (kept.value ≡ kept_by choices.now (restored (sizes_of choices.now) x)))) }
+    ensures einval { IfErr result (λ why. why ≡ Einval → IsNoImage no_own text.now) }
+    ensures enosr { IfErr result (λ why. why ≡ Enosr → (x : Imaged) × (IsImageFor no_own text.now x
         × (enough (image_blocks x) (record { mblks = choices.now.blocks; dblks = choices.now.blocks }) ≡ false))) }
     ensures others { IfErr result (λ why. why ≢ Einval → why ≢ Enosr → why ≡ NoMemory) }
 {

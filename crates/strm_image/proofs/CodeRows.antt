@@ -1,5 +1,6 @@
--- The values that stand as one byte are exact.
-use Rattle.strm_image.proofs.Prelude.{◌≡◌, Bool, true, false, [], ◌∷◌, Some, refl, sym, ap}
+-- The values that stand as one byte, or as one and a number behind it, are exact.
+use Rattle.strm_image.proofs.Prelude.{◌≡◌, ◌∙◌, Bool, true, false, eqb, [], ◌∷◌, Some, refl, sym, ap, and_parts, eqb-true}
+use Rattle.std.proofs.lemmas.Option.{same_Some}
 use Rattle.strm_image.specs.Prelude.{MsgKind, Data, Proto, Sig, Ctl, Ioctl, Setopts, Iocack, Iocnak, Pcproto, Pcsig, Read, Flush, Stop, Start, Hangup}
 use Rattle.strm_image.specs.Prelude.{Error, ControlMode, ReadMode, ModuleName, Openness, Never, Open, Closed, Place, Side, Master, Slave, Way, Up}
 use Rattle.strm_image.specs.Prelude.{Down, has_queues_at, kind_number, mode_number}
@@ -7,12 +8,16 @@ use Rattle.strm_types.specs.declared.modes.ControlMode.TheVariants as controls
 use Rattle.strm_types.specs.declared.modes.ReadMode.TheVariants as reads
 use Rattle.strm_types.specs.declared.names.ModuleName.TheVariants as modules
 use Rattle.strm_types.specs.declared.names.Place.TheVariants as places
+use Rattle.strm_image.specs.declared.versions.NameKind.{NameKind}
+use Rattle.strm_image.specs.declared.versions.NameKind.TheVariants as name_kinds
 use Rattle.strm_image.specs.declared.versions.Version.{Version}
 use Rattle.strm_image.specs.declared.versions.Version.TheVariants.{First, Second}
-use Rattle.strm_image.specs.Codes.{all_kinds, control_code, control_mode, flag, flag_code, kind, module_code, module_kind, openness, openness_code, place, place_code, read_mode, side, side_code, version, version_code, way, way_code}
-use Rattle.strm_image.specs.Format.{IsExact, with_code}
+use Rattle.strm_image.specs.Codes.{all_kinds, all_names, control_code, control_mode, flag, flag_code, is_name_of, kind, kind_of_name, module_kind}
+use Rattle.strm_image.specs.Codes.{name_body, name_code, name_kind, no_number, number_of, openness, openness_code, own_name, place, place_code}
+use Rattle.strm_image.specs.Codes.{read_mode, side, side_code, the_name, version, version_code, way, way_code}
+use Rattle.strm_image.specs.Format.{IsExact, byte, nothing, with_code}
 use Rattle.strm_types.proofs.EnabledNames.{queues-ldterm}
-use Rattle.strm_image.proofs.Formats.{coded_exact, coded_where_exact}
+use Rattle.strm_image.proofs.Formats.{IsMade, byte_exact, coded_exact, coded_where_exact, made_exact, nothing_exact, tagged_exact}
 
 -- Each value is the first one with its code.
 
@@ -84,14 +89,75 @@ pub way_exact : IsExact way
 unfolding way
 way_exact = coded_exact way_code (Up ∷ Down ∷ []) way_listed
 
-module_listed : (x : ModuleName) → with_code module_code (module_code x) (modules.Ldterm ∷ modules.Ptem ∷ modules.Pckt ∷ []) ≡ Some x
-module_listed modules.Ldterm = refl
-module_listed modules.Ptem = refl
-module_listed modules.Pckt = refl
+-- ---- the names of modules
+
+name_listed : (x : NameKind) → with_code name_code (name_code x) all_names ≡ Some x
+name_listed name_kinds.Ldterm = refl
+name_listed name_kinds.Ptem = refl
+name_listed name_kinds.Pckt = refl
+name_listed name_kinds.Own = refl
+
+name_kind_exact : IsExact name_kind
+unfolding name_kind
+name_kind_exact = coded_exact name_code all_names name_listed
+
+ldterm_made : IsMade (is_name_of name_kinds.Ldterm) (the_name modules.Ldterm) no_number (nothing tt)
+ldterm_made = record { back = λ x fits. (refl, refl); whole = whole }
+  where
+    whole : (name : ModuleName) → is_name_of name_kinds.Ldterm name ≡ true → modules.Ldterm ≡ name
+    whole modules.Ldterm e = refl
+    whole modules.Ptem e = absurd cc
+    whole modules.Pckt e = absurd cc
+    whole (modules.Own n) e = absurd cc
+
+ptem_made : IsMade (is_name_of name_kinds.Ptem) (the_name modules.Ptem) no_number (nothing tt)
+ptem_made = record { back = λ x fits. (refl, refl); whole = whole }
+  where
+    whole : (name : ModuleName) → is_name_of name_kinds.Ptem name ≡ true → modules.Ptem ≡ name
+    whole modules.Ldterm e = absurd cc
+    whole modules.Ptem e = refl
+    whole modules.Pckt e = absurd cc
+    whole (modules.Own n) e = absurd cc
+
+pckt_made : IsMade (is_name_of name_kinds.Pckt) (the_name modules.Pckt) no_number (nothing tt)
+pckt_made = record { back = λ x fits. (refl, refl); whole = whole }
+  where
+    whole : (name : ModuleName) → is_name_of name_kinds.Pckt name ≡ true → modules.Pckt ≡ name
+    whole modules.Ldterm e = absurd cc
+    whole modules.Ptem e = absurd cc
+    whole modules.Pckt e = refl
+    whole (modules.Own n) e = absurd cc
+
+own_made : IsMade (is_name_of name_kinds.Own) own_name number_of byte
+own_made = record { back = λ n fits. (refl, refl); whole = whole }
+  where
+    whole : (name : ModuleName) → is_name_of name_kinds.Own name ≡ true → own_name (number_of name) ≡ name
+    whole modules.Ldterm e = absurd cc
+    whole modules.Ptem e = absurd cc
+    whole modules.Pckt e = absurd cc
+    whole (modules.Own n) e = refl
+
+name_body_exact : (k : NameKind) → IsExact (name_body k)
+name_body_exact name_kinds.Ldterm = made_exact _ _ _ _ (nothing_exact tt (λ y. refl)) ldterm_made
+name_body_exact name_kinds.Ptem = made_exact _ _ _ _ (nothing_exact tt (λ y. refl)) ptem_made
+name_body_exact name_kinds.Pckt = made_exact _ _ _ _ (nothing_exact tt (λ y. refl)) pckt_made
+name_body_exact name_kinds.Own = made_exact _ _ _ _ byte_exact own_made
+
+-- one kind has one code
+same_kind : (a b : NameKind) → eqb (name_code a) (name_code b) ≡ true → a ≡ b
+same_kind a b e = same_Some a b (sym (name_listed a) ∙ ap (λ code. with_code name_code code all_names) (eqb-true _ _ e) ∙ name_listed b)
+
+name_told : (k : NameKind) (name : ModuleName) → (name_body k).fits name ≡ true → kind_of_name name ≡ k
+name_told name_kinds.Ldterm name fits = same_kind (kind_of_name name) name_kinds.Ldterm (and_parts _ _ fits).0
+name_told name_kinds.Ptem name fits = same_kind (kind_of_name name) name_kinds.Ptem (and_parts _ _ fits).0
+name_told name_kinds.Pckt name fits = same_kind (kind_of_name name) name_kinds.Pckt (and_parts _ _ fits).0
+name_told name_kinds.Own name fits = same_kind (kind_of_name name) name_kinds.Own (and_parts _ _ fits).0
 
 pub module_kind_exact : IsExact module_kind
 unfolding module_kind
-module_kind_exact = coded_exact module_code (modules.Ldterm ∷ modules.Ptem ∷ modules.Pckt ∷ []) module_listed
+module_kind_exact = tagged_exact kind_of_name name_kind name_body name_kind_exact name_body_exact name_told
+
+-- ---- the kinds of messages
 
 kind_listed : (x : MsgKind) → with_code kind_number (kind_number x) all_kinds ≡ Some x
 unfolding kind_number

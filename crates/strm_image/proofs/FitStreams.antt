@@ -6,25 +6,27 @@ use Rattle.strm_image.specs.Prelude.{IOCTL_MAX, MODULES, SIGNAL_LAST, ControlMod
 use Rattle.strm_image.specs.Prelude.{Termios, Winsize, Discipline, IsIdle, by_itself, discipline, waits_there, is_master, is_open, same_module}
 use Rattle.strm_image.specs.Prelude.{is_none_left, QueuePair, stood, AreSignals, is_signal, PlainSlot, answer_bytes, is_free, ldterm_rests}
 use Rattle.strm_image.specs.Prelude.{GoodModule, GoodModules, GoodStream, IsShut, IsWhole, goes_out, is_part_kind, stands_below, EachOnce}
-use Rattle.strm_image.specs.Prelude.{times_there, IsAtRest, Module, OfLdterm, OfPtem, OfPckt, Standing, module_name, module_queues, queues_of_modules}
-use Rattle.strm_image.specs.Prelude.{Stream, stream_queues, IsWithin}
+use Rattle.strm_image.specs.Prelude.{times_there, IsAtRest, Module, OfLdterm, OfOwn, OfPtem, OfPckt, Standing, module_name, module_queues}
+use Rattle.strm_image.specs.Prelude.{queues_of_modules, SETTINGS_MAX, Stream, stream_queues, IsWithin}
 use Rattle.std.specs.Prelude.{Option, None, Some}
 use Rattle.std.specs.List.{AllByRecursion}
 use Rattle.strm_types.specs.declared.modes.ControlMode.TheVariants as controls
 use Rattle.strm_types.specs.declared.modes.ReadMode.TheVariants as reads
+use Rattle.strm_types.specs.declared.names.ModuleName.TheVariants as names
 use Rattle.strm_types.proofs.EnabledNames.{same_module-self}
 use Rattle.strm_laws.specs.Stacked.{KindRests}
 use Rattle.strm_image.specs.declared.versions.QueueKind.TheVariants as queues
 use Rattle.strm_image.specs.declared.versions.Version.TheVariants.{Second}
-use Rattle.strm_image.specs.Codes.{control_mode, module_kind, read_mode}
-use Rattle.strm_image.specs.Format.{byte, only, u32}
+use Rattle.strm_image.specs.Codes.{control_mode, module_kind, name_kind, read_mode}
+use Rattle.strm_image.specs.Format.{byte, only, u16, u32}
 use Rattle.strm_image.specs.HasImage.{HasHalves, HasKindNumbers, HasModuleNumbers, HasNumbers, HasSlotNumbers, HasWords, IsLaid}
 use Rattle.strm_image.specs.Image.{is_quiet, laid_on}
-use Rattle.strm_image.specs.Modules.{are_few, ldterm, module_below, module_format, modules, next_names, ptem, termios, winsize}
+use Rattle.strm_image.specs.Modules.{are_few, are_settings, ldterm, module_below, module_format, modules, next_names, ptem, settings}
+use Rattle.strm_image.specs.Modules.{termios, winsize}
 use Rattle.strm_image.specs.Streams.{Bits, HeadBits, bits, bits_code, group_if, head_bits, is_answer, laid, signals, signals_behind, slot, slot_kind}
 use Rattle.strm_image.proofs.EachOnce.{AreNew, IsCount, all_new}
 use Rattle.strm_image.proofs.FitQueues.{flag_fits, queue_fits, with_parts}
-use Rattle.strm_image.proofs.Fitting.{all_back, all_flat, all_front, bytes_fit, chain_fits, counted_fits, u16_fits, u32_fits}
+use Rattle.strm_image.proofs.Fitting.{all_back, all_flat, all_front, bytes_fit, chain_fits, counted_fits, octets_fit, u16_fits, u32_fits}
 use Rattle.strm_image.proofs.FlowRows.{same_bool_refl}
 
 -- ---- modules
@@ -49,13 +51,18 @@ ldterm_fits l good idle words reads writes =
 
 kind_fits : (part : Module ℕ) (queues : Option (QueuePair ℕ)) → GoodModule (stood part queues) → KindRests part → HasKindNumbers part → AllByRecursion IsLaid (module_queues (stood part queues))
     → (module_format Second).fits (stood part queues) ≡ true
-unfolding module_format module_kind ptem
+unfolding module_format module_kind name_kind ptem settings
 kind_fits (OfLdterm l) None good idle words laid = absurd (false≢true good.has)
 kind_fits (OfLdterm l) (Some pair) good idle words laid = ldterm_fits (discipline l pair) (good-with l (Some pair) good.kind good.queues) idle words laid.0 laid.1.0
 kind_fits (OfPtem p) None good idle words laid = and_from _ _ (termios_fits p.termios good.kind words.0) (winsize_fits p.window words.1)
 kind_fits (OfPtem p) (Some pair) good idle words laid = absurd (false≢true (sym good.has))
 kind_fits (OfPckt p) None good idle words laid = refl
 kind_fits (OfPckt p) (Some pair) good idle words laid = absurd (false≢true (sym good.has))
+kind_fits (OfOwn o) None good idle words laid =
+    let few = and_from _ _ (u16_fits (length o.settings) (omega (arith, good.kind.few))) (le-leb (length o.settings) SETTINGS_MAX good.kind.few) in
+    and_from _ _ (and_from _ _ (lt-ltb o.number 256 good.kind.number) refl)
+    (and_from _ _ (and_from _ _ (same_module-self (names.Own o.number)) refl) (octets_fit (only are_settings u16) o.settings few good.kind.bytes))
+kind_fits (OfOwn o) (Some pair) good idle words laid = absurd (false≢true (sym good.has))
 
 module_fits : (p : Standing ℕ) → GoodModule p → IsAtRest p → HasModuleNumbers p → AllByRecursion IsLaid (module_queues p) → (module_format Second).fits p ≡ true
 module_fits p good idle words laid = kind_fits p.part p.queues good idle words laid

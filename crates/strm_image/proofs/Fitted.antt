@@ -1,7 +1,7 @@
 -- What values have that fit formats put together: what the combinators tell, the other way round of Fitting.
 use Rattle.strm_image.proofs.Prelude.{◌≡◌, ℕ, ◌<◌, true, List, [], ◌∷◌, ◌++◌, length, sym, subst, arith, ◌^◌, and_parts, ltb-true, flat_map-cons}
-use Rattle.std.specs.List.{AllByRecursion, flat_map}
-use Rattle.strm_image.specs.Format.{Format, u16, u32, u64, bytes_of, chain, counted, fit_from}
+use Rattle.std.specs.List.{AllByRecursion, flat_map, list_all}
+use Rattle.strm_image.specs.Format.{Format, byte, u16, u32, u64, bytes_of, octets_of, chain, counted, fit_from}
 
 -- ---- numbers
 
@@ -18,6 +18,16 @@ u64_below n fits = let lt : n < 18446744073709551616 = ltb-true n 18446744073709
 
 pub bytes_count : (count : Format ℕ) (bytes : List ℕ) → (counted count bytes_of).fits bytes ≡ true → count.fits (length bytes) ≡ true
 bytes_count count bytes fits = (and_parts (count.fits (length bytes)) _ fits).0
+
+each_below : (bytes : List ℕ) → list_all byte.fits bytes ≡ true → AllByRecursion (λ b. b < 256) bytes
+each_below [] fits = tt
+each_below (b ∷ bytes) fits = let a = and_parts (byte.fits b) (list_all byte.fits bytes) fits in (ltb-true b 256 a.0, each_below bytes a.1)
+
+pub octets_parts : (count : Format ℕ) (bytes : List ℕ) → (counted count octets_of).fits bytes ≡ true
+    → (count.fits (length bytes) ≡ true) × AllByRecursion (λ b. b < 256) bytes
+octets_parts count bytes fits =
+    let a = and_parts (count.fits (length bytes)) _ fits in
+    (a.0, each_below bytes (and_parts _ (list_all byte.fits bytes) a.1).1)
 
 module _ {A S : Type 0} (next : A → S → S) (f : S → Format A) where
   pub counted_parts : (count : Format ℕ) (s : S) (xs : List A) → (counted count (chain next f s)).fits xs ≡ true → (count.fits (length xs) ≡ true) × (fit_from next f s xs ≡ true)

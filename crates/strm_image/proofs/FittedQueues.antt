@@ -6,7 +6,7 @@ use Rattle.strm_image.specs.Prelude.{MsgKind, Data, Setopts, BANDS, HIGH_PRIORIT
 use Rattle.strm_image.specs.Prelude.{is_high_priority, is_part, part, rank_of, Flow, IsOrdered, Queue, AreMarks, GoodMessage, GoodQueue, StandsOn}
 use Rattle.strm_image.specs.Prelude.{has_header, is_part_kind}
 use Rattle.std.specs.List.{AllByRecursion}
-use Rattle.strm_laws.specs.Restorable.{sets_options}
+use Rattle.strm_laws.specs.GoodMessages.{sets_options}
 use Rattle.strm_image.specs.declared.versions.QueueKind.{QueueKind}
 use Rattle.strm_image.specs.declared.versions.QueueKind.TheVariants as queues
 use Rattle.strm_image.specs.declared.versions.Version.TheVariants.{Second}

@@ -1,30 +1,33 @@
 -- The modules and the streams that fit their formats are good, at rest, and have their widths: the other way round of FitStreams.
 use Rattle.strm_image.proofs.Prelude.{◌≡◌, ℕ, zero, suc, ◌<◌, ◌≤◌, Bool, true, false, not, ◌&&◌, ◌||◌, eqb, List, [], ◌∷◌, ◌++◌, length, map, Option}
 use Rattle.strm_image.proofs.Prelude.{None, Some, refl, arith, ◌^◌, nat_lt, is_some, and_parts, eqb-true, leb-true, ltb-false, ltb-true, not-true}
-use Rattle.strm_image.proofs.Prelude.{times, times-cons, top-times}
+use Rattle.strm_image.proofs.Prelude.{false≢true, times, times-cons, top-times}
 use Rattle.strm_image.specs.Prelude.{IOCTL_MAX, MODULES, ModuleName, Side, COLUMN_MAX, Free, Waiting, Answered, Termios, Winsize, Discipline, Between}
 use Rattle.strm_image.specs.Prelude.{IsIdle, Stage, by_itself, discipline, is_between, waits_there, Message, is_master, is_open, same_module}
 use Rattle.strm_image.specs.Prelude.{is_none_left, AreSignals, has_signal, is_signal, PlainSlot, answer_bytes, is_free, ldterm_rests, QueuePair}
 use Rattle.strm_image.specs.Prelude.{stood, GoodModule, GoodStream, IsShut, IsWhole, goes_out, is_part_kind, stands_below, EachOnce, times_there}
-use Rattle.strm_image.specs.Prelude.{IsAtRest, Module, OfLdterm, OfPtem, OfPckt, Standing, ldterm_stands, module_name, module_queues}
-use Rattle.strm_image.specs.Prelude.{queues_of_modules, Stream, stream_queues, IsWithin}
+use Rattle.strm_image.specs.Prelude.{IsAtRest, Module, OfLdterm, OfOwn, OfPtem, OfPckt, Standing, ldterm_stands, module_name, module_queues}
+use Rattle.strm_image.specs.Prelude.{queues_of_modules, SETTINGS_MAX, Stream, stream_queues, IsWithin}
 use Rattle.std.specs.List.{AllByRecursion}
+use Rattle.strm_types.specs.declared.names.ModuleName.TheVariants as names
 use Rattle.strm_types.proofs.EnabledNames.{same_module-sound}
+use Rattle.strm_laws.specs.Behaviours.{GoodOwn}
 use Rattle.strm_laws.specs.Restorable.{IsWork}
 use Rattle.strm_laws.proofs.StackOnce.{nothing-there}
 use Rattle.strm_image.specs.declared.versions.QueueKind.TheVariants as queues
 use Rattle.strm_image.specs.declared.versions.Version.TheVariants.{Second}
-use Rattle.strm_image.specs.Codes.{control_mode, flag, module_kind, read_mode}
+use Rattle.strm_image.specs.Codes.{control_mode, flag, module_kind, name_kind, read_mode}
 use Rattle.strm_image.specs.Format.{byte, bytes_of, counted, only, u16, u32}
 use Rattle.strm_image.specs.HasImage.{HasHalves, HasModuleNumbers, HasNumbers, HasSlotNumbers, HasWords, IsLaid}
 use Rattle.strm_image.specs.Image.{is_quiet, laid_on}
-use Rattle.strm_image.specs.Modules.{are_few, has_name, is_column, ldterm, module_below, module_format, modules, next_names, ptem, termios, winsize}
+use Rattle.strm_image.specs.Modules.{are_few, are_settings, has_name, is_column, is_named, ldterm, may_stand, module_below, module_format, modules}
+use Rattle.strm_image.specs.Modules.{next_names, ptem, settings, termios, winsize}
 use Rattle.strm_image.specs.Queues.{queue}
 use Rattle.strm_image.specs.Streams.{HeadBits, are_signals, bits, bits_of, group_if, head_bits, is_answer, laid, may_have_group, signals, signals_behind, slot, slot_kind}
 use Rattle.strm_image.proofs.EachOnce.{AreNew, new_once}
 use Rattle.strm_image.proofs.FitQueues.{with_parts}
 use Rattle.strm_image.proofs.FitStreams.{is_names_count, names_count}
-use Rattle.strm_image.proofs.Fitted.{all_flattened, all_join, all_so, bytes_count, chain_holds, counted_parts, u16_below, u32_below}
+use Rattle.strm_image.proofs.Fitted.{all_flattened, all_join, all_so, bytes_count, chain_holds, counted_parts, octets_parts, u16_below, u32_below}
 use Rattle.strm_image.proofs.FittedQueues.{queue_told}
 
 -- ---- modules
@@ -112,7 +115,7 @@ ldterm_told l fits =
     }
 
 kind_told : (part : Module ℕ) (queues : Option (QueuePair ℕ)) → (module_format Second).fits (stood part queues) ≡ true → IsTold (stood part queues)
-unfolding module_format module_kind ptem
+unfolding module_format module_kind name_kind ptem settings
 kind_told (OfLdterm l) (Some pair) fits = ldterm_told (discipline l pair) fits
 kind_told (OfLdterm l) None fits = absurd cc
 kind_told (OfPtem p) None fits =
@@ -122,6 +125,17 @@ kind_told (OfPtem p) None fits =
 kind_told (OfPtem p) (Some pair) fits = absurd cc
 kind_told (OfPckt p) None fits = record { good = record { kind = tt; queues = tt; has = refl }; rests = tt; words = tt; laid = tt }
 kind_told (OfPckt p) (Some pair) fits = absurd cc
+kind_told (OfOwn o) None fits =
+    let a = and_parts ((only (may_stand Second) module_kind).fits (names.Own o.number)) _ fits in
+    let number = and_parts (byte.fits o.number) true a.0 in
+    let b = octets_parts (only are_settings u16) o.settings (and_parts (is_named (names.Own o.number) (stood (OfOwn o) None)) _ a.1).1 in
+    let few = and_parts (u16.fits (length o.settings)) (are_settings (length o.settings)) b.0 in
+    let kind : GoodOwn o = record { number = ltb-true o.number 256 number.0; few = leb-true (length o.settings) SETTINGS_MAX few.1; bytes = b.1 } in
+    record { good = record { kind = kind; queues = tt; has = refl }; rests = tt; words = tt; laid = tt }
+kind_told (OfOwn o) (Some pair) fits =
+    let a = and_parts ((only (may_stand Second) module_kind).fits (names.Own o.number)) _ fits in
+    let shape = and_parts (is_named (names.Own o.number) (stood (OfOwn o) (Some pair))) _ a.1 in
+    absurd (false≢true (and_parts (same_module (names.Own o.number) (names.Own o.number)) false shape.0).1)
 
 module_told : (p : Standing ℕ) → (module_format Second).fits p ≡ true → IsTold p
 module_told p fits = kind_told p.part p.queues fits

@@ -1,8 +1,8 @@
 -- When values fit formats that are put together: what the combinators ask.
 use Rattle.strm_image.proofs.Prelude.{◌≡◌, ℕ, zero, suc, ◌<◌, true, List, [], ◌∷◌, ◌++◌, length, refl, subst, arith, ◌^◌, replicate, and_from, eq-eqb}
 use Rattle.strm_image.proofs.Prelude.{lt-ltb, flat_map-cons}
-use Rattle.std.specs.List.{AllByRecursion, flat_map}
-use Rattle.strm_image.specs.Format.{Format, u16, u32, u64, bytes_of, chain, counted, fit_from}
+use Rattle.std.specs.List.{AllByRecursion, flat_map, list_all}
+use Rattle.strm_image.specs.Format.{Format, byte, u16, u32, u64, bytes_of, octets_of, chain, counted, fit_from}
 
 -- ---- numbers
 
@@ -19,6 +19,14 @@ u64_fits n lt = lt-ltb n 18446744073709551616 (omega (arith, lt))
 
 pub bytes_fit : (count : Format ℕ) (bytes : List ℕ) → count.fits (length bytes) ≡ true → (counted count bytes_of).fits bytes ≡ true
 bytes_fit count bytes few = and_from _ _ few (eq-eqb _ _ refl)
+
+each_fits : (bytes : List ℕ) → AllByRecursion (λ b. b < 256) bytes → list_all byte.fits bytes ≡ true
+each_fits [] small = refl
+each_fits (b ∷ bytes) small = and_from _ _ (lt-ltb b 256 small.0) (each_fits bytes small.1)
+
+pub octets_fit : (count : Format ℕ) (bytes : List ℕ) → count.fits (length bytes) ≡ true → AllByRecursion (λ b. b < 256) bytes
+    → (counted count octets_of).fits bytes ≡ true
+octets_fit count bytes few small = and_from _ _ few (and_from _ _ (eq-eqb _ _ refl) (each_fits bytes small))
 
 module _ {A S : Type 0} (next : A → S → S) (f : S → Format A) where
   pub counted_fits : (count : Format ℕ) (s : S) (xs : List A) → count.fits (length xs) ≡ true → fit_from next f s xs ≡ true → (counted count (chain next f s)).fits xs ≡ true

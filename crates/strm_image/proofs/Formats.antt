@@ -3,11 +3,13 @@ use Rattle.std.proofs.Common.{◌≡◌, ℕ, zero, suc, ◌+◌, ◌-◌, ◌<�
 use Rattle.std.specs.Int.{Width, w16, w32, w64, byte_len, from_be_bytes, to_be_bytes}
 use Rattle.std.proofs.lemmas.Bool.{and_parts, and_from, ltb-false, ltb-true, le-ltb, lt-ltb, eqb-true, eq-eqb}
 use Rattle.std.proofs.lemmas.List.{take_at, drop_at, take-append-drop, length-append, length-take, get_or-append-add, append-nil, nil_from_length}
-use Rattle.std.specs.List.{AllByRecursion, flat_map}
+use Rattle.std.specs.List.{AllByRecursion, flat_map, list_all}
 use Rattle.std.proofs.lemmas.List.Concat.{flat_map-cons}
 use Rattle.std.proofs.lemmas.Nat.{be_bytes_2, be_bytes_4, be_bytes_8, from_be_bytes-to_be_bytes_2, from_be_bytes-to_be_bytes_4, from_be_bytes-to_be_bytes_8}
 use Rattle.std.proofs.lemmas.Option.{cond_some, same_Some}
-use Rattle.strm_image.specs.Format.{Format, IsExact, IsBytes, ◌>>=◌, read_byte, byte, number, u16, u32, u64, nothing, bytes_of, only, fit_from, text_from, read_from, chain, gather_from, gathered, gathered_of, before, at_end, keep, always, times, counted, ◌then◌, made, tagged, with_code, coded, coded_where, whole, IsTextOf, Reads}
+use Rattle.strm_image.specs.Format.{Format, IsExact, IsBytes, ◌>>=◌, read_byte, byte, number, u16, u32, u64, nothing, bytes_of, octets_of, only}
+use Rattle.strm_image.specs.Format.{fit_from, text_from, read_from, chain, gather_from, gathered, gathered_of, before, at_end, keep, always, times}
+use Rattle.strm_image.specs.Format.{counted, ◌then◌, made, tagged, with_code, coded, coded_where, whole, IsTextOf, Reads}
 
 -- what stands behind bytes is bytes
 pub rest_is_bytes : (bytes a b : List ℕ) → IsBytes bytes → bytes ≡ a ++ b → IsBytes b
@@ -109,6 +111,18 @@ bytes_exact n = record {
       let len : length bs ≡ n = eqb-true _ _ fits in
       let long : ltb (length (bs ++ rest)) n ≡ false = le-ltb _ _ (omega (arith, length-append bs rest)) in
       rw (long, take_at bs rest n len, drop_at bs rest n len) refl;
+}
+
+each_is_byte : (bytes rest : List ℕ) → IsBytes (bytes ++ rest) → list_all byte.fits bytes ≡ true
+each_is_byte [] rest h = refl
+each_is_byte (b ∷ bytes) rest h = and_from _ _ (lt-ltb b 256 (h 0)) (each_is_byte bytes rest (λ i. h (suc i)))
+
+pub octets_exact : (n : ℕ) → IsExact (octets_of n)
+octets_exact n = record {
+  takes = λ bytes x h e.
+      let t = (bytes_exact n).takes bytes x h e in
+      (t.0, and_from _ _ t.1 (each_is_byte x.0 x.1 (subst (λ b. IsBytes b) t.0 h)));
+  again = λ bs rest fits. (bytes_exact n).again bs rest (and_parts (eqb (length bs) n) (list_all byte.fits bs) fits).0;
 }
 
 pub code_is : {A : Type 0} (code : A → ℕ) (n : ℕ) (all : List A) (x : A) → with_code code n all ≡ Some x → n ≡ code x
@@ -291,6 +305,9 @@ chain_long next f s = record { long = λ n xs fits. eqb-true _ _ (and_parts (eqb
 
 pub bytes_long : IsLong bytes_of
 bytes_long = record { long = λ n xs fits. eqb-true _ _ fits }
+
+pub octets_long : IsLong octets_of
+octets_long = record { long = λ n xs fits. eqb-true _ _ (and_parts (eqb (length xs) n) (list_all byte.fits xs) fits).0 }
 
 pub tagged_exact : {A B : Type 0} (tag : B → A) (tags : Format A) (f : A → Format B) → IsExact tags → ((k : A) → IsExact (f k)) → ((k : A) (x : B) → (f k).fits x ≡ true → tag x ≡ k) → IsExact (tagged tag tags f)
 tagged_exact tag tags f exact each told = record {

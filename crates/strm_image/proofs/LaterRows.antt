@@ -14,7 +14,8 @@ use Rattle.strm_image.specs.Codes.{control_mode, flag, kind, module_kind, openne
 use Rattle.strm_image.specs.Format.{Format, always, byte, bytes_of, chain, counted, fit_from, keep, made, only, tagged, times, u32, ◌then◌}
 use Rattle.strm_image.specs.Image.{Imaged, account, are_balanced, are_quiet, are_there, body, enabled, image, imaged_of, imaged_parts, is_mark, is_number, mark, version_of, versioned}
 use Rattle.strm_image.specs.Messages.{Parts, any, is_message, may_follow, message, message_behind, message_of, message_parts, messages, next_rank, part, parts_fit}
-use Rattle.strm_image.specs.Modules.{are_few, has_name, is_column, is_named, ldterm, ldterm_of, ldterm_parts, module_below, module_body, module_format, modules, next_names, termios}
+use Rattle.strm_image.specs.Modules.{are_few, has_name, is_column, is_named, ldterm, ldterm_of, ldterm_parts, may_stand, module_below, module_body}
+use Rattle.strm_image.specs.Modules.{module_format, modules, next_names, termios}
 use Rattle.strm_image.specs.Queues.{behind_last, entries, few_flows, first_flow, first_ones, flags, flow, flow_parts, flows, is_listed, is_widened, list_out, listed, listed_behind, marks_fit, next_band, no_flow, queue, queue_of, queue_parts, same_flow, widened}
 use Rattle.strm_image.specs.Streams.{head_bits, laid, laid_of, laid_parts, signals, slot}
 use Rattle.strm_image.proofs.BandRows.{widened_is}
@@ -32,9 +33,12 @@ module _ {A B : Type 0} where
   unfolding Later
   made_later shape to parts f g p x fits = let a = and_parts (shape x) (f.fits (parts x)) fits in and_from _ _ a.0 (p (parts x) a.1)
 
-  tagged_later : (tag : B → A) (tags : Format A) (f g : A → Format B) → ((k : A) → Later (f k) (g k)) → Later (tagged tag tags f) (tagged tag tags g)
+  tagged_later : (tag : B → A) (tags tags' : Format A) (f g : A → Format B) → Later tags tags' → ((k : A) → Later (f k) (g k))
+      → Later (tagged tag tags f) (tagged tag tags' g)
   unfolding Later
-  tagged_later tag tags f g p x fits = let a = and_parts (tags.fits (tag x)) ((f (tag x)).fits x) fits in and_from _ _ a.0 (p (tag x) x a.1)
+  tagged_later tag tags tags' f g q p x fits =
+      let a = and_parts (tags.fits (tag x)) ((f (tag x)).fits x) fits in
+      and_from _ _ (q (tag x) a.0) (p (tag x) x a.1)
 
 module _ {A : Type 0} where
   same : (f : Format A) → Later f f
@@ -182,10 +186,14 @@ body_later : (name : ModuleName) → Later (module_body First name) (module_body
 body_later names.Ldterm = made_later (is_named names.Ldterm) ldterm_stands discipline_of (ldterm First) (ldterm Second) ldterm_later
 body_later names.Ptem = same (module_body First names.Ptem)
 body_later names.Pckt = same (module_body First names.Pckt)
+body_later (names.Own n) = same (module_body First (names.Own n))
 
 module_later : Later (module_format First) (module_format Second)
 unfolding module_format
-module_later = tagged_later module_name module_kind (module_body First) (module_body Second) body_later
+module_later =
+    let tags = only_later (may_stand First) (may_stand Second) module_kind module_kind (λ name e. refl) (same module_kind) in
+    tagged_later module_name (only (may_stand First) module_kind) (only (may_stand Second) module_kind) (module_body First) (module_body Second) tags
+    body_later
 
 modules_later : Later (modules First) (modules Second)
 unfolding modules module_below

@@ -2,27 +2,29 @@
 use Rattle.strm_image.proofs.Prelude.{◌≡◌, ℕ, ◌≤◌, ◌+◌, ◌*◌, Bool, true, false, not, cond, List, [], ◌∷◌, ◌++◌, length, map, Option, None, Some, refl}
 use Rattle.strm_image.proofs.Prelude.{sym, arith, false≢true, nat_lt, length-append, flat_map-cons, sum_by-append, sum_by-cons, GoodDiscipline}
 use Rattle.strm_image.proofs.Prelude.{good-with, signals-fit}
-use Rattle.strm_image.specs.Prelude.{BANDS, BLOCK_SIZE, HIGH_PRIORITY_RANK, IOCTL_MAX, SIGNAL_LAST, ModuleName, Openness, Side, Master, Slave}
+use Rattle.strm_image.specs.Prelude.{BANDS, BLOCK_SIZE, HIGH_PRIORITY_RANK, IOCTL_MAX, MODULES, SETTINGS_MAX, SIGNAL_LAST, ModuleName, Openness, Side}
+use Rattle.strm_image.specs.Prelude.{Master, Slave, same_module}
 use Rattle.strm_image.specs.Prelude.{QueueName, RULES, Free, Waiting, Answered, Termios, Winsize, is_data_kind, Discipline, discipline, QueuePair}
 use Rattle.strm_image.specs.Prelude.{stood, Message, cells_of, part, size_of, AreQueues, IsOnce, is_master, Flow, Queue, bytes_of, AreSignals}
 use Rattle.strm_image.specs.Prelude.{PlainSlot}
 use Rattle.strm_image.specs.Prelude.{answer_bytes, GoodModule, GoodModules, GoodStream, IsWhole, EachOnce, stands_of, Module, OfLdterm, OfPtem}
-use Rattle.strm_image.specs.Prelude.{OfPckt, Standing}
+use Rattle.strm_image.specs.Prelude.{OfOwn, OfPckt, Standing}
 use Rattle.strm_image.specs.Prelude.{module_name, module_queues, queues_of_modules, Stream, messages_in, queues_of, stream, stream_queues, IsWithin}
 use Rattle.std.specs.List.{AllByRecursion, sum_by}
+use Rattle.std.proofs.lemmas.List.{length-map}
 use Rattle.std.proofs.Math.Nat.{suc-mul, zero-mul}
 use Rattle.strm_types.specs.declared.keys.TheConstants.{LINE_MAX}
 use Rattle.strm_types.specs.declared.names.ModuleName.TheVariants as names
-use Rattle.strm_image.specs.declared.lengths.TheConstants.{IMAGE_BLOCK, IMAGE_FIXED, MESSAGE_FIXED, QUEUE_FIXED, STREAM_FIXED}
+use Rattle.strm_image.specs.declared.lengths.TheConstants.{IMAGE_BLOCK, IMAGE_FIXED, MESSAGE_FIXED, OWN_FIXED, QUEUE_FIXED, STREAM_FIXED}
 use Rattle.strm_image.specs.declared.versions.QueueKind.{QueueKind}
 use Rattle.strm_image.specs.declared.versions.QueueKind.TheVariants as queues
 use Rattle.strm_image.specs.declared.versions.Version.TheVariants.{Second}
-use Rattle.strm_image.specs.Codes.{control_mode, flag, kind, module_kind, openness, place, read_mode, side, version, way}
+use Rattle.strm_image.specs.Codes.{control_mode, flag, kind, module_kind, name_kind, openness, place, read_mode, side, version, way}
 use Rattle.strm_image.specs.Format.{Format, always, byte, keep, text_from, u16, u32, u64}
 use Rattle.strm_image.specs.HasImage.{HasImage, bytes_in}
 use Rattle.strm_image.specs.Image.{Account, Imaged, account, body, enabled, enabled_behind, image, laid_on, mark, next_enabled, queue_name, rule_counts}
 use Rattle.strm_image.specs.Messages.{message, message_behind, messages, next_rank, part as part_text, parts_with}
-use Rattle.strm_image.specs.Modules.{ldterm, module_below, module_format, modules, next_names, ptem, termios, winsize}
+use Rattle.strm_image.specs.Modules.{ldterm, module_below, module_format, modules, next_names, ptem, settings, termios, winsize}
 use Rattle.strm_image.specs.Queues.{first_flow, flags, flow, flows, list_out, listed_behind, next_band, queue}
 use Rattle.strm_image.specs.Streams.{HeadBits, bits, bits_of, group_if, head_bits, laid, signals, slot, slot_kind}
 use Rattle.strm_image.proofs.FitImages.{are_queues, few_names}
@@ -142,24 +144,31 @@ ldterm_length l good reads writes =
     let both = behind (queue_length queues.LdtermRead l.read_queue reads) (queue_length queues.LdtermWrite l.write_queue writes) in
     within (behind (termios_length l.termios good.termios) (behind (flag_length l.stopped) (behind (flag_length l.after_lnext) (behind (short 4 (u32.text l.column) (omega arith)) (behind line both))))) (omega arith)
 
+settings_length : (bytes : List ℕ) → length bytes ≤ SETTINGS_MAX → AtMost (2 + SETTINGS_MAX) (settings.text bytes)
+unfolding settings
+settings_length bytes few = behind (short 2 (u16.text (length bytes)) (omega arith)) (short SETTINGS_MAX bytes few)
+
 -- what a module takes beside the messages of its queues
 size : ModuleName → ℕ
 size names.Ldterm = 298 + 2 * QUEUE_FIXED
 size names.Ptem = 44
 size names.Pckt = 1
+size (names.Own n) = OWN_FIXED
 
 weigh : Standing ℕ → ℕ
 weigh p = size (module_name p) + sum_by load (module_queues p)
 
 kind_length : (part : Module ℕ) (queues : Option (QueuePair ℕ)) → GoodModule (stood part queues) → AllByRecursion HasBands (module_queues (stood part queues))
     → AtMost (weigh (stood part queues)) ((module_format Second).text (stood part queues))
-unfolding module_format module_kind ptem size weigh
+unfolding module_format module_kind name_kind ptem size weigh
 kind_length (OfLdterm l) None good banded = absurd (false≢true good.has)
 kind_length (OfLdterm l) (Some pair) good banded =
     within (behind (short 1 (module_kind.text names.Ldterm) (omega arith)) (ldterm_length (discipline l pair) (good-with l (Some pair) good.kind good.queues) banded.0 banded.1.0))
     (omega (arith, sum_by-cons load pair.read (pair.write ∷ []), sum_by-cons load pair.write []))
 kind_length (OfPtem p) queues good banded = within (behind (short 1 (module_kind.text names.Ptem) (omega arith)) (behind (termios_length p.termios good.kind) (winsize_length p.window))) (omega arith)
 kind_length (OfPckt p) queues good banded = short _ _ (omega arith)
+kind_length (OfOwn o) queues good banded =
+    within (behind (short 2 (module_kind.text (names.Own o.number)) (omega arith)) (settings_length o.settings good.kind.few)) (omega arith)
 
 module_length : (p : Standing ℕ) → GoodModule p → AllByRecursion HasBands (module_queues p) → AtMost (weigh p) ((module_format Second).text p)
 module_length p good banded = kind_length p.part p.queues good banded
@@ -169,35 +178,42 @@ unfolding module_below IsWeighed
 each_length [] good banded = tt
 each_length (p ∷ ps) good banded = (λ above. module_length p good.0 banded.0, each_length ps good.1 banded.1)
 
--- what modules of these names take
-sizes : List ModuleName → ℕ
-sizes on = size names.Ldterm * names_count names.Ldterm on + (size names.Ptem * names_count names.Ptem on + size names.Pckt * names_count names.Pckt on)
+-- ldterm is longer than one of a user's own, and no other one is
+one_weighs : (n : ModuleName)
+    → size n + OWN_FIXED * cond (same_module n names.Ldterm) 1 0 ≤ OWN_FIXED + size names.Ldterm * cond (same_module n names.Ldterm) 1 0
+unfolding size
+one_weighs names.Ldterm = omega arith
+one_weighs names.Ptem = omega arith
+one_weighs names.Pckt = omega arith
+one_weighs (names.Own n) = omega arith
 
-no_sizes : sizes [] ≡ 0
-unfolding size sizes
-no_sizes = omega (arith, is_names_count.none names.Ldterm, is_names_count.none names.Ptem, is_names_count.none names.Pckt)
+-- by how many stand there, and how often ldterm does
+sizes_most : (on : List ModuleName)
+    → sum_by size on + OWN_FIXED * names_count names.Ldterm on ≤ OWN_FIXED * length on + size names.Ldterm * names_count names.Ldterm on
+unfolding size
+sizes_most [] = omega (arith, is_names_count.none names.Ldterm)
+sizes_most (n ∷ ns) = omega (arith, sum_by-cons size n ns, is_names_count.more names.Ldterm n ns, one_weighs n, sizes_most ns)
 
-one_more : (n : ModuleName) (ns : List ModuleName) → sizes (n ∷ ns) ≡ size n + sizes ns
-unfolding size sizes
-one_more names.Ldterm ns = omega (arith, is_names_count.more names.Ldterm names.Ldterm ns, is_names_count.more names.Ptem names.Ldterm ns, is_names_count.more names.Pckt names.Ldterm ns)
-one_more names.Ptem ns = omega (arith, is_names_count.more names.Ldterm names.Ptem ns, is_names_count.more names.Ptem names.Ptem ns, is_names_count.more names.Pckt names.Ptem ns)
-one_more names.Pckt ns = omega (arith, is_names_count.more names.Ldterm names.Pckt ns, is_names_count.more names.Ptem names.Pckt ns, is_names_count.more names.Pckt names.Pckt ns)
+-- three at most, of which ldterm is one at most
+sizes_once : (on : List ModuleName) → EachOnce on → length on ≤ MODULES → sum_by size on ≤ 298 + 2 * QUEUE_FIXED + 2 * OWN_FIXED
+unfolding size
+sizes_once on each few = omega (arith, sizes_most on, names_once on each names.Ldterm, few)
 
-sizes_once : (on : List ModuleName) → EachOnce on → sizes on ≤ 343 + 2 * QUEUE_FIXED
-unfolding size sizes
-sizes_once on each = omega (arith, names_once on each names.Ldterm, names_once on each names.Ptem, names_once on each names.Pckt)
-
-modules_weigh : (ps : List (Standing ℕ)) → sum_by weigh ps ≡ sizes (map module_name ps) + sum_by load (queues_of_modules ps)
-modules_weigh [] = omega (arith, no_sizes)
+modules_weigh : (ps : List (Standing ℕ)) → sum_by weigh ps ≡ sum_by size (map module_name ps) + sum_by load (queues_of_modules ps)
+modules_weigh [] = omega arith
 modules_weigh (p ∷ ps) =
     let one : weigh p ≡ size (module_name p) + sum_by load (module_queues p) = unfold weigh in refl in
     let split : sum_by load (queues_of_modules (p ∷ ps)) ≡ sum_by load (module_queues p) + sum_by load (queues_of_modules ps) = rw (flat_map-cons module_queues p ps) (sum_by-append load (module_queues p) (queues_of_modules ps)) in
-    omega (arith, sum_by-cons weigh p ps, one, split, one_more (module_name p) (map module_name ps), modules_weigh ps)
+    omega (arith, sum_by-cons weigh p ps, one, split, sum_by-cons size (module_name p) (map module_name ps), modules_weigh ps)
 
-modules_length : (ps : List (Standing ℕ)) → GoodModules ps → AllByRecursion (λ p. AllByRecursion HasBands (module_queues p)) ps → AtMost (344 + 2 * QUEUE_FIXED + sum_by load (queues_of_modules ps)) ((modules Second).text ps)
+modules_length : (ps : List (Standing ℕ)) → GoodModules ps → AllByRecursion (λ p. AllByRecursion HasBands (module_queues p)) ps
+    → AtMost (299 + 2 * QUEUE_FIXED + 2 * OWN_FIXED + sum_by load (queues_of_modules ps)) ((modules Second).text ps)
 unfolding modules
 modules_length ps good banded =
-    within (behind (short 1 (byte.text (length ps)) (omega arith)) (texts next_names (module_below Second) weigh ps (each_length ps good.each banded) [])) (omega (arith, sizes_once (map module_name ps) good.once, modules_weigh ps))
+    let few : length (map module_name ps) ≤ MODULES = omega (arith, length-map ps module_name, good.few) in
+    let each = texts next_names (module_below Second) weigh ps (each_length ps good.each banded) [] in
+    within (behind (short 1 (byte.text (length ps)) (omega arith)) each)
+    (omega (arith, sizes_once (map module_name ps) good.once few, modules_weigh ps))
 
 -- ---- streams
 
@@ -282,5 +298,5 @@ pub image_length_in : (x : Imaged) (blocks : ℕ) → HasImage x → messages_in
 image_length_in x blocks h few small = let all = image_length x h in omega (arith, all, few, small)
 
 -- as docs/IMAGES.md has them
-pub sizes-in-numbers : IMAGE_FIXED ∷ MESSAGE_FIXED ∷ IMAGE_BLOCK ∷ [] ≡ 22267 ∷ 12 ∷ 268 ∷ []
+pub sizes-in-numbers : IMAGE_FIXED ∷ MESSAGE_FIXED ∷ IMAGE_BLOCK ∷ [] ≡ 23473 ∷ 12 ∷ 268 ∷ []
 sizes-in-numbers = refl

@@ -1,7 +1,8 @@
 -- The texts of the formats in pieces, as writers put them.
 use Rattle.strm_image.proofs.Prelude.{◌≡◌, ◌∙◌, ℕ, suc, ◌+◌, ◌<◌, Bool, true, false, cond, List, [], ◌∷◌, ◌++◌, length, drop, get_or, refl, sym, ap}
 use Rattle.strm_image.proofs.Prelude.{arith, append_assoc, append-nil, flat_map-cons}
-use Rattle.strm_image.specs.Prelude.{BANDS, QueueName, Marks, Discipline, Message, Ptem, Flow, Queue, OfPtem, OfPckt, Standing, ldterm_stands}
+use Rattle.strm_image.specs.Prelude.{BANDS, QueueName, Marks, Discipline, Message, Own, Ptem, Flow, Queue, OfOwn, OfPtem, OfPckt, Standing}
+use Rattle.strm_image.specs.Prelude.{ldterm_stands}
 use Rattle.std.specs.List.{flat_map}
 use Rattle.std.proofs.Math.Seq.{drop-cons}
 use Rattle.std.proofs.lemmas.List.{drop_all}
@@ -13,7 +14,7 @@ use Rattle.strm_image.specs.Codes.{module_kind, version}
 use Rattle.strm_image.specs.Format.{always, byte, keep, u32, u64, ◌then◌}
 use Rattle.strm_image.specs.Image.{Imaged, body, enabled, enabled_behind, image, next_enabled, queue_name, rule_counts}
 use Rattle.strm_image.specs.Messages.{message, message_behind, messages, next_rank}
-use Rattle.strm_image.specs.Modules.{alone, ldterm, module_below, module_format, modules, next_names, ptem}
+use Rattle.strm_image.specs.Modules.{alone, ldterm, module_below, module_format, modules, next_names, ptem, settings}
 use Rattle.strm_image.specs.Queues.{flow, listed, no_flow, queue, same_flow, IsNoneFrom, RestAbove}
 use Rattle.strm_image.specs.Sinks.{Given, put}
 use Rattle.strm_image.specs.Streams.{Laid, laid}
@@ -104,6 +105,10 @@ ptem_told p = refl
 pub pckt_told : (p : Pckt) → (module_format Second).text (alone (OfPckt p)) ≡ module_kind.text names.Pckt
 unfolding module_format
 pckt_told p = append-nil (module_kind.text names.Pckt)
+
+pub own_told : (o : Own) → (module_format Second).text (alone (OfOwn o)) ≡ module_kind.text (names.Own o.number) ++ settings.text o.settings
+unfolding module_format
+own_told o = refl
 
 pub laid_told : (is_slave : Bool) (t : Laid) → (laid Second is_slave).text t ≡ laid_text is_slave t
 unfolding laid

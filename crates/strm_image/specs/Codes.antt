@@ -1,5 +1,5 @@
--- Values that stand in an image as one byte each.
-use Rattle.std.specs.Prelude.{ℕ, Bool, true, false, List, [], ◌∷◌}
+-- Values that stand in an image as one byte each, or as one and a number behind it.
+use Rattle.std.specs.Prelude.{ℕ, Bool, true, false, ◌==◌, List, [], ◌∷◌}
 use Rattle.strm_image.specs.Prelude.{MsgKind, ControlMode, ReadMode, ModuleName, Openness, Never, Open, Closed, Place, Side, Master, Slave, Way, Up}
 use Rattle.strm_image.specs.Prelude.{Down, has_queues_at, kind_number, mode_number}
 use Rattle.strm_types.specs.declared.kinds.MsgKind.TheVariants as kinds
@@ -7,9 +7,11 @@ use Rattle.strm_types.specs.declared.modes.ControlMode.TheVariants as controls
 use Rattle.strm_types.specs.declared.modes.ReadMode.TheVariants as reads
 use Rattle.strm_types.specs.declared.names.ModuleName.TheVariants as modules
 use Rattle.strm_types.specs.declared.names.Place.TheVariants as places
+use Rattle.strm_image.specs.declared.versions.NameKind.{NameKind}
+use Rattle.strm_image.specs.declared.versions.NameKind.TheVariants as name_kinds
 use Rattle.strm_image.specs.declared.versions.Version.{Version}
 use Rattle.strm_image.specs.declared.versions.Version.TheVariants.{First, Second}
-use Rattle.strm_image.specs.Format.{Format, coded, coded_where}
+use Rattle.strm_image.specs.Format.{Format, byte, coded, coded_where, made, nothing, tagged}
 
 -- truth values
 abbrev pub flag_code : Bool → ℕ
@@ -71,13 +73,49 @@ way_code Down = 1
 unfoldable pub way : Format Way
 way = coded way_code (Up ∷ Down ∷ [])
 
-abbrev pub module_code : ModuleName → ℕ
-module_code modules.Ldterm = 1
-module_code modules.Ptem = 2
-module_code modules.Pckt = 3
+-- the name of a module: one of the three, or one of a user's own, whose number stands behind its kind
+abbrev pub kind_of_name : ModuleName → NameKind
+kind_of_name modules.Ldterm = name_kinds.Ldterm
+kind_of_name modules.Ptem = name_kinds.Ptem
+kind_of_name modules.Pckt = name_kinds.Pckt
+kind_of_name (modules.Own n) = name_kinds.Own
+
+abbrev pub name_code : NameKind → ℕ
+name_code name_kinds.Ldterm = 1
+name_code name_kinds.Ptem = 2
+name_code name_kinds.Pckt = 3
+name_code name_kinds.Own = 4
+
+abbrev pub all_names : List NameKind
+all_names = name_kinds.Ldterm ∷ name_kinds.Ptem ∷ name_kinds.Pckt ∷ name_kinds.Own ∷ []
+
+unfoldable pub name_kind : Format NameKind
+name_kind = coded name_code all_names
+
+abbrev pub is_name_of : NameKind → ModuleName → Bool
+is_name_of k name = name_code (kind_of_name name) == name_code k
+
+abbrev pub the_name : ModuleName → Unit {0} → ModuleName
+the_name name x = name
+
+abbrev pub no_number : ModuleName → Unit {0}
+no_number name = tt
+
+abbrev pub own_name : ℕ → ModuleName
+own_name n = modules.Own n
+
+abbrev pub number_of : ModuleName → ℕ
+number_of (modules.Own n) = n
+number_of _ = 0
+
+abbrev pub name_body : NameKind → Format ModuleName
+name_body name_kinds.Ldterm = made (is_name_of name_kinds.Ldterm) (the_name modules.Ldterm) no_number (nothing tt)
+name_body name_kinds.Ptem = made (is_name_of name_kinds.Ptem) (the_name modules.Ptem) no_number (nothing tt)
+name_body name_kinds.Pckt = made (is_name_of name_kinds.Pckt) (the_name modules.Pckt) no_number (nothing tt)
+name_body name_kinds.Own = made (is_name_of name_kinds.Own) own_name number_of byte
 
 unfoldable pub module_kind : Format ModuleName
-module_kind = coded module_code (modules.Ldterm ∷ modules.Ptem ∷ modules.Pckt ∷ [])
+module_kind = tagged kind_of_name name_kind name_body
 
 -- the kinds of messages, by the numbers of sys/stream.h
 abbrev pub all_kinds : List MsgKind

@@ -4,7 +4,7 @@ use Rattle.std.specs.Prelude.{◌≡◌, ◌<◌, ◌^◌, ◌+◌, ℕ, List, l
 use Rattle.std.specs.List.{AllByRecursion, sum}
 use Rattle.strm_image.specs.Prelude.{Book, Both, BANDS, Dir, MasterToSlave, SlaveToMaster, Fates, RULES, Free, Waiting, Answered, Termios, Winsize}
 use Rattle.strm_image.specs.Prelude.{get, Message, part, side_from, IsOrdered, Queue, bytes_of, fates_of, PlainSlot, inline, queued, Module, OfLdterm}
-use Rattle.strm_image.specs.Prelude.{OfPtem, OfPckt, Standing, State, Stream, book, queues_of}
+use Rattle.strm_image.specs.Prelude.{OfOwn, OfPtem, OfPckt, Standing, State, Stream, book, queues_of}
 use Rattle.strm_types.specs.Both.{AllSides, twice}
 use Rattle.strm_laws.specs.Restorable.{Restorable}
 use Rattle.strm_laws.specs.State.{AreOrdered, opening}
@@ -52,6 +52,7 @@ abbrev pub HasKindNumbers : Module ℕ → Type 0
 HasKindNumbers (OfLdterm l) = HasWords l.termios
 HasKindNumbers (OfPtem p) = HasWords p.termios × HasHalves p.window
 HasKindNumbers (OfPckt p) = Unit {0}
+HasKindNumbers (OfOwn o) = Unit {0}
 
 abbrev pub HasModuleNumbers : Standing ℕ → Type 0
 HasModuleNumbers x = HasKindNumbers x.part

@@ -7,7 +7,7 @@ use Rattle.strm_image.specs.declared.modules.LdtermText.{LdtermText}
 use Rattle.strm_image.specs.declared.modules.ModuleText.{ModuleText}
 use Rattle.strm_image.specs.declared.modules.ModuleText.TheVariants as texts
 use Rattle.strm_image.specs.declared.modules.PtemText.{PtemText}
-use Rattle.strm_image.specs.Modules.{alone, ldterm_of, ptem_of}
+use Rattle.strm_image.specs.Modules.{alone, ldterm_of, own_of, ptem_of}
 use Rattle.strm_image.specs.QueueTexts.{queue_now}
 
 abbrev pub ldterm_now : LdtermText → Discipline ℕ
@@ -27,6 +27,7 @@ abbrev pub module_now : ModuleText → Standing ℕ
 module_now (texts.Ldterm l) = ldterm_stands (ldterm_now l)
 module_now (texts.Ptem p) = alone (OfPtem (ptem_now p))
 module_now texts.Pckt = alone (OfPckt new_pckt)
+module_now (texts.Own o) = own_of o.number o.settings.now
 
 abbrev pub modules_now : List ModuleText → List (Standing ℕ)
 modules_now ms = map module_now ms

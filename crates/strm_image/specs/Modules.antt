@@ -1,16 +1,18 @@
 -- The text of the modules of a stream.
 use Rattle.std.specs.Prelude.{ℕ, Bool, true, false, ◌&&◌, not, nat_le, List, [], ◌∷◌, ◌++◌, None}
 use Rattle.std.specs.List.{list_any}
-use Rattle.strm_image.specs.Prelude.{MODULES, ModuleName, COLUMN_MAX, Termios, Winsize, Between, Discipline, by_itself, same_module, new_pckt, Ptem}
-use Rattle.strm_image.specs.Prelude.{Queue, ldterm_rests, Module, OfPtem, OfPckt, Standing, ldterm_stands, module_name, discipline_of}
+use Rattle.strm_image.specs.Prelude.{MODULES, SETTINGS_MAX, ModuleName, COLUMN_MAX, Termios, Winsize, Between, Discipline, by_itself, same_module}
+use Rattle.strm_image.specs.Prelude.{new_pckt, Ptem, Queue, ldterm_rests, Module, OfOwn, OfPtem, OfPckt, Standing, ldterm_stands, module_name}
+use Rattle.strm_image.specs.Prelude.{discipline_of}
 use Rattle.strm_types.specs.declared.names.ModuleName.TheVariants as names
 use Rattle.strm_types.specs.Names.{have_queues}
 use Rattle.strm_types.specs.Standings.{has_queues}
 use Rattle.strm_types.specs.Ptems.{new_ptem}
 use Rattle.strm_image.specs.declared.versions.QueueKind.TheVariants as queues
 use Rattle.strm_image.specs.declared.versions.Version.{Version}
+use Rattle.strm_image.specs.declared.versions.Version.TheVariants.{First, Second}
 use Rattle.strm_image.specs.Codes.{flag, module_kind}
-use Rattle.strm_image.specs.Format.{Format, byte, u16, u32, nothing, bytes_of, only, counted, chain, ◌then◌, made, tagged}
+use Rattle.strm_image.specs.Format.{Format, byte, u16, u32, nothing, bytes_of, octets_of, only, counted, chain, ◌then◌, made, tagged}
 use Rattle.strm_image.specs.Messages.{any}
 use Rattle.strm_image.specs.Queues.{queue}
 
@@ -78,6 +80,15 @@ ptem_parts p = (p.termios, p.window)
 unfoldable pub ptem : Format Ptem
 ptem = made any ptem_of ptem_parts (termios then winsize)
 
+-- ---- a module of a user's own
+
+abbrev pub are_settings : ℕ → Bool
+are_settings n = nat_le n SETTINGS_MAX
+
+-- what it is set to: how many bytes, and these
+unfoldable pub settings : Format (List ℕ)
+settings = counted (only are_settings u16) octets_of
+
 -- ---- a module, behind its name
 
 -- one of a name, which has queues where those of its name have
@@ -105,13 +116,30 @@ pckt_of x = alone (OfPckt new_pckt)
 abbrev pub pckt_parts : Standing ℕ → Unit {0}
 pckt_parts m = tt
 
+abbrev pub own_of : ℕ → List ℕ → Standing ℕ
+own_of n bytes = alone (OfOwn (record { number = n; settings = bytes }))
+
+abbrev pub settings_of : Standing ℕ → List ℕ
+settings_of m = by m.part
+  where
+    by : Module ℕ → List ℕ
+    by (OfOwn o) = o.settings
+    by _ = []
+
 abbrev pub module_body : Version → ModuleName → Format (Standing ℕ)
 module_body v names.Ldterm = made (is_named names.Ldterm) ldterm_stands discipline_of (ldterm v)
 module_body v names.Ptem = made (is_named names.Ptem) (λ p. alone (OfPtem p)) the_ptem ptem
 module_body v names.Pckt = made (is_named names.Pckt) pckt_of pckt_parts (nothing tt)
+module_body v (names.Own n) = made (is_named (names.Own n)) (own_of n) settings_of settings
+
+-- Images of version 1 have no modules of a user's own.
+abbrev pub may_stand : Version → ModuleName → Bool
+may_stand First (names.Own n) = false
+may_stand First _ = true
+may_stand Second _ = true
 
 unfoldable pub module_format : Version → Format (Standing ℕ)
-module_format v = tagged module_name module_kind (module_body v)
+module_format v = tagged module_name (only (may_stand v) module_kind) (module_body v)
 
 -- ---- the modules of a stream, from the top
 

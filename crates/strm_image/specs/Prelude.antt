@@ -2,11 +2,13 @@
 pub use Rattle.strm_laws.specs.Bases.{IsBase}
 pub use Rattle.strm_laws.specs.LdtermTurns.{ldterm_rests}
 pub use Rattle.strm_laws.specs.Ledgers.{FewBooked, inline, queued}
-pub use Rattle.strm_laws.specs.Restorable.{AreMarks, GoodMessage, GoodModule, GoodModules, GoodQueue, GoodStream, IsShut, IsThere, IsWhole, StandsOn}
-pub use Rattle.strm_laws.specs.Restorable.{goes_out, has_header, is_part_kind, is_there_among, stands_below}
+pub use Rattle.strm_laws.specs.GoodMessages.{GoodMessage}
+pub use Rattle.strm_laws.specs.Restorable.{AreMarks, GoodModule, GoodModules, GoodQueue, GoodStream, IsShut, IsThere, IsWhole, StandsOn}
+pub use Rattle.strm_laws.specs.GoodMessages.{has_header, is_part_kind}
+pub use Rattle.strm_laws.specs.Restorable.{goes_out, is_there_among, stands_below}
 pub use Rattle.strm_laws.specs.StackCosts.{EachOnce, stands_of, times_there}
-pub use Rattle.strm_laws.specs.Stacked.{IsAtRest, Module, OfLdterm, OfPckt, OfPtem, Standing, ldterm_stands, module_line, module_name, module_queues}
-pub use Rattle.strm_laws.specs.Stacked.{queues_of_modules}
+pub use Rattle.strm_laws.specs.Stacked.{IsAtRest, Module, OfLdterm, OfOwn, OfPckt, OfPtem, Standing, ldterm_stands, module_line, module_name}
+pub use Rattle.strm_laws.specs.Stacked.{module_queues, queues_of_modules}
 pub use Rattle.strm_laws.specs.State.{State, Stream, book, messages_in, queues_of, stream, stream_queues}
 pub use Rattle.strm_laws.specs.TurnCalls.{discipline_of}
 pub use Rattle.strm_laws.specs.Within.{IsWithin}
@@ -23,6 +25,7 @@ pub use Rattle.strm_types.specs.Names.{AreQueues, IsOnce, has_queues_at, has_ser
 pub use Rattle.strm_types.specs.Names.{same_module, same_queue, same_way}
 pub use Rattle.strm_types.specs.Names.{side_from, times}
 pub use Rattle.strm_types.specs.Options.{mode_number}
+pub use Rattle.strm_types.specs.Owns.{Own}
 pub use Rattle.strm_types.specs.Pckts.{new_pckt}
 pub use Rattle.strm_types.specs.Ptems.{Ptem}
 pub use Rattle.strm_types.specs.Queue.{Flow, IsOrdered, Queue, bytes_of, is_none_left}
@@ -35,7 +38,8 @@ pub use Rattle.strm_types.specs.declared.both.Both.{Both}
 pub use Rattle.strm_types.specs.declared.kinds.MsgKind.{MsgKind}
 pub use Rattle.strm_types.specs.declared.kinds.MsgKind.TheVariants.{Ctl, Data, Error, Flush, Hangup, Iocack, Iocnak, Ioctl, Pcproto, Pcsig, Proto}
 pub use Rattle.strm_types.specs.declared.kinds.MsgKind.TheVariants.{Read, Setopts, Sig, Start, Stop}
-pub use Rattle.strm_types.specs.declared.limits.TheConstants.{BANDS, BLOCK_SIZE, HIGH_PRIORITY_RANK, IOCTL_MAX, MODULES, SIGNAL_LAST}
+pub use Rattle.strm_types.specs.declared.limits.TheConstants.{BANDS, BLOCK_SIZE, HIGH_PRIORITY_RANK, IOCTL_MAX, MODULES, SETTINGS_MAX}
+pub use Rattle.strm_types.specs.declared.limits.TheConstants.{SIGNAL_LAST}
 pub use Rattle.strm_types.specs.declared.modes.ControlMode.{ControlMode}
 pub use Rattle.strm_types.specs.declared.modes.ReadMode.{ReadMode}
 pub use Rattle.strm_types.specs.declared.names.Dir.{Dir}

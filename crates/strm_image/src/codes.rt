@@ -1,12 +1,12 @@
-//! Values that stand in a text as one byte each. Each reader answers the value and the bytes behind it, and none where the byte is that
-//! of no value.
+//! Values that stand in a text as one byte each, or as one and a number behind it. Each reader answers the value and the bytes behind
+//! it, and none where the byte is that of no value.
 
 ghost use Rattle.std.specs.Prelude.{◌≡◌};
-ghost use Rattle.strm_image.specs.Codes.{control_mode, flag, kind, module_kind, openness, place, read_mode, side, version, way};
+ghost use Rattle.strm_image.specs.Codes.{control_mode, flag, kind, module_kind, name_kind, openness, place, read_mode, side, version, way};
 ghost use Rattle.strm_image.specs.Format.{Reads};
 
 use crate::fields::byte_at;
-use crate::versions::Version;
+use crate::versions::{NameKind, Version};
 use strm_types::{ControlMode, ModuleName, MsgKind, Openness, Place, ReadMode, Side, Way};
 
 /// A truth value.
@@ -125,19 +125,36 @@ pub fn way_at(text: &[u8]) -> Option<(Way, &[u8])>
     Some((value, rest))
 }
 
-/// Which module one is.
+#[tactic(auto, unfolding(crate::specs::Codes::name_kind))]
+fn name_kind_at(text: &[u8]) -> Option<(NameKind, &[u8])>
+    ensures { Reads (λ x. (x.0, x.1.now)) result (name_kind.read text.now) }
+{
+    let (code, rest) = byte_at(text)?;
+    let value = match code {
+        1 => NameKind::Ldterm,
+        2 => NameKind::Ptem,
+        3 => NameKind::Pckt,
+        4 => NameKind::Own,
+        _ => return None,
+    };
+    Some((value, rest))
+}
+
+/// Which module one is. The number of one of a user's own stands behind its kind.
 #[tactic(auto, unfolding(crate::specs::Codes::module_kind))]
 pub fn module_kind_at(text: &[u8]) -> Option<(ModuleName, &[u8])>
     ensures { Reads (λ x. (x.0, x.1.now)) result (module_kind.read text.now) }
 {
-    let (code, rest) = byte_at(text)?;
-    let value = match code {
-        1 => ModuleName::Ldterm,
-        2 => ModuleName::Ptem,
-        3 => ModuleName::Pckt,
-        _ => return None,
-    };
-    Some((value, rest))
+    let (kind, rest) = name_kind_at(text)?;
+    match kind {
+        NameKind::Ldterm => Some((ModuleName::Ldterm, rest)),
+        NameKind::Ptem => Some((ModuleName::Ptem, rest)),
+        NameKind::Pckt => Some((ModuleName::Pckt, rest)),
+        NameKind::Own => {
+            let (number, rest) = byte_at(rest)?;
+            Some((ModuleName::Own(number), rest))
+        }
+    }
 }
 
 /// The kind of a message.

@@ -5,10 +5,11 @@ ghost use Rattle.std.specs.List.{flat_map};
 ghost use Rattle.strm_types.specs.declared.names.ModuleName.TheVariants as names;
 ghost use Rattle.strm_types.specs.Ldterms.{Discipline};
 ghost use Rattle.strm_types.specs.Message.{Message};
+ghost use Rattle.strm_types.specs.Owns.{Own};
 ghost use Rattle.strm_types.specs.Pckts.{Pckt};
 ghost use Rattle.strm_types.specs.Ptems.{Ptem};
 ghost use Rattle.strm_types.specs.Queue.{Queue};
-ghost use Rattle.strm_laws.specs.Stacked.{OfPtem, OfPckt, Standing, ldterm_stands};
+ghost use Rattle.strm_laws.specs.Stacked.{OfOwn, OfPtem, OfPckt, Standing, ldterm_stands};
 ghost use Rattle.strm_image.specs.declared.versions.QueueKind.{QueueKind};
 ghost use Rattle.strm_image.specs.declared.versions.Version.{Version};
 ghost use Rattle.strm_image.specs.declared.versions.Version.TheVariants.{First, Second};
@@ -16,7 +17,7 @@ ghost use Rattle.strm_image.specs.Codes.{module_kind};
 ghost use Rattle.strm_image.specs.Format.{byte, u32};
 ghost use Rattle.strm_image.specs.Image.{Imaged, image};
 ghost use Rattle.strm_image.specs.Messages.{message, messages};
-ghost use Rattle.strm_image.specs.Modules.{alone, module_format, modules, ptem};
+ghost use Rattle.strm_image.specs.Modules.{alone, module_format, modules, ptem, settings};
 ghost use Rattle.strm_image.specs.Queues.{queue};
 ghost use Rattle.strm_image.specs.Streams.{Laid, laid};
 ghost use Rattle.strm_image.specs.Written.{image_text, laid_text, ldterm_text, queue_text};
@@ -41,6 +42,7 @@ pub fn second_in_parts()
     ensures ldterm { (l : Discipline ℕ) → (module_format Second).text (ldterm_stands l) ≡ ldterm_text l }
     ensures ptem { (p : Ptem) → (module_format Second).text (alone (OfPtem p)) ≡ module_kind.text names.Ptem ++ ptem.text p }
     ensures pckt { (p : Pckt) → (module_format Second).text (alone (OfPckt p)) ≡ module_kind.text names.Pckt }
+    ensures own { (o : Own) → (module_format Second).text (alone (OfOwn o)) ≡ module_kind.text (names.Own o.number) ++ settings.text o.settings }
     ensures stream { (is_slave : Bool) (t : Laid) → (laid Second is_slave).text t ≡ laid_text is_slave t }
     ensures whole { (x : Imaged) → image.text (Second, x) ≡ image_text x }
 {}

@@ -49,7 +49,7 @@ impl<'a> ModuleText<'a> {
             ModuleText::Ldterm(found) => {
                 found.read_queue.messages.blocks() + found.write_queue.messages.blocks()
             }
-            ModuleText::Ptem(_) | ModuleText::Pckt => 0,
+            ModuleText::Ptem(_) | ModuleText::Pckt | ModuleText::Own(_) => 0,
         }
     }
 
@@ -63,7 +63,7 @@ impl<'a> ModuleText<'a> {
                 Way::Up => found.read_queue.messages.cells(),
                 Way::Down => found.write_queue.messages.cells(),
             },
-            ModuleText::Ptem(_) | ModuleText::Pckt => 0,
+            ModuleText::Ptem(_) | ModuleText::Pckt | ModuleText::Own(_) => 0,
         }
     }
 
@@ -74,7 +74,7 @@ impl<'a> ModuleText<'a> {
     {
         match self {
             ModuleText::Ldterm(found) => found.line.len(),
-            ModuleText::Ptem(_) | ModuleText::Pckt => 0,
+            ModuleText::Ptem(_) | ModuleText::Pckt | ModuleText::Own(_) => 0,
         }
     }
 }

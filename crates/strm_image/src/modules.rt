@@ -4,8 +4,10 @@ ghost use Rattle.std.specs.Prelude.{◌≡◌, ◌≤◌, [], length, map};
 ghost use Rattle.strm_types.specs.Modules.{stands};
 ghost use Rattle.strm_types.specs.Queue.{is_none_left};
 ghost use Rattle.strm_laws.specs.Stacked.{module_name};
+ghost use Rattle.strm_image.specs.Codes.{module_kind};
 ghost use Rattle.strm_image.specs.Format.{Reads, at_end, byte, bytes_of, counted, gather_from, only, u32};
-ghost use Rattle.strm_image.specs.Modules.{has_name, is_column, ldterm, module_below, module_format, modules, next_names, ptem, termios, winsize};
+ghost use Rattle.strm_image.specs.Modules.{has_name, is_column, ldterm, may_stand, module_below, module_format, modules, next_names, ptem, settings};
+ghost use Rattle.strm_image.specs.Modules.{termios, winsize};
 ghost use Rattle.strm_image.specs.ModuleTexts.{ldterm_now, module_now, modules_now, names_now, ptem_now};
 
 use crate::codes::{flag_at, module_kind_at};
@@ -14,7 +16,8 @@ use crate::queues::{QueueText, queues_at};
 use crate::versions::{QueueKind, Version};
 use arrayvec::ArrayVec;
 use strm_types::{
-    COLUMN_MAX, InputModes, LocalModes, MODULES, ModuleName, OutputModes, Termios, Winsize,
+    COLUMN_MAX, InputModes, LocalModes, MODULES, ModuleName, OutputModes, SETTINGS_MAX, Termios,
+    Winsize,
 };
 
 /// An `ldterm`, where it stands in a text.
@@ -36,6 +39,13 @@ pub struct PtemText {
     pub window: Winsize,
 }
 
+/// A module of a user's own, where it stands in a text.
+#[derive(Clone, Copy)]
+pub struct OwnText<'a> {
+    pub number: u8,
+    pub settings: &'a [u8],
+}
+
 /// A module, where it stands in a text.
 #[derive(Clone, Copy, Default)]
 pub enum ModuleText<'a> {
@@ -43,6 +53,7 @@ pub enum ModuleText<'a> {
     Ptem(PtemText),
     #[default]
     Pckt,
+    Own(OwnText<'a>),
 }
 
 // What a terminal is set to.
@@ -135,12 +146,45 @@ fn ptem_at(text: &[u8]) -> Option<(PtemText, &[u8])>
     Some((PtemText { termios, window }, rest))
 }
 
+// What a module of a user's own is set to.
+#[tactic(auto, unfolding(crate::specs::Modules::settings))]
+fn settings_at(text: &[u8]) -> Option<(&[u8], &[u8])>
+    ensures { Reads (λ x. (x.0.now, x.1.now)) result (settings.read text.now) }
+{
+    let (count, rest) = u16_at(text)?;
+    if usize::from(count) > SETTINGS_MAX {
+        return None;
+    }
+    bytes_at(rest, usize::from(count))
+}
+
+// Whether a module of a name may stand in an image of a version: one of a user's own in version 2 alone.
+fn may_stand(version: Version, name: ModuleName) -> bool
+    ensures { result ≡ may_stand version name }
+{
+    match version {
+        Version::First => !matches!(name, ModuleName::Own(_)),
+        Version::Second => true,
+    }
+}
+
+// The name of a module.
+fn name_at(text: &[u8], version: Version) -> Option<(ModuleName, &[u8])>
+    ensures { Reads (λ x. (x.0, x.1.now)) result ((only (may_stand version) module_kind).read text.now) }
+{
+    let (name, rest) = module_kind_at(text)?;
+    if !may_stand(version, name) {
+        return None;
+    }
+    Some((name, rest))
+}
+
 // The module at the front of a text.
 #[tactic(auto, unfolding(crate::specs::Modules::module_format))]
 fn module_at(text: &[u8], version: Version) -> Option<(ModuleText<'_>, &[u8])>
     ensures { Reads (λ x. (module_now x.0, x.1.now)) result ((module_format version).read text.now) }
 {
-    let (name, rest) = module_kind_at(text)?;
+    let (name, rest) = name_at(text, version)?;
     match name {
         ModuleName::Ldterm => {
             let (found, rest) = ldterm_at(rest, version)?;
@@ -151,6 +195,10 @@ fn module_at(text: &[u8], version: Version) -> Option<(ModuleText<'_>, &[u8])>
             Some((ModuleText::Ptem(found), rest))
         }
         ModuleName::Pckt => Some((ModuleText::Pckt, rest)),
+        ModuleName::Own(number) => {
+            let (settings, rest) = settings_at(rest)?;
+            Some((ModuleText::Own(OwnText { number, settings }), rest))
+        }
     }
 }
 
@@ -163,6 +211,7 @@ impl<'a> ModuleText<'a> {
             ModuleText::Ldterm(_) => ModuleName::Ldterm,
             ModuleText::Ptem(_) => ModuleName::Ptem,
             ModuleText::Pckt => ModuleName::Pckt,
+            ModuleText::Own(found) => ModuleName::Own(found.number),
         }
     }
 }

@@ -28,6 +28,16 @@ pub enum SlotKind {
     Answered = 2,
 }
 
+/// What the name of a module is, as a byte of an image says it: one of the three that there are, or one of a user's own, whose number
+/// follows.
+#[derive(Clone, Copy)]
+pub enum NameKind {
+    Ldterm = 1,
+    Ptem = 2,
+    Pckt = 3,
+    Own = 4,
+}
+
 /// What messages take and hold: how many blocks of each kind they take, and how many of their bytes a ledger counts, which are
 /// those of M_DATA, M_PROTO and M_PCPROTO.
 #[derive(Clone, Copy)]

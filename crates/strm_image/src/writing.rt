@@ -18,7 +18,7 @@ pub use codes::{
 };
 pub use fields::{put_u8, put_u16, put_u32, put_u64};
 pub use messages::{put_message, put_part};
-pub use modules::{put_line, put_ptem, put_termios, put_winsize};
+pub use modules::{put_line, put_ptem, put_settings, put_termios, put_winsize};
 pub use queues::{put_enabled, put_queue_flags};
 pub use streams::{put_head_bits, put_signals, put_slot};
 pub use whole::put_front;

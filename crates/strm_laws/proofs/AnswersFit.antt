@@ -8,6 +8,7 @@ use Rattle.strm_laws.specs.Prelude.{gives_nothing, told_of}
 use Rattle.strm_types.specs.declared.events.Event.TheVariants.{Ioctl}
 use Rattle.strm_types.specs.declared.limits.TheConstants.{CONTENT_MAX}
 use Rattle.strm_types.specs.declared.slots.Slot.TheVariants.{Answered}
+use Rattle.strm_laws.specs.Behaviours.{Behaviour}
 use Rattle.strm_laws.specs.Calls.{Outcome, called, get_at, ioctl_begun, ioctl_sent, name_told, performed, read_at}
 use Rattle.strm_laws.specs.Pushes.{top_on}
 use Rattle.strm_laws.specs.State.{State, stream}
@@ -64,25 +65,25 @@ module _ {C : Type 0} (cells : Cells C) where
       at false true = omega arith
       at false false = omega arith
 
-  performed-fits : (caller : Caller) (asked : Request) (s : State C) → AreWithin s → length (content_of (performed cells caller asked s).answer) ≤ content_max asked
-  performed-fits caller Look s within = name-fits (top_on caller.side s)
-  performed-fits caller (Read n) s within = read-fits caller.side n s
-  performed-fits caller (Get wanted cmax dmax) s within = get-fits caller.side wanted cmax dmax s
-  performed-fits caller (Ioctl command body) s within =
-      let sent = (ioctl_sent cells caller.side command body s).state in
+  performed-fits : (K : Behaviour) (caller : Caller) (asked : Request) (s : State C) → AreWithin s → length (content_of (performed K cells caller asked s).answer) ≤ content_max asked
+  performed-fits K caller Look s within = name-fits (top_on caller.side s)
+  performed-fits K caller (Read n) s within = read-fits caller.side n s
+  performed-fits K caller (Get wanted cmax dmax) s within = get-fits caller.side wanted cmax dmax s
+  performed-fits K caller (Ioctl command body) s within =
+      let sent = (ioctl_sent K cells caller.side command body s).state in
       either (asks_group caller.side command) _ _ (group-fits command body (stream caller.side s).head.group)
       (answer-fits (stream caller.side sent).head.ioctl
-      (delivered-within cells (record { side = caller.side; at = 1; way = Down }) (ioctl_message (asking command s.next_ioctl) body) (ioctl_begun caller.side command s) (begun-within caller.side command s within) caller.side).answer)
+      (delivered-within K cells (record { side = caller.side; at = 1; way = Down }) (ioctl_message (asking command s.next_ioctl) body) (ioctl_begun caller.side command s) (begun-within K caller.side command s within) caller.side).answer)
     where
       either : (group : Bool) (one another : Outcome C) → length (content_of one.answer) ≤ IOCTL_MAX → length (content_of another.answer) ≤ IOCTL_MAX → length (content_of (cond group one another).answer) ≤ IOCTL_MAX
       either true one another first second = first
       either false one another first second = second
-  performed-fits caller (IoctlResult number) s within = answer-fits (stream caller.side s).head.ioctl (within caller.side).answer
-  performed-fits caller Signals s within = omega (arith, signals-fit (stream caller.side s).head.signals (within caller.side).signals)
-  performed-fits caller _ s within = omega arith
+  performed-fits K caller (IoctlResult number) s within = answer-fits (stream caller.side s).head.ioctl (within caller.side).answer
+  performed-fits K caller Signals s within = omega (arith, signals-fit (stream caller.side s).head.signals (within caller.side).signals)
+  performed-fits K caller _ s within = omega arith
 
-  pub content-fits : (caller : Caller) (asked : Request) (s : State C) → AreWithin s → length (content_of (called cells caller asked s).answer) ≤ content_max asked
-  content-fits caller asked s within = of-called cells caller asked s (λ outcome. length (content_of outcome.answer) ≤ content_max asked) (λ signal. omega arith) (performed-fits caller asked s within)
+  pub content-fits : (K : Behaviour) (caller : Caller) (asked : Request) (s : State C) → AreWithin s → length (content_of (called K cells caller asked s).answer) ≤ content_max asked
+  content-fits K caller asked s within = of-called K cells caller asked s (λ outcome. length (content_of outcome.answer) ≤ content_max asked) (λ signal. omega arith) (performed-fits K caller asked s within)
 
 pub content-bounded : (asked : Request) → content_max asked ≤ CONTENT_MAX
 content-bounded (Read n) = omega arith

@@ -6,6 +6,7 @@ use Rattle.strm_laws.specs.Prelude.{result_refusal, slot_behind, told_of}
 use Rattle.strm_types.specs.declared.answers.Answer.TheVariants.{Pending}
 use Rattle.strm_types.specs.declared.events.Event.TheVariants.{Ioctl}
 use Rattle.strm_types.specs.declared.slots.Slot.TheVariants.{Answered}
+use Rattle.strm_laws.specs.Behaviours.{Behaviour}
 use Rattle.strm_laws.specs.Calls.{called, group_at, ioctl_at, ioctl_sent, ioctl_told}
 use Rattle.strm_laws.specs.Refusals.{refused_by_state}
 use Rattle.strm_types.specs.Slots.{unless_same}
@@ -69,25 +70,26 @@ module _ {C : Type 0} where
   group-leaves Master command body s = refl
   group-leaves Slave command body s = refl
 
-  pub told-once : (cells : Cells C) (caller : Caller) (number asked : ℕ) (s : State C) → refused_by_state s caller (IoctlResult number) ≡ None
-      → refused_by_state (called cells caller (IoctlResult number) s).state caller (IoctlResult asked) ≡ Some Einval
-  told-once cells caller number asked s none =
+  pub told-once : (K : Behaviour) (cells : Cells C) (caller : Caller) (number asked : ℕ) (s : State C)
+      → refused_by_state K s caller (IoctlResult number) ≡ None
+      → refused_by_state K (called K cells caller (IoctlResult number) s).state caller (IoctlResult asked) ≡ Some Einval
+  told-once K cells caller number asked s none =
       result-behind asked caller.side s ∙ ap (λ (slot : PlainSlot). result_refusal asked slot) (answered-free number (slot_of caller.side s) none)
 
-  pub told-next : (cells : Cells C) (caller : Caller) (number command : ℕ) (body : List ℕ) (s : State C) → refused_by_state s caller (IoctlResult number) ≡ None
-      → refused_by_state (called cells caller (IoctlResult number) s).state caller (Ioctl command body) ≡ None
-  told-next cells caller number command body s none =
+  pub told-next : (K : Behaviour) (cells : Cells C) (caller : Caller) (number command : ℕ) (body : List ℕ) (s : State C) → refused_by_state K s caller (IoctlResult number) ≡ None
+      → refused_by_state K (called K cells caller (IoctlResult number) s).state caller (Ioctl command body) ≡ None
+  told-next K cells caller number command body s none =
       ap (λ (slot : PlainSlot). unless (is_free slot) Eagain) (slot-there caller.side (slot_behind (slot_of caller.side s)) s ∙ answered-free number (slot_of caller.side s) none)
 
-  pub told-pending : (cells : Cells C) (caller : Caller) (command number : ℕ) (body : List ℕ) (s : State C) → (called cells caller (Ioctl command body) s).answer ≡ Pending number
-      → refused_by_state (called cells caller (Ioctl command body) s).state caller (IoctlResult number) ≡ Some Eagain
-  told-pending cells caller command number body s is = at (asks_group caller.side command) is
+  pub told-pending : (K : Behaviour) (cells : Cells C) (caller : Caller) (command number : ℕ) (body : List ℕ) (s : State C) → (called K cells caller (Ioctl command body) s).answer ≡ Pending number
+      → refused_by_state K (called K cells caller (Ioctl command body) s).state caller (IoctlResult number) ≡ Some Eagain
+  told-pending K cells caller command number body s is = at (asks_group caller.side command) is
     where
       sent : State C
-      sent = (ioctl_sent cells caller.side command body s).state
+      sent = (ioctl_sent K cells caller.side command body s).state
 
-      at : (group : Bool) → (cond group (group_at caller.side command body s) (ioctl_at cells caller.side command body s)).answer ≡ Pending number
-          → result_refusal number (slot_of caller.side (cond group (group_at caller.side command body s) (ioctl_at cells caller.side command body s)).state) ≡ Some Eagain
+      at : (group : Bool) → (cond group (group_at caller.side command body s) (ioctl_at K cells caller.side command body s)).answer ≡ Pending number
+          → result_refusal number (slot_of caller.side (cond group (group_at caller.side command body s) (ioctl_at K cells caller.side command body s)).state) ≡ Some Eagain
       at true is = absurd (group-told command body (stream caller.side s).head.group number is)
       at false is = result-behind number caller.side sent ∙ waits-told number (slot_of caller.side sent) is
 
@@ -99,11 +101,11 @@ module _ {C : Type 0} where
       at (inl is) = inl (result-behind asked side s ∙ is)
       at (inr waits) = inr waits
 
-  pub told-at-once : (cells : Cells C) (caller : Caller) (command asked : ℕ) (body : List ℕ) (s : State C) → let t = called cells caller (Ioctl command body) s in
-      (refused_by_state t.state caller (IoctlResult asked) ≡ Some Einval) ⊎ ((number : ℕ) × (t.answer ≡ Pending number))
-  told-at-once cells caller command asked body s = at (asks_group caller.side command)
+  pub told-at-once : (K : Behaviour) (cells : Cells C) (caller : Caller) (command asked : ℕ) (body : List ℕ) (s : State C) → let t = called K cells caller (Ioctl command body) s in
+      (refused_by_state K t.state caller (IoctlResult asked) ≡ Some Einval) ⊎ ((number : ℕ) × (t.answer ≡ Pending number))
+  told-at-once K cells caller command asked body s = at (asks_group caller.side command)
     where
-      at : (group : Bool) → let t = cond group (group_at caller.side command body s) (ioctl_at cells caller.side command body s) in
+      at : (group : Bool) → let t = cond group (group_at caller.side command body s) (ioctl_at K cells caller.side command body s) in
           (result_refusal asked (slot_of caller.side t.state) ≡ Some Einval) ⊎ ((number : ℕ) × (t.answer ≡ Pending number))
       at true = inl (ap (λ (slot : PlainSlot). result_refusal asked slot) (group-leaves caller.side command body s))
-      at false = told-or-waits asked caller.side (ioctl_sent cells caller.side command body s).state
+      at false = told-or-waits asked caller.side (ioctl_sent K cells caller.side command body s).state

@@ -13,6 +13,7 @@ use Rattle.strm_types.specs.declared.books.TheConstants.{BOOK_MAX}
 use Rattle.strm_types.specs.declared.events.Event.TheVariants.{Flush, Ioctl}
 use Rattle.strm_types.specs.declared.limits.TheConstants.{CONTROL_MAX, DATA_MAX}
 use Rattle.strm_types.specs.Books as books
+use Rattle.strm_laws.specs.Behaviours.{Behaviour}
 use Rattle.strm_laws.specs.Calls.{Outcome, called, delivers, group_at, ioctl_at, ioctl_begun, ioctl_sent, ioctl_told, message_put, performed, put_at, write_sent, wrote}
 use Rattle.strm_laws.specs.Closes.{closed_at, driver_emptied, ended, head_emptied, hung_up_at, stream_emptied}
 use Rattle.strm_laws.specs.Kept.{count_came, gone}
@@ -76,55 +77,59 @@ module _ {C : Type 0} (cells : Cells C) where
   Books s told t = BooksMade cells s told t
 
   -- a call that delivers nothing books nothing, and makes nothing
-  performed-same : (caller : Caller) (asked : Request) (s : State C) → delivers asked ≡ false → SameBooks s (performed cells caller asked s).state
-  performed-same caller Shut s still = close-books caller.side s
-  performed-same caller (Push name) s still = push-holds caller.side (SameBooks s) AnyModules (books-survive s caller.side) (named_by name) s (λ q. tt) refl
-  performed-same caller Pop s still = pop-holds caller.side (SameBooks s) AnyModules (books-survive s caller.side) s refl
-  performed-same caller (Flush what band) s still = absurd (cc)
-  performed-same caller (Write bytes) s still = absurd (cc)
-  performed-same caller (Put prio control body) s still = absurd (cc)
-  performed-same caller (Ioctl command body) s still = absurd (cc)
-  performed-same caller _ s still = refl
+  performed-same : (K : Behaviour) (caller : Caller) (asked : Request) (s : State C) → delivers asked ≡ false
+      → SameBooks s (performed K cells caller asked s).state
+  performed-same K caller Shut s still = close-books caller.side s
+  performed-same K caller (Push name) s still = push-holds caller.side (SameBooks s) AnyModules (books-survive s caller.side) (named_by K name) s (λ q. tt) refl
+  performed-same K caller Pop s still = pop-holds caller.side (SameBooks s) AnyModules (books-survive s caller.side) s refl
+  performed-same K caller (Flush what band) s still = absurd (cc)
+  performed-same K caller (Write bytes) s still = absurd (cc)
+  performed-same K caller (Put prio control body) s still = absurd (cc)
+  performed-same K caller (Ioctl command body) s still = absurd (cc)
+  performed-same K caller _ s still = refl
 
-  pub still-same : (caller : Caller) (asked : Request) (s : State C) → delivers asked ≡ false → SameBooks s (called cells caller asked s).state
-  still-same caller asked s still = of-called cells caller asked s (λ outcome. SameBooks s outcome.state) (λ signal. refl) (performed-same caller asked s still)
+  pub still-same : (K : Behaviour) (caller : Caller) (asked : Request) (s : State C) → delivers asked ≡ false
+      → SameBooks s (called K cells caller asked s).state
+  still-same K caller asked s still = of-called K cells caller asked s (λ outcome. SameBooks s outcome.state) (λ signal. refl) (performed-same K caller asked s still)
 
-  performed-none : (caller : Caller) (asked : Request) (s : State C) → delivers asked ≡ false → all_made (performed cells caller asked s).gone ≡ 0
-  performed-none caller Shut s still = close-none (λ d c. true) caller.side s
-  performed-none caller (Push name) s still = push-none (λ d c. true) caller.side (named_by name) s
-  performed-none caller Pop s still = pop-none (λ d c. true) caller.side s
-  performed-none caller (Read n) s still =
+  performed-none : (K : Behaviour) (caller : Caller) (asked : Request) (s : State C) → delivers asked ≡ false
+      → all_made (performed K cells caller asked s).gone ≡ 0
+  performed-none K caller Shut s still = close-none (λ d c. true) caller.side s
+  performed-none K caller (Push name) s still = push-none (λ d c. true) caller.side (named_by K name) s
+  performed-none K caller Pop s still = pop-none (λ d c. true) caller.side s
+  performed-none K caller (Read n) s still =
       let h = (stream caller.side s).head in
       read-none (λ d c. true) (direction_of (head_of caller.side)) h.read_mode h.control_mode (min n READ_MAX) h.queue.messages
-  performed-none caller (Get wanted cmax dmax) s still = get-none (λ d c. true) (direction_of (head_of caller.side)) wanted (min cmax READ_MAX) (min dmax READ_MAX) (stream caller.side s).head.queue.messages
-  performed-none caller (Flush what band) s still = absurd (cc)
-  performed-none caller (Write bytes) s still = absurd (cc)
-  performed-none caller (Put prio control body) s still = absurd (cc)
-  performed-none caller (Ioctl command body) s still = absurd (cc)
-  performed-none caller _ s still = refl
+  performed-none K caller (Get wanted cmax dmax) s still = get-none (λ d c. true) (direction_of (head_of caller.side)) wanted (min cmax READ_MAX) (min dmax READ_MAX) (stream caller.side s).head.queue.messages
+  performed-none K caller (Flush what band) s still = absurd (cc)
+  performed-none K caller (Write bytes) s still = absurd (cc)
+  performed-none K caller (Put prio control body) s still = absurd (cc)
+  performed-none K caller (Ioctl command body) s still = absurd (cc)
+  performed-none K caller _ s still = refl
 
   -- a flush and an ioctl book what their deliveries make
-  flush-books : (side : Side) (what : FlushQueues) (band : Option Band) (s : State C) → let t = flushed_on cells band side what s in Books s t.gone t.state
-  flush-books side what band s = delivered-books cells (record { side = side; at = 1; way = Down }) (flush_message (flush_bytes (asked_of what band))) s
+  flush-books : (K : Behaviour) (side : Side) (what : FlushQueues) (band : Option Band) (s : State C) → let t = flushed_on K cells band side what s in Books s t.gone t.state
+  flush-books K side what band s = delivered-books cells K (record { side = side; at = 1; way = Down }) (flush_message (flush_bytes (asked_of what band))) s
 
   group-books : (side : Side) (command : ℕ) (body : List ℕ) (s : State C) → Books s [] (group_at side command body s).state
   group-books side command body s = nothing-booked cells s (group_at side command body s).state refl
 
-  ioctl-books : (side : Side) (command : ℕ) (body : List ℕ) (s : State C) → let t = ioctl_sent cells side command body s in Books s t.gone (ioctl_told side t.state).state
-  ioctl-books side command body s =
+  ioctl-books : (K : Behaviour) (side : Side) (command : ℕ) (body : List ℕ) (s : State C) → let t = ioctl_sent K cells side command body s in Books s t.gone (ioctl_told side t.state).state
+  ioctl-books K side command body s =
       let begun = ioctl_begun side command s in
-      let t = ioctl_sent cells side command body s in
+      let t = ioctl_sent K cells side command body s in
       booked-before cells s begun _ t.gone refl
-      (booked-behind cells begun t.state (ioctl_told side t.state).state t.gone (delivered-books cells (record { side = side; at = 1; way = Down }) (ioctl_message (asking command s.next_ioctl) body) begun) refl)
+      (booked-behind cells begun t.state (ioctl_told side t.state).state t.gone (delivered-books cells K (record { side = side; at = 1; way = Down }) (ioctl_message (asking command s.next_ioctl) body) begun) refl)
 
   -- the chunks of a write
-  pub chunks-book : (side : Side) (chunks : List (List C)) (s : State C) → let t = chunks_sent cells side chunks s in Books s t.gone t.state
-  chunks-book side [] s = nothing-booked cells s s refl
-  chunks-book side (chunk ∷ chunks) s =
-      let t = delivered cells (below_head side) (data_message chunk) s in
-      let more = chunks_sent cells side chunks t.state in
+  pub chunks-book : (K : Behaviour) (side : Side) (chunks : List (List C)) (s : State C)
+      → let t = chunks_sent K cells side chunks s in Books s t.gone t.state
+  chunks-book K side [] s = nothing-booked cells s s refl
+  chunks-book K side (chunk ∷ chunks) s =
+      let t = delivered K cells (below_head side) (data_message chunk) s in
+      let more = chunks_sent K cells side chunks t.state in
       either-books (is_full_below 0 side s) _ _ (nothing-booked cells s s refl)
-      (books-both cells s t.state more.state t.gone more.gone (delivered-books cells (below_head side) (data_message chunk) s) (chunks-book side chunks t.state))
+      (books-both cells s t.state more.state t.gone more.gone (delivered-books cells K (below_head side) (data_message chunk) s) (chunks-book K side chunks t.state))
     where
       either-books : (full : Bool) (one another : Wrote C) → Books s one.gone one.state → Books s another.gone another.state → Books s (cond full one another).gone (cond full one another).state
       either-books true one another first second = first
@@ -156,12 +161,12 @@ module _ {C : Type 0} (cells : Cells C) where
   put-written side prio (Some control) None s = join-written (direction_from side) (book (direction_from side) s).written control []
   put-written side prio (Some control) (Some body) s = join-written (direction_from side) (book (direction_from side) s).written control body
 
-module _ {C : Type 0} (cells : Cells C) where
+module _ {C : Type 0} (K : Behaviour) (cells : Cells C) where
   -- a write takes no more than it is given
-  chunks-few : (side : Side) (count : ℕ) (xs : List C) (s : State C) → (chunks_sent cells side (chunks_of count xs) s).taken ≤ length xs
+  chunks-few : (side : Side) (count : ℕ) (xs : List C) (s : State C) → (chunks_sent K cells side (chunks_of count xs) s).taken ≤ length xs
   chunks-few side zero xs s = omega arith
   chunks-few side (suc count) xs s =
-      let t = delivered cells (below_head side) (data_message (take 256 xs)) s in
+      let t = delivered K cells (below_head side) (data_message (take 256 xs)) s in
       let more = chunks-few side count (drop 256 xs) t.state in
       either-few (is_full_below 0 side s) _ _ (omega arith) (omega (arith, more, length-take 256 xs, length-drop 256 xs))
     where
@@ -169,7 +174,7 @@ module _ {C : Type 0} (cells : Cells C) where
       either-few true one another first second = first
       either-few false one another first second = second
 
-  sent-few : (side : Side) (xs : List C) (s : State C) → (cells_sent cells side xs s).taken ≤ length xs
+  sent-few : (side : Side) (xs : List C) (s : State C) → (cells_sent K cells side xs s).taken ≤ length xs
   sent-few side xs s = chunks-few side (chunk_count (length xs)) xs s
 
 module _ {C : Type 0} (cells : Cells C) (p : Dir → C → Bool) (numbered : Numbered cells p) where
@@ -230,22 +235,22 @@ module _ {C : Type 0} (cells : Cells C) (p : Dir → C → Bool) (numbered : Num
   abbrev Counts : Caller → State C → Outcome C → Type 0
   Counts caller s outcome = count_by (p (direction_from caller.side)) outcome.came + weight_made p outcome.gone + total s ≡ total outcome.state
 
-  write-counts : (caller : Caller) (bytes : List ℕ) (s : State C) → Counts caller s (wrote cells caller.side bytes s)
-  write-counts caller bytes s =
+  write-counts : (K : Behaviour) (caller : Caller) (bytes : List ℕ) (s : State C) → Counts caller s (wrote K cells caller.side bytes s)
+  write-counts K caller bytes s =
       let side = caller.side in
       let dir = direction_from side in
       let n = (book dir s).written in
-      let t = write_sent cells side bytes s in
+      let t = write_sent K cells side bytes s in
       let xs = cells_written cells dir n bytes in
-      let few = sent-few cells side xs s in
+      let few = sent-few K cells side xs s in
       let long : length (take t.taken bytes) ≡ t.taken = omega (arith, length-take t.taken bytes, few, written-long cells dir n bytes) in
       ap (λ ys. count_by (p dir) ys + weight_made p t.gone + total s) (take-written cells t.taken dir n bytes)
-      ∙ written-counts dir (take t.taken bytes) s t.state t.gone (chunks-book cells side (chunks_of (chunk_count (length xs)) xs) s)
+      ∙ written-counts dir (take t.taken bytes) s t.state t.gone (chunks-book cells K side (chunks_of (chunk_count (length xs)) xs) s)
       ∙ ap (λ k. total (with_book dir (with_written k (book dir t.state)) t.state)) long
 
-  put-counts : (caller : Caller) (prio : Prio) (control body : Option (List ℕ)) (s : State C) → Counts caller s (performed cells caller (Put prio control body) s)
-  put-counts caller prio control body s =
-      ap (λ xs. count_by (p dir) xs + weight_made p (put_at cells side prio control body s).gone + total s) (put-written cells side prio control body s) ∙ at control body
+  put-counts : (K : Behaviour) (caller : Caller) (prio : Prio) (control body : Option (List ℕ)) (s : State C) → Counts caller s (performed K cells caller (Put prio control body) s)
+  put-counts K caller prio control body s =
+      ap (λ xs. count_by (p dir) xs + weight_made p (put_at K cells side prio control body s).gone + total s) (put-written cells side prio control body s) ∙ at control body
     where
       side : Side
       side = caller.side
@@ -253,39 +258,39 @@ module _ {C : Type 0} (cells : Cells C) (p : Dir → C → Bool) (numbered : Num
       dir : Dir
       dir = direction_from side
 
-      sent-counts : (xs ys : List ℕ) (m : Message C) → let t = delivered cells (record { side = side; at = 1; way = Down }) m s in
+      sent-counts : (xs ys : List ℕ) (m : Message C) → let t = delivered K cells (record { side = side; at = 1; way = Down }) m s in
           count_by (p dir) (cells_written cells dir (book dir s).written (xs ++ ys)) + weight_made p t.gone + total s ≡ total (with_book dir (with_written (length xs + length ys) (book dir t.state)) t.state)
       sent-counts xs ys m =
           let to : Spot = record { side = side; at = 1; way = Down } in
-          let t = delivered cells to m s in
-          written-counts dir (xs ++ ys) s t.state t.gone (delivered-books cells to m s) ∙ ap (λ k. total (with_book dir (with_written k (book dir t.state)) t.state)) (length-append xs ys)
+          let t = delivered K cells to m s in
+          written-counts dir (xs ++ ys) s t.state t.gone (delivered-books cells K to m s) ∙ ap (λ k. total (with_book dir (with_written k (book dir t.state)) t.state)) (length-append xs ys)
 
-      at : (c b : Option (List ℕ)) → let t = put_at cells side prio c b s in count_by (p dir) (cells_written cells dir (book dir s).written (part c ++ part b)) + weight_made p t.gone + total s ≡ total t.state
+      at : (c b : Option (List ℕ)) → let t = put_at K cells side prio c b s in count_by (p dir) (cells_written cells dir (book dir s).written (part c ++ part b)) + weight_made p t.gone + total s ≡ total t.state
       at None None = omega arith
       at None (Some ys) = sent-counts [] ys (message_put cells side prio None (Some ys) s)
       at (Some xs) b = sent-counts xs (part b) (message_put cells side prio (Some xs) b s)
 
-  still-counts : (caller : Caller) (asked : Request) (s : State C) → delivers asked ≡ false → weight_made p (performed cells caller asked s).gone + total s ≡ total (performed cells caller asked s).state
-  still-counts caller asked s still =
-      let t = performed cells caller asked s in
-      books-count s t.state t.gone (none-booked cells s t.state t.gone (performed-same cells caller asked s still) (performed-none cells caller asked s still))
+  still-counts : (K : Behaviour) (caller : Caller) (asked : Request) (s : State C) → delivers asked ≡ false → weight_made p (performed K cells caller asked s).gone + total s ≡ total (performed K cells caller asked s).state
+  still-counts K caller asked s still =
+      let t = performed K cells caller asked s in
+      books-count s t.state t.gone (none-booked cells s t.state t.gone (performed-same cells K caller asked s still) (performed-none cells K caller asked s still))
 
   -- a call
-  performed-counts : (caller : Caller) (asked : Request) (s : State C) → Counts caller s (performed cells caller asked s)
-  performed-counts caller (Write bytes) s = write-counts caller bytes s
-  performed-counts caller (Put prio control body) s = put-counts caller prio control body s
-  performed-counts caller (Flush what band) s = omega (arith, books-count s (flushed_on cells band caller.side what s).state (flushed_on cells band caller.side what s).gone (flush-books cells caller.side what band s))
-  performed-counts caller (Ioctl command body) s = at (asks_group caller.side command)
+  performed-counts : (K : Behaviour) (caller : Caller) (asked : Request) (s : State C) → Counts caller s (performed K cells caller asked s)
+  performed-counts K caller (Write bytes) s = write-counts K caller bytes s
+  performed-counts K caller (Put prio control body) s = put-counts K caller prio control body s
+  performed-counts K caller (Flush what band) s = omega (arith, books-count s (flushed_on K cells band caller.side what s).state (flushed_on K cells band caller.side what s).gone (flush-books cells K caller.side what band s))
+  performed-counts K caller (Ioctl command body) s = at (asks_group caller.side command)
     where
-      at : (group : Bool) → Counts caller s (cond group (group_at caller.side command body s) (ioctl_at cells caller.side command body s))
+      at : (group : Bool) → Counts caller s (cond group (group_at caller.side command body s) (ioctl_at K cells caller.side command body s))
       at true = omega (arith, books-count s (group_at caller.side command body s).state [] (group-books cells caller.side command body s))
-      at false = let t = ioctl_at cells caller.side command body s in omega (arith, books-count s t.state t.gone (ioctl-books cells caller.side command body s))
-  performed-counts caller asked s = omega (arith, still-counts caller asked s refl)
+      at false = let t = ioctl_at K cells caller.side command body s in omega (arith, books-count s t.state t.gone (ioctl-books cells K caller.side command body s))
+  performed-counts K caller asked s = omega (arith, still-counts K caller asked s refl)
 
   -- a step
-  pub step-counts : (s : State C) (entry : PlainEntry) → count_came cells p s entry + weight_made p (gone cells s entry) + total s ≡ total (after cells s entry)
-  step-counts s (Called caller asked answer) = of-called cells caller asked s (Counts caller s) (λ signal. omega arith) (performed-counts caller asked s)
-  step-counts s (Turned name turn) = omega (arith, books-count s (turned cells name turn s).state (turned cells name turn s).gone (turn-books cells name turn s))
+  pub step-counts : (K : Behaviour) (s : State C) (entry : PlainEntry) → count_came K cells p s entry + weight_made p (gone K cells s entry) + total s ≡ total (after K cells s entry)
+  step-counts K s (Called caller asked answer) = of-called K cells caller asked s (Counts caller s) (λ signal. omega arith) (performed-counts K caller asked s)
+  step-counts K s (Turned name turn) = omega (arith, books-count s (turned K cells name turn s).state (turned K cells name turn s).gone (turn-books cells K name turn s))
 
 pub both-true : (a b : Bool) → (a && b) ≡ true → (a ≡ true) × (b ≡ true)
 both-true true true is = (refl, refl)
@@ -356,42 +361,43 @@ module _ {C : Type 0} where
       at SlaveToMaster MasterToSlave = let low = range-low MasterToSlave s room in omega (arith, low.0, books.written MasterToSlave)
       at SlaveToMaster SlaveToMaster = let low = range-low SlaveToMaster s room in omega (arith, low.0, books.written SlaveToMaster, less)
 
-  performed-few : (cells : Cells C) (caller : Caller) (asked : Request) (s : State C) → or_else (refused_at_once s caller asked) (unfit s caller asked) ≡ None → WritesFew asked → FewBooked s
-      → (in_range s ≡ true → MadeFew (performed cells caller asked s).state) → FewBooked (performed cells caller asked s).state
-  performed-few cells caller (Write bytes) s allowed less few made =
+  performed-few : (K : Behaviour) (cells : Cells C) (caller : Caller) (asked : Request) (s : State C) → or_else (refused_at_once s caller asked) (unfit K s caller asked) ≡ None → WritesFew asked → FewBooked s
+      → (in_range s ≡ true → MadeFew (performed K cells caller asked s).state) → FewBooked (performed K cells caller asked s).state
+  performed-few K cells caller (Write bytes) s allowed less few made =
       let dir = direction_from caller.side in
       let xs = cells_written cells dir (book dir s).written bytes in
-      let t = write_sent cells caller.side bytes s in
-      let range = (fitting-met s caller (Write bytes) allowed).booked in
+      let t = write_sent K cells caller.side bytes s in
+      let range = (fitting-met K s caller (Write bytes) allowed).booked in
       written-few cells dir t.taken s t.state t.gone range
-      (omega (arith, sent-few cells caller.side xs s, written-long cells dir (book dir s).written bytes, less)) (chunks-book cells caller.side (chunks_of (chunk_count (length xs)) xs) s) (made range)
-  performed-few cells caller (Put prio control body) s allowed less few made =
-      let may = fitting-met s caller (Put prio control body) allowed in
+      (omega (arith, sent-few K cells caller.side xs s, written-long cells dir (book dir s).written bytes, less)) (chunks-book cells K caller.side (chunks_of (chunk_count (length xs)) xs) s) (made range)
+  performed-few K cells caller (Put prio control body) s allowed less few made =
+      let may = fitting-met K s caller (Put prio control body) allowed in
       at control body may.booked (omega (arith, parts-few prio control body may.right)) (made may.booked)
     where
-      sent : (n : ℕ) (m : Message C) → in_range s ≡ true → n < 2 ^ 62 → (let t = delivered cells (record { side = caller.side; at = 1; way = Down }) m s in
+      sent : (n : ℕ) (m : Message C) → in_range s ≡ true → n < 2 ^ 62 → (let t = delivered K cells (record { side = caller.side; at = 1; way = Down }) m s in
           let u = with_book (direction_from caller.side) (with_written n (book (direction_from caller.side) t.state)) t.state in MadeFew u → FewBooked u)
-      sent n m room less made = written-few cells (direction_from caller.side) n s _ _ room less (delivered-books cells (record { side = caller.side; at = 1; way = Down }) m s) made
+      sent n m room less made = written-few cells (direction_from caller.side) n s _ _ room less (delivered-books cells K (record { side = caller.side; at = 1; way = Down }) m s) made
 
-      at : (c b : Option (List ℕ)) → in_range s ≡ true → length (part c) + length (part b) < 2 ^ 62 → MadeFew (put_at cells caller.side prio c b s).state → FewBooked (put_at cells caller.side prio c b s).state
+      at : (c b : Option (List ℕ)) → in_range s ≡ true → length (part c) + length (part b) < 2 ^ 62 → MadeFew (put_at K cells caller.side prio c b s).state → FewBooked (put_at K cells caller.side prio c b s).state
       at None None room less made = few
       at None (Some ys) room less made = sent (0 + length ys) (message_put cells caller.side prio None (Some ys) s) room less made
       at (Some xs) b room less made = sent (length xs + length (part b)) (message_put cells caller.side prio (Some xs) b s) room less made
-  performed-few cells caller (Flush what band) s allowed less few made =
-      let range = (fitting-met s caller (Flush what band) allowed).booked in
-      turn-few cells s (flushed_on cells band caller.side what s).state (flushed_on cells band caller.side what s).gone range (flush-books cells caller.side what band s) (made range)
-  performed-few cells caller (Ioctl command body) s allowed less few made = at (asks_group caller.side command) made
+  performed-few K cells caller (Flush what band) s allowed less few made =
+      let range = (fitting-met K s caller (Flush what band) allowed).booked in
+      turn-few cells s (flushed_on K cells band caller.side what s).state (flushed_on K cells band caller.side what s).gone range (flush-books cells K caller.side what band s) (made range)
+  performed-few K cells caller (Ioctl command body) s allowed less few made = at (asks_group caller.side command) made
     where
-      at : (group : Bool) → let t = cond group (group_at caller.side command body s) (ioctl_at cells caller.side command body s) in (in_range s ≡ true → MadeFew t.state) → FewBooked t.state
+      at : (group : Bool) → let t = cond group (group_at caller.side command body s) (ioctl_at K cells caller.side command body s) in (in_range s ≡ true → MadeFew t.state) → FewBooked t.state
       at true made = same-few s (group_at caller.side command body s).state refl few
       at false made =
-          let range = (fitting-met s caller (Ioctl command body) allowed).booked in
-          let t = ioctl_at cells caller.side command body s in
-          turn-few cells s t.state t.gone range (ioctl-books cells caller.side command body s) (made range)
-  performed-few cells caller asked s allowed less few made = same-few s (performed cells caller asked s).state (performed-same cells caller asked s refl) few
+          let range = (fitting-met K s caller (Ioctl command body) allowed).booked in
+          let t = ioctl_at K cells caller.side command body s in
+          turn-few cells s t.state t.gone range (ioctl-books cells K caller.side command body s) (made range)
+  performed-few K cells caller asked s allowed less few made = same-few s (performed K cells caller asked s).state (performed-same cells K caller asked s refl) few
 
-  pub call-few : (cells : Cells C) (caller : Caller) (asked : Request) (s : State C) → or_else (refused_at_once s caller asked) (refused_by_state s caller asked) ≡ None → WritesFew asked → FewBooked s
-      → (in_range s ≡ true → MadeFew (called cells caller asked s).state) → FewBooked (called cells caller asked s).state
-  call-few cells caller asked s allowed less few made =
-      of-allowed cells caller asked s (λ outcome. (in_range s ≡ true → MadeFew outcome.state) → FewBooked outcome.state) (λ signal made. few) allowed
-      (λ fits. performed-few cells caller asked s fits less few) made
+  pub call-few : (K : Behaviour) (cells : Cells C) (caller : Caller) (asked : Request) (s : State C) → or_else (refused_at_once s caller asked) (refused_by_state K s caller asked) ≡ None → WritesFew asked → FewBooked s
+      → (in_range s ≡ true → MadeFew (called K cells caller asked s).state) → FewBooked (called K cells caller asked s).state
+  call-few K cells caller asked s allowed less few made =
+      of-allowed K cells caller asked s (λ outcome. (in_range s ≡ true → MadeFew outcome.state) → FewBooked outcome.state)
+      (λ signal made. few) allowed
+      (λ fits. performed-few K cells caller asked s fits less few) made

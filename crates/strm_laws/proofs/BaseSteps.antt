@@ -5,6 +5,7 @@ use Rattle.strm_laws.specs.Prelude.{QueuePair, stood}
 use Rattle.std.proofs.Common.{◌^◌}
 use Rattle.std.specs.List.{AllByRecursion}
 use Rattle.strm_laws.specs.Bases.{IsBase}
+use Rattle.strm_laws.specs.Behaviours.{Behaviour}
 use Rattle.strm_laws.specs.Kept.{NothingUnread, told_by}
 use Rattle.strm_laws.specs.Ledgers.{Balanced, FewBooked}
 use Rattle.strm_laws.specs.Restorable.{AreWithinEntries, GoodModule, GoodPair, GoodStream, Restorable}
@@ -58,13 +59,13 @@ opening-base = record { ordered = restorable-order {C = ℕ} opening opening-res
     low-made MasterToSlave = omega arith
     low-made SlaveToMaster = omega arith
 
-pub base-on : (s : State ℕ) (fates : Fates) (es : List PlainEntry) → IsBase s fates → AreWithinEntries es → IsLegal plain s es → FewBooked (replay plain s es) → IsBase (replay plain s es) (told_by plain s es fates)
-base-on s fates es base within legal few =
-    let is = replay-restorable plain s es within base.restorable legal in
+pub base-on : (K : Behaviour) (s : State ℕ) (fates : Fates) (es : List PlainEntry) → IsBase s fates → AreWithinEntries es → IsLegal K plain s es → FewBooked (replay K plain s es) → IsBase (replay K plain s es) (told_by K plain s es fates)
+base-on K s fates es base within legal few =
+    let is = replay-restorable K plain s es within base.restorable legal in
     record {
-      ordered = restorable-order (replay plain s es) is;
+      ordered = restorable-order (replay K plain s es) is;
       restorable = is;
-      balanced = λ dir. agrees dir s fates es (restorable-unread s base.restorable) base.restorable.idle legal (base.balanced dir)
+      balanced = λ dir. agrees K dir s fates es (restorable-unread s base.restorable) base.restorable.idle legal (base.balanced dir)
           (let w = few.written dir in let m = few.made dir in omega arith);
       few = few;
     }

@@ -15,6 +15,7 @@ use Rattle.strm_types.specs.declared.modes.Mode as modes
 use Rattle.strm_types.specs.declared.modes.Mode.TheVariants as chosen
 use Rattle.strm_types.specs.declared.names.Place.TheVariants.{Head}
 use Rattle.strm_types.specs.declared.names.Place.TheVariants as places
+use Rattle.strm_laws.specs.Behaviours.{Behaviour}
 use Rattle.strm_laws.specs.Calls.{group_at, ioctl_at, ioctl_begun, ioctl_called, ioctl_sent, message_put, mode_set, performed, put_at}
 use Rattle.strm_laws.specs.Closes.{closed_at, driver_emptied, ended, head_emptied, hung_up_at, stream_emptied}
 use Rattle.strm_laws.specs.Earlier.{before_at, before_driver, before_head, driver_place, places_of, queue_named}
@@ -223,48 +224,49 @@ module _ {C : Type 0} where
     abbrev below : Side → Spot
     below side = record { side = side; at = 1; way = Down }
 
-    given-named : (to : Spot) (m : Message C) (s : State C) → Named s → Named (delivered cells to m s).state
-    given-named to m s are = named-of (stands_of s) (delivered cells to m s).state (delivered-enabled (stands_of s) cells to m s (refl, are))
+    given-named : (K : Behaviour) (to : Spot) (m : Message C) (s : State C) → Named s → Named (delivered K cells to m s).state
+    given-named K to m s are = named-of (stands_of s) (delivered K cells to m s).state (delivered-enabled (stands_of s) K cells to m s (refl, are))
 
-    put-named : (side : Side) (prio : Prio) (control body : Option (List ℕ)) (s : State C) → Named s → Named (put_at cells side prio control body s).state
-    put-named side prio None None s are = are
-    put-named side prio None (Some xs) s are = given-named (below side) (message_put cells side prio None (Some xs) s) s are
-    put-named side prio (Some ys) body s are = given-named (below side) (message_put cells side prio (Some ys) body s) s are
+    put-named : (K : Behaviour) (side : Side) (prio : Prio) (control body : Option (List ℕ)) (s : State C) → Named s → Named (put_at K cells side prio control body s).state
+    put-named K side prio None None s are = are
+    put-named K side prio None (Some xs) s are = given-named K (below side) (message_put cells side prio None (Some xs) s) s are
+    put-named K side prio (Some ys) body s are = given-named K (below side) (message_put cells side prio (Some ys) body s) s are
 
     told-named : (side : Side) (s : State C) → Named s → Named (with_ioctl side (slot_behind (stream side s).head.ioctl) s)
     told-named side s are = same-named side _ s refl are
 
-    ioctl-named : (side : Side) (command : ℕ) (body : List ℕ) (s : State C) → Named s → Named (ioctl_called cells side command body s).state
-    ioctl-named side command body s are = at (asks_group side command)
+    ioctl-named : (K : Behaviour) (side : Side) (command : ℕ) (body : List ℕ) (s : State C) → Named s
+        → Named (ioctl_called K cells side command body s).state
+    ioctl-named K side command body s are = at (asks_group side command)
       where
-        at : (group : Bool) → Named (cond group (group_at side command body s) (ioctl_at cells side command body s)).state
+        at : (group : Bool) → Named (cond group (group_at side command body s) (ioctl_at K cells side command body s)).state
         at true =
             let h = (stream side s).head in
             same-named side (record (stream side s) { head = record h { group = group_behind command body h.group; ioctl = Free } }) s refl are
-        at false = told-named side (ioctl_sent cells side command body s).state (given-named (below side) (ioctl_message (asking command s.next_ioctl) body) (ioctl_begun side command s) (same-named side _ s refl are))
+        at false = told-named side (ioctl_sent K cells side command body s).state (given-named K (below side) (ioctl_message (asking command s.next_ioctl) body) (ioctl_begun side command s) (same-named side _ s refl are))
 
-    pub call-named : (caller : Caller) (asked : Request) (s : State C) → Named s → Named (performed cells caller asked s).state
-    call-named caller OpenMaster s are = same-named Master (record (stream Master s) { opened = Open }) s refl are
-    call-named caller OpenSlave s are =
+    pub call-named : (K : Behaviour) (caller : Caller) (asked : Request) (s : State C) → Named s → Named (performed K cells caller asked s).state
+    call-named K caller OpenMaster s are = same-named Master (record (stream Master s) { opened = Open }) s refl are
+    call-named K caller OpenSlave s are =
         if-there (stands_of s) (not (is_none_left (stream Master s).driver.queue.messages)) (driver_of Master) s.enabled refl are
-    call-named caller Shut s are = close-named caller.side s are
-    call-named caller (Push name) s are = push-named caller.side (named_by name) s are
-    call-named caller Pop s are = pop-named caller.side s are
-    call-named caller (Flush what band) s are = given-named (below caller.side) (flush_message (flush_bytes (asked_of what band))) s are
-    call-named caller (Write bytes) s are =
+    call-named K caller Shut s are = close-named caller.side s are
+    call-named K caller (Push name) s are = push-named caller.side (named_by K name) s are
+    call-named K caller Pop s are = pop-named caller.side s are
+    call-named K caller (Flush what band) s are = given-named K (below caller.side) (flush_message (flush_bytes (asked_of what band))) s are
+    call-named K caller (Write bytes) s are =
         let dir = direction_from caller.side in
-        cells_sent-holds cells Named given-named caller.side (cells_written cells dir (book dir s).written bytes) s are
-    call-named caller (Read n) s are =
+        cells_sent-holds K cells Named (given-named K) caller.side (cells_written cells dir (book dir s).written bytes) s are
+    call-named K caller (Read n) s are =
         let h = (stream caller.side s).head in
         goes-named caller.side (with_head_queue (read_queue h.read_mode h.control_mode (min n READ_MAX) h.queue) (stream caller.side s)) (read_lets_go h.read_mode h.control_mode (min n READ_MAX) h.queue) (before_head caller.side s) s refl
         (before-there (stands_of s) s refl caller.side Up 0) are
-    call-named caller (Put prio control body) s are = put-named caller.side prio control body s are
-    call-named caller (Get wanted cmax dmax) s are =
+    call-named K caller (Put prio control body) s are = put-named K caller.side prio control body s are
+    call-named K caller (Get wanted cmax dmax) s are =
         let q = (stream caller.side s).head.queue in
         goes-named caller.side (with_head_queue (get_queue wanted (min cmax READ_MAX) (min dmax READ_MAX) q) (stream caller.side s)) (get_lets_go wanted (min cmax READ_MAX) (min dmax READ_MAX) q) (before_head caller.side s) s refl
         (before-there (stands_of s) s refl caller.side Up 0) are
-    call-named caller (Mode mode) s are = mode-named caller.side mode s are
-    call-named caller (Ioctl command body) s are = ioctl-named caller.side command body s are
-    call-named caller (IoctlResult number) s are = told-named caller.side s are
-    call-named caller Signals s are = same-named caller.side _ s refl are
-    call-named caller _ s are = are
+    call-named K caller (Mode mode) s are = mode-named caller.side mode s are
+    call-named K caller (Ioctl command body) s are = ioctl-named K caller.side command body s are
+    call-named K caller (IoctlResult number) s are = told-named caller.side s are
+    call-named K caller Signals s are = same-named caller.side _ s refl are
+    call-named K caller _ s are = are

@@ -12,6 +12,7 @@ use Rattle.strm_types.specs.declared.kinds.MsgKind.TheVariants.{Read, Stop, Star
 use Rattle.strm_types.specs.declared.names.Place.TheVariants.{Head}
 use Rattle.strm_types.specs.declared.names.Place.TheVariants as places
 use Rattle.strm_types.specs.declared.spots.Asks.TheVariants as asked
+use Rattle.strm_laws.specs.Behaviours.{Behaviour}
 use Rattle.strm_laws.specs.Earlier.{before_driver, driver_place, places_of}
 use Rattle.strm_laws.specs.ModuleTurns.{again_at, asked_turn, bytes_at, call_at, calls, made_below, module_called, moved_on, moved_within, place_named, queue_ended, turned_named, turned_there, waits_there}
 use Rattle.strm_laws.specs.Past.{has_room_past, waits_on, writer_waits}
@@ -24,7 +25,8 @@ use Rattle.strm_laws.specs.Turns.{driver_serves, held_back, is_stopped_across, m
 use Rattle.strm_laws.proofs.EnabledExist.{AreNoted, among-there, any-noted, before-there, if-there, index-there, noted-there, some-there, without-there}
 use Rattle.strm_laws.proofs.GoodTurns.{calls-either, outcome-holds}
 use Rattle.strm_laws.proofs.PutParts.{booked-holds, either-holds, parts-hold}
-use Rattle.strm_laws.proofs.StackStays.{keep-names, queue-names, same-names, serve-names}
+use Rattle.strm_laws.proofs.SameNames.{keep-names, queue-names, serve-names}
+use Rattle.strm_laws.proofs.StackStays.{same-names}
 use Rattle.strm_laws.proofs.TurnHolds.{any-holds}
 
 module _ {C : Type 0} (all : Stands) where
@@ -169,18 +171,18 @@ module _ {C : Type 0} (all : Stands) where
         noted-there all here.side place (earlier_at here.side here.at s) (λ way. before-there all s is.0 here.side way here.at) t.notes (any-noted all here.side place (λ way. index-there all s is.0 here.side way (here.at - 1)) t.notes) s.enabled is.1,
       )
 
-  module _ (cells : Cells C) where
-    stack-enabled : (here : Spot) (m : Message C) (s : State C) → Enabled s → Enabled (put_at_module cells here m s).state
+  module _ (K : Behaviour) (cells : Cells C) where
+    stack-enabled : (here : Spot) (m : Message C) (s : State C) → Enabled s → Enabled (put_at_module K cells here m s).state
     stack-enabled here m s is =
         let ps = (stream here.side s).modules in
         let made = made_above here.side s in
-        acted-enabled here (put_among (module_puts cells made) (here.at - 1) here m ps) s (keep-names cells made (here.at - 1) here m ps) is
+        acted-enabled here (put_among (module_puts K cells made) (here.at - 1) here m ps) s (keep-names K cells made (here.at - 1) here m ps) is
 
-    pub puts-enabled : PutHolds Enabled (put_in cells)
-    puts-enabled = parts-hold Enabled cells (record { head = head-enabled; stack = stack-enabled; driver = driver-enabled })
+    pub puts-enabled : PutHolds Enabled (put_in K cells)
+    puts-enabled = parts-hold Enabled K cells (record { head = head-enabled; stack = stack-enabled; driver = driver-enabled })
 
-    pub delivered-enabled : (to : Spot) (m : Message C) (s : State C) → Enabled s → Enabled (delivered cells to m s).state
-    delivered-enabled to m s is = carried-holds Enabled (put_in cells) puts-enabled HOPS (record { to = to; message = m }) s is
+    pub delivered-enabled : (to : Spot) (m : Message C) (s : State C) → Enabled s → Enabled (delivered K cells to m s).state
+    delivered-enabled to m s is = carried-holds Enabled (put_in K cells) puts-enabled HOPS (record { to = to; message = m }) s is
 
   -- turns: a writer waits, and a turn ends
   waits-names : (side : Side) (way : Way) (band : ℕ) (o : Option ℕ) (t : Stream C) → map module_name (waits_on way band o t).modules ≡ map module_name t.modules
@@ -199,22 +201,22 @@ module _ {C : Type 0} (all : Stands) where
       let t = stream here.side s in
       stream-enabled here.side (queue_ended here took t) s (queue-names here.way (turn_ended took) (here.at - 1) t.modules) is
 
-  module _ (cells : Cells C) (here : Spot) where
-    calls-enabled : (n : ℕ) (again : Bool) (left : ℕ) (s : State C) → Enabled s → Enabled (calls cells here n again left s).state
+  module _ (K : Behaviour) (cells : Cells C) (here : Spot) where
+    calls-enabled : (n : ℕ) (again : Bool) (left : ℕ) (s : State C) → Enabled s → Enabled (calls K cells here n again left s).state
     calls-enabled zero again left s is = is
     calls-enabled (suc more) again left s is =
         let ps = (stream here.side s).modules in
         let made = made_below here.side s in
         let t = module_called cells here again left s in
-        let u = in_turn (carried (put_in cells) HOPS) t.sent t.state in
+        let u = in_turn (carried (put_in K cells) HOPS) t.sent t.state in
         let acted = acted-enabled here (call_at cells here made again left ps) s (serve-names cells here made again (Some left) (here.at - 1) ps) is in
-        let sent = in_turn-holds Enabled (carried (put_in cells) HOPS) (carried-holds Enabled (put_in cells) (puts-enabled cells) HOPS) t.sent t.state acted in
+        let sent = in_turn-holds Enabled (carried (put_in K cells) HOPS) (carried-holds Enabled (put_in K cells) (puts-enabled K cells) HOPS) t.sent t.state acted in
         calls-either Enabled (again_at cells here made again left ps) _ _ (calls-enabled more true (left - bytes_at cells here made again left ps) u.state sent) sent
 
     module _ (name : QueueName) (there : IsThere all name) where
-      moved-enabled : (bytes : ℕ) (s : State C) → Enabled s → Enabled (moved_on cells here name bytes s).state
+      moved-enabled : (bytes : ℕ) (s : State C) → Enabled s → Enabled (moved_on K cells here name bytes s).state
       moved-enabled bytes s is =
-          let t = calls cells here (3 * bytes + 1) false bytes s in
+          let t = calls K cells here (3 * bytes + 1) false bytes s in
           let behind = calls-enabled (3 * bytes + 1) false bytes s is in
           let took = not (t.bytes == 0) in
           let on = stream here.side t.state in
@@ -225,55 +227,55 @@ module _ {C : Type 0} (all : Stands) where
           )
           is
 
-      asked-enabled : (asks : Asks) (turn : Turn) (s : State C) → Enabled s → Enabled (asked_turn cells here asks name turn s).state
+      asked-enabled : (asks : Asks) (turn : Turn) (s : State C) → Enabled s → Enabled (asked_turn K cells here asks name turn s).state
       asked-enabled asked.Empty turn s is = ended-enabled here false s is
       asked-enabled asked.Held turn s is = ended-enabled here false s is
       asked-enabled asked.Free turn s is = moved-enabled _ s is
       asked-enabled (asked.Room band) turn s is =
           let waiting = writer_waits here.side here.way here.at band.0 s in
-          outcome-holds Enabled (has_room_past here.side here.way here.at band.0 s) (moved_within cells here name turn s) (waits_there band.0 here s) (moved-enabled _ s is)
+          outcome-holds Enabled (has_room_past here.side here.way here.at band.0 s) (moved_within K cells here name turn s) (waits_there band.0 here s) (moved-enabled _ s is)
           (ended-enabled here false waiting (waits-enabled here.side here.way here.at band.0 s is))
 
-      there-enabled : (turn : Turn) (s : State C) → Enabled s → Enabled (turned_there cells here name turn s).state
+      there-enabled : (turn : Turn) (s : State C) → Enabled s → Enabled (turned_there K cells here name turn s).state
       there-enabled turn s is =
           let ps = (stream here.side s).modules in
           outcome-holds Enabled (at_place module_rests false here.at ps) _ _ (asked-enabled (at_place (module_asks here.way) asked.Empty here.at ps) turn s is) is
 
   module _ (cells : Cells C) (name : QueueName) (there : IsThere all name) where
-    named-enabled : (turn : Turn) (s : State C) (o : Option ℕ) → Enabled s → Enabled (turned_named cells name turn s o).state
-    named-enabled turn s None is = is
-    named-enabled turn s (Some at) is = there-enabled cells (record { side = name.side; at = at; way = name.way }) name there turn s is
+    named-enabled : (K : Behaviour) (turn : Turn) (s : State C) (o : Option ℕ) → Enabled s → Enabled (turned_named K cells name turn s o).state
+    named-enabled K turn s None is = is
+    named-enabled K turn s (Some at) is = there-enabled K cells (record { side = name.side; at = at; way = name.way }) name there turn s is
 
     driver-with : (side : Side) (q : Queue C) (s : State C) → Enabled s → Enabled (with_driver side q s)
     driver-with side q s is = stream-enabled side (with_driver_queue q (stream side s)) s refl is
 
-    moved-driver : (side : Side) (m : Message C) (rest : List (Message C)) (s : State C) → Enabled s → Enabled (moved_across cells side m rest s).state
-    moved-driver side m rest s is =
+    moved-driver : (K : Behaviour) (side : Side) (m : Message C) (rest : List (Message C)) (s : State C) → Enabled s → Enabled (moved_across K cells side m rest s).state
+    moved-driver K side m rest s is =
         let from = with_driver side (left_with rest (stream side s).driver.queue) s in
-        let t = (delivered cells (up_across side from) m from).state in
-        let went = delivered-enabled cells (up_across side from) m from (driver-with side (left_with rest (stream side s).driver.queue) s is) in
+        let t = (delivered K cells (up_across side from) m from).state in
+        let went = delivered-enabled K cells (up_across side from) m from (driver-with side (left_with rest (stream side s).driver.queue) s is) in
         let q = turned_queue (stream side t).driver.queue in (
           (driver-with side _ t went).0,
           if-there all (not (is_none_left q.messages)) (driver_of side) _ refl
               (some-there all (not (size_of m == 0) && relieves q) (before_driver side t) t.enabled (before-there all t went.0 side Down (driver_place side t)) went.1),
         )
 
-    serves-driver : (side : Side) (ms : List (Message C)) (s : State C) → Enabled s → Enabled (driver_serves cells side ms s).state
-    serves-driver side [] s is = driver-with side (record (stream side s).driver.queue { want_read = true }) s is
-    serves-driver side (m ∷ rest) s is =
+    serves-driver : (K : Behaviour) (side : Side) (ms : List (Message C)) (s : State C) → Enabled s → Enabled (driver_serves K cells side ms s).state
+    serves-driver K side [] s is = driver-with side (record (stream side s).driver.queue { want_read = true }) s is
+    serves-driver K side (m ∷ rest) s is =
         let kept = with_driver side (held_back (stream side s).driver.queue) s in
         let waits = driver-with side (held_back (stream side s).driver.queue) s is in
         any-holds (λ t. Enabled t.state) (is_open (stream (other side) s).opened) (is_stopped_across side m s) _ _ _
-        waits (waits-enabled (other side) Up (driver_place (other side) kept) (band_of m) kept waits) (moved-driver side m rest s is)
+        waits (waits-enabled (other side) Up (driver_place (other side) kept) (band_of m) kept waits) (moved-driver K side m rest s is)
 
-    turned-enabled : (turn : Turn) (s : State C) → Enabled s → Enabled (turned cells name turn s).state
-    turned-enabled turn s is = at name.place (record s { enabled = without name s.enabled }) (is.0, without-there all name s.enabled is.1)
+    turned-enabled : (K : Behaviour) (turn : Turn) (s : State C) → Enabled s → Enabled (turned K cells name turn s).state
+    turned-enabled K turn s is = at name.place (record s { enabled = without name s.enabled }) (is.0, without-there all name s.enabled is.1)
       where
-        at : (place : Place) (s : State C) → Enabled s → Enabled (turned_at cells place name turn s).state
-        at Driver s is = serves-driver name.side (stream name.side s).driver.queue.messages s is
+        at : (place : Place) (s : State C) → Enabled s → Enabled (turned_at K cells place name turn s).state
+        at Driver s is = serves-driver K name.side (stream name.side s).driver.queue.messages s is
         at Head s is = is
-        at (places.Module owner) s is = named-enabled turn s (place_named name.place (stream name.side s).modules) is
+        at (places.Module owner) s is = named-enabled K turn s (place_named name.place (stream name.side s).modules) is
 
   -- of a queue that is enabled
-  pub turn-enabled : (cells : Cells C) (name : QueueName) (turn : Turn) (s : State C) → is_enabled name s.enabled ≡ true → Enabled s → Enabled (turned cells name turn s).state
-  turn-enabled cells name turn s enabled is = turned-enabled cells name (among-there all name s.enabled enabled is.1.there) turn s is
+  pub turn-enabled : (K : Behaviour) (cells : Cells C) (name : QueueName) (turn : Turn) (s : State C) → is_enabled name s.enabled ≡ true → Enabled s → Enabled (turned K cells name turn s).state
+  turn-enabled K cells name turn s enabled is = turned-enabled cells name (among-there all name s.enabled enabled is.1.there) K turn s is

@@ -8,6 +8,7 @@ use Rattle.strm_laws.specs.Prelude.{flush_message, read_flush, flush_up, cells_o
 use Rattle.std.proofs.Common.{append_assoc}
 use Rattle.strm_types.specs.declared.events.FlushQueues.TheVariants.{Read, Write, Both}
 use Rattle.strm_types.specs.declared.names.Place.TheVariants as places
+use Rattle.strm_laws.specs.Behaviours.{Behaviour}
 use Rattle.strm_laws.specs.Closes.{and_then, driver_behind, driver_emptied, head_behind, head_emptied}
 use Rattle.strm_laws.specs.Earlier.{NoModules, driver_place, modules_on}
 use Rattle.strm_laws.specs.FlushEffect.{none_gone, reached, write_flushed, read_flushed, flush_effect}
@@ -51,14 +52,15 @@ module _ {C : Type 0} (cells : Cells C) where
   flush_to to bytes = record { to = to; message = flush_message bytes }
 
   -- what carrying does with what a put took
-  abbrev pub went_on : ℕ → Took C (State C) → Carried C (State C)
-  went_on hops t =
-      let u = in_turn (carried (put_in cells) hops) t.sent t.state in
+  abbrev pub went_on : Behaviour → ℕ → Took C (State C) → Carried C (State C)
+  went_on K hops t =
+      let u = in_turn (carried (put_in K cells) hops) t.sent t.state in
       record { state = u.state; gone = t.gone ++ u.gone }
 
-  pub carries : (hops : ℕ) (p : Parcel C) (s : State C) → carried (put_in cells) (suc hops) p s ≡ went_on hops (put_in cells p.to p.message s)
+  pub carries : (K : Behaviour) (hops : ℕ) (p : Parcel C) (s : State C) → carried (put_in K cells) (suc hops) p s
+      ≡ went_on K hops (put_in K cells p.to p.message s)
   unfolding carried
-  carries hops p s = refl
+  carries K hops p s = refl
 
   turns-join : (carry : Parcel C → State C → Carried C (State C)) (ps qs : List (Parcel C)) (s : State C) → in_turn carry (ps ++ qs) s ≡ and_then (in_turn carry ps s) (in_turn carry qs)
   turns-join carry [] qs s = refl
@@ -82,8 +84,8 @@ module _ {C : Type 0} (cells : Cells C) where
         gone = t.gone;
       }
 
-  head-takes : (side : Side) (bytes : List ℕ) (s : State C) → is_open (stream side s).opened ≡ true → put_in cells (head_spot side) (flush_message bytes) s ≡ head_took side (asked_by bytes) s
-  head-takes side bytes s is =
+  head-takes : (K : Behaviour) (side : Side) (bytes : List ℕ) (s : State C) → is_open (stream side s).opened ≡ true → put_in K cells (head_spot side) (flush_message bytes) s ≡ head_took side (asked_by bytes) s
+  head-takes K side bytes s is =
       let none : Took C (State C) = record { state = s; sent = []; gone = Goes (direction_at Up side) EndClosed (cells_of (flush_message bytes)) ∷ [] } in
       ap (λ (opened : Bool). cond opened (head_took side (asked_by bytes) s) none) is
 
@@ -97,24 +99,24 @@ module _ {C : Type 0} (cells : Cells C) where
         gone = (head_emptied Flushed chosen side s).gone;
       }) (room-noted side (Some places.Head) (earlier_at side 0 s) Up (writer_goes chosen above.head.queue) s.enabled)
 
-  head-carried : (hops : ℕ) (band : Option Band) (side : Side) (s : State C) → is_open (stream side s).opened ≡ true
-      → carried (put_in cells) (suc hops) (flush_to (head_spot side) (read_flush band)) s ≡ head_emptied Flushed (of_data band) side s
-  head-carried hops band side s is =
-      carries hops (flush_to (head_spot side) (read_flush band)) s
-      ∙ ap (λ (t : Took C (State C)). went_on hops t) (head-takes side (read_flush band) s is)
-      ∙ ap (λ (asked : FlushAsked). went_on hops (head_took side asked s)) (reads-ask band)
-      ∙ ap (λ (t : Took C (State C)). went_on hops t) (head-flushes band side s)
+  head-carried : (K : Behaviour) (hops : ℕ) (band : Option Band) (side : Side) (s : State C) → is_open (stream side s).opened ≡ true
+      → carried (put_in K cells) (suc hops) (flush_to (head_spot side) (read_flush band)) s ≡ head_emptied Flushed (of_data band) side s
+  head-carried K hops band side s is =
+      carries K hops (flush_to (head_spot side) (read_flush band)) s
+      ∙ ap (λ (t : Took C (State C)). went_on K hops t) (head-takes K side (read_flush band) s is)
+      ∙ ap (λ (asked : FlushAsked). went_on K hops (head_took side asked s)) (reads-ask band)
+      ∙ ap (λ (t : Took C (State C)). went_on K hops t) (head-flushes band side s)
 
   -- what a driver sends up a stream
-  reads-reach : (hops : ℕ) (band : Option Band) (side : Side) (s : State C)
-      → in_turn (carried (put_in cells) (suc hops)) (reader_flush (is_open (stream side s).opened) (asked_of Read band) (head_spot side)) s ≡ reached (of_data band) side s
-  reads-reach hops band side s = at (is_open (stream side s).opened) refl
+  reads-reach : (K : Behaviour) (hops : ℕ) (band : Option Band) (side : Side) (s : State C)
+      → in_turn (carried (put_in K cells) (suc hops)) (reader_flush (is_open (stream side s).opened) (asked_of Read band) (head_spot side)) s ≡ reached (of_data band) side s
+  reads-reach K hops band side s = at (is_open (stream side s).opened) refl
     where
       at : (opened : Bool) → is_open (stream side s).opened ≡ opened
-          → in_turn (carried (put_in cells) (suc hops)) (reader_flush opened (asked_of Read band) (head_spot side)) s ≡ cond opened (head_emptied Flushed (of_data band) side s) (none_gone s)
+          → in_turn (carried (put_in K cells) (suc hops)) (reader_flush opened (asked_of Read band) (head_spot side)) s ≡ cond opened (head_emptied Flushed (of_data band) side s) (none_gone s)
       at true is =
-          turns-one (carried (put_in cells) (suc hops)) (flush_to (head_spot side) (read_flush band)) s
-          ∙ head-carried hops band side s is
+          turns-one (carried (put_in K cells) (suc hops)) (flush_to (head_spot side) (read_flush band)) s
+          ∙ head-carried K hops band side s is
       at false is = refl
 
   -- at a driver
@@ -167,35 +169,35 @@ module _ {C : Type 0} (cells : Cells C) where
   abbrev across_took : Side → FlushAsked → State C → Took C (State C)
   across_took side asked s = driver_took side (flush_across side (across_of side s) asked (stream side s).driver.queue) s
 
-  across-takes : (side : Side) (bytes : List ℕ) (s : State C) → put_in cells (across_spot side) (flush_message bytes) s ≡ across_took side (asked_by bytes) s
-  across-takes side bytes s = ap (λ (stands : Bool). cond stands (put_at_module cells (across_spot side) (flush_message bytes) s) (across_took side (asked_by bytes) s)) (few-behind side s)
+  across-takes : (K : Behaviour) (side : Side) (bytes : List ℕ) (s : State C) → put_in K cells (across_spot side) (flush_message bytes) s ≡ across_took side (asked_by bytes) s
+  across-takes K side bytes s = ap (λ (stands : Bool). cond stands (put_at_module K cells (across_spot side) (flush_message bytes) s) (across_took side (asked_by bytes) s)) (few-behind side s)
 
   -- what a driver sends up behind its own queue's flush
-  up-behind : (hops : ℕ) (band : Option Band) (side : Side) (s : State C) → NoModules s
+  up-behind : (K : Behaviour) (hops : ℕ) (band : Option Band) (side : Side) (s : State C) → NoModules s
       → let behind = driver_behind (of_data band) side s in
-      in_turn (carried (put_in cells) (suc hops)) (reader_flush (is_open (stream (other side) s).opened) (asked_of Read band) (up_spot (other side) (modules_on (other side) s))) behind
+      in_turn (carried (put_in K cells) (suc hops)) (reader_flush (is_open (stream (other side) s).opened) (asked_of Read band) (up_spot (other side) (modules_on (other side) s))) behind
       ≡ reached (of_data band) (other side) behind
-  up-behind hops band side s none =
+  up-behind K hops band side s none =
       let behind = driver_behind (of_data band) side s in
-      rw (none-on (other side) s none, stays-opened (of_data band) side s) (reads-reach hops band (other side) behind)
+      rw (none-on (other side) s none, stays-opened (of_data band) side s) (reads-reach K hops band (other side) behind)
 
-  across-carried : (hops : ℕ) (band : Option Band) (side : Side) (s : State C) → NoModules s
-      → carried (put_in cells) (suc (suc hops)) (flush_to (across_spot side) (read_flush band)) s ≡ write_flushed (of_data band) side s
-  across-carried hops band side s none =
+  across-carried : (K : Behaviour) (hops : ℕ) (band : Option Band) (side : Side) (s : State C) → NoModules s
+      → carried (put_in K cells) (suc (suc hops)) (flush_to (across_spot side) (read_flush band)) s ≡ write_flushed (of_data band) side s
+  across-carried K hops band side s none =
       let up = reader_flush (is_open (stream (other side) s).opened) (asked_of Read band) (up_spot (other side) (modules_on (other side) s)) in
       let first = driver_emptied Flushed (of_data band) side s in
-      carries (suc hops) (flush_to (across_spot side) (read_flush band)) s
-      ∙ ap (λ (t : Took C (State C)). went_on (suc hops) t) (across-takes side (read_flush band) s)
-      ∙ ap (λ (asked : FlushAsked). went_on (suc hops) (across_took side asked s)) (reads-ask band)
-      ∙ ap (λ (t : Took C (State C)). went_on (suc hops) t) (driver-flushes (asked_of Read band) side up s)
-      ∙ ap (λ (u : Carried C (State C)). record { state = u.state; gone = first.gone ++ u.gone }) (up-behind hops band side s none)
+      carries K (suc hops) (flush_to (across_spot side) (read_flush band)) s
+      ∙ ap (λ (t : Took C (State C)). went_on K (suc hops) t) (across-takes K side (read_flush band) s)
+      ∙ ap (λ (asked : FlushAsked). went_on K (suc hops) (across_took side asked s)) (reads-ask band)
+      ∙ ap (λ (t : Took C (State C)). went_on K (suc hops) t) (driver-flushes (asked_of Read band) side up s)
+      ∙ ap (λ (u : Carried C (State C)). record { state = u.state; gone = first.gone ++ u.gone }) (up-behind K hops band side s none)
 
   -- the driver across, and then the side's own readers
-  reads-carried : (hops : ℕ) (band : Option Band) (side : Side) (s : State C) → NoModules s
-      → in_turn (carried (put_in cells) (suc (suc hops))) (flush_to (across_spot (other side)) (read_flush band) ∷ []) s ≡ read_flushed (of_data band) side s
-  reads-carried hops band side s none =
-      turns-one (carried (put_in cells) (suc (suc hops))) (flush_to (across_spot (other side)) (read_flush band)) s
-      ∙ across-carried hops band (other side) s none
+  reads-carried : (K : Behaviour) (hops : ℕ) (band : Option Band) (side : Side) (s : State C) → NoModules s
+      → in_turn (carried (put_in K cells) (suc (suc hops))) (flush_to (across_spot (other side)) (read_flush band) ∷ []) s ≡ read_flushed (of_data band) side s
+  reads-carried K hops band side s none =
+      turns-one (carried (put_in K cells) (suc (suc hops))) (flush_to (across_spot (other side)) (read_flush band)) s
+      ∙ across-carried K hops band (other side) s none
       ∙ back side
     where
       back : (side : Side) → write_flushed (of_data band) (other side) s ≡ read_flushed (of_data band) side s
@@ -206,40 +208,40 @@ module _ {C : Type 0} (cells : Cells C) where
   abbrev down_took : Side → FlushAsked → State C → Took C (State C)
   down_took side asked s = driver_took side (flush_down side (across_of side s) asked (stream side s).driver.queue) s
 
-  down-takes : (side : Side) (bytes : List ℕ) (s : State C) → NoModules s → put_in cells (down_spot side) (flush_message bytes) s ≡ down_took side (asked_by bytes) s
-  down-takes side bytes s none = ap (λ (count : ℕ). cond (nat_le 1 count) (put_at_module cells (down_spot side) (flush_message bytes) s) (down_took side (asked_by bytes) s)) (none-on side s none)
+  down-takes : (K : Behaviour) (side : Side) (bytes : List ℕ) (s : State C) → NoModules s → put_in K cells (down_spot side) (flush_message bytes) s ≡ down_took side (asked_by bytes) s
+  down-takes K side bytes s none = ap (λ (count : ℕ). cond (nat_le 1 count) (put_at_module K cells (down_spot side) (flush_message bytes) s) (down_took side (asked_by bytes) s)) (none-on side s none)
 
-  went-down : (hops : ℕ) (band : Option Band) (side : Side) (what : FlushQueues) (s : State C) → NoModules s
-      → went_on (suc (suc hops)) (down_took side (asked_of what band) s) ≡ flush_effect (of_data band) side what s
-  went-down hops band side Read s none =
+  went-down : (K : Behaviour) (hops : ℕ) (band : Option Band) (side : Side) (what : FlushQueues) (s : State C) → NoModules s
+      → went_on K (suc (suc hops)) (down_took side (asked_of what band) s) ≡ flush_effect (of_data band) side what s
+  went-down K hops band side Read s none =
       let across = flush_to (across_spot (other side)) (read_flush band) ∷ [] in
-      ap (λ (t : Took C (State C)). went_on (suc (suc hops)) t) (driver-frees side across s)
-      ∙ reads-carried hops band side s none
-  went-down hops band side Write s none =
+      ap (λ (t : Took C (State C)). went_on K (suc (suc hops)) t) (driver-frees side across s)
+      ∙ reads-carried K hops band side s none
+  went-down K hops band side Write s none =
       let up = reader_flush (is_open (stream (other side) s).opened) (asked_of Read band) (up_spot (other side) (modules_on (other side) s)) in
       let first = driver_emptied Flushed (of_data band) side s in
-      ap (λ (t : Took C (State C)). went_on (suc (suc hops)) t) (driver-flushes (asked_of Write band) side (up ++ []) s)
-      ∙ ap (λ (ps : List (Parcel C)). went_on (suc (suc hops)) (record { state = first.state; sent = ps; gone = first.gone })) (append-nil up)
-      ∙ ap (λ (u : Carried C (State C)). record { state = u.state; gone = first.gone ++ u.gone }) (up-behind (suc hops) band side s none)
-  went-down hops band side Both s none =
-      let carry = carried (put_in cells) (suc (suc hops)) in
+      ap (λ (t : Took C (State C)). went_on K (suc (suc hops)) t) (driver-flushes (asked_of Write band) side (up ++ []) s)
+      ∙ ap (λ (ps : List (Parcel C)). went_on K (suc (suc hops)) (record { state = first.state; sent = ps; gone = first.gone })) (append-nil up)
+      ∙ ap (λ (u : Carried C (State C)). record { state = u.state; gone = first.gone ++ u.gone }) (up-behind K (suc hops) band side s none)
+  went-down K hops band side Both s none =
+      let carry = carried (put_in K cells) (suc (suc hops)) in
       let up = reader_flush (is_open (stream (other side) s).opened) (asked_of Read band) (up_spot (other side) (modules_on (other side) s)) in
       let across = flush_to (across_spot (other side)) (read_flush band) ∷ [] in
       let first = driver_emptied Flushed (of_data band) side s in
       let second = reached (of_data band) (other side) first.state in
       let behind : Carried C (State C) → Carried C (State C) = λ u. record { state = u.state; gone = first.gone ++ u.gone } in
-      ap (λ (t : Took C (State C)). went_on (suc (suc hops)) t) (driver-flushes (asked_of Both band) side (up ++ across) s)
+      ap (λ (t : Took C (State C)). went_on K (suc (suc hops)) t) (driver-flushes (asked_of Both band) side (up ++ across) s)
       ∙ ap behind (turns-join carry up across first.state)
-      ∙ ap (λ (u : Carried C (State C)). behind (and_then u (in_turn carry across))) (up-behind (suc hops) band side s none)
-      ∙ ap (λ (u : Carried C (State C)). behind (record { state = u.state; gone = second.gone ++ u.gone })) (reads-carried hops band side second.state (reached-none (of_data band) (other side) first.state (driver-none (of_data band) side s none)))
+      ∙ ap (λ (u : Carried C (State C)). behind (and_then u (in_turn carry across))) (up-behind K (suc hops) band side s none)
+      ∙ ap (λ (u : Carried C (State C)). behind (record { state = u.state; gone = second.gone ++ u.gone })) (reads-carried K hops band side second.state (reached-none (of_data band) (other side) first.state (driver-none (of_data band) side s none)))
 
-  pub flush-carried : (hops : ℕ) (band : Option Band) (side : Side) (what : FlushQueues) (s : State C) → NoModules s
-      → carried (put_in cells) (suc (suc (suc hops))) (flush_to (down_spot side) (flush_bytes (asked_of what band))) s ≡ flush_effect (of_data band) side what s
-  flush-carried hops band side what s none =
-      carries (suc (suc hops)) (flush_to (down_spot side) (flush_bytes (asked_of what band))) s
-      ∙ ap (λ (t : Took C (State C)). went_on (suc (suc hops)) t) (down-takes side (flush_bytes (asked_of what band)) s none)
-      ∙ ap (λ (asked : FlushAsked). went_on (suc (suc hops)) (down_took side asked s)) (bytes-ask what band)
-      ∙ went-down hops band side what s none
+  pub flush-carried : (K : Behaviour) (hops : ℕ) (band : Option Band) (side : Side) (what : FlushQueues) (s : State C) → NoModules s
+      → carried (put_in K cells) (suc (suc (suc hops))) (flush_to (down_spot side) (flush_bytes (asked_of what band))) s ≡ flush_effect (of_data band) side what s
+  flush-carried K hops band side what s none =
+      carries K (suc (suc hops)) (flush_to (down_spot side) (flush_bytes (asked_of what band))) s
+      ∙ ap (λ (t : Took C (State C)). went_on K (suc (suc hops)) t) (down-takes K side (flush_bytes (asked_of what band)) s none)
+      ∙ ap (λ (asked : FlushAsked). went_on K (suc (suc hops)) (down_took side asked s)) (bytes-ask what band)
+      ∙ went-down K hops band side what s none
 
-  pub flush-delivered : (band : Option Band) (side : Side) (what : FlushQueues) (s : State C) → NoModules s → flushed_on cells band side what s ≡ flush_effect (of_data band) side what s
-  flush-delivered band side what s none = flush-carried 13 band side what s none
+  pub flush-delivered : (K : Behaviour) (band : Option Band) (side : Side) (what : FlushQueues) (s : State C) → NoModules s → flushed_on K cells band side what s ≡ flush_effect (of_data band) side what s
+  flush-delivered K band side what s none = flush-carried K 13 band side what s none

@@ -12,6 +12,7 @@ use Rattle.strm_types.specs.declared.events.Event.TheVariants as events
 use Rattle.strm_types.specs.declared.modes.Mode as modes
 use Rattle.strm_types.specs.declared.modes.Mode.TheVariants as chosen
 use Rattle.strm_types.specs.declared.names.Place.TheVariants as places
+use Rattle.strm_laws.specs.Behaviours.{Behaviour}
 use Rattle.strm_laws.specs.State.{State, stream, with_stream, with_head_queue, book, with_book, map_state, map_stream}
 use Rattle.strm_laws.specs.Writes.{Wrote, cells_sent}
 use Rattle.strm_laws.specs.TurnOutcomes.{TurnOutcome, map_turn_outcome}
@@ -75,15 +76,15 @@ module _ {C D : Type 0} (f : C → D) where
 
 module _ {C : Type 0} (cells : Cells C) (are : AreCells cells) where
   -- where origins are forgotten, what is written are the bytes
-  write-forgets : (side : Side) (bytes : List ℕ) (s : State C) → wrote plain side bytes (map_state cells.byte s) ≡ map_outcome cells.byte (wrote cells side bytes s)
-  write-forgets side bytes s =
+  write-forgets : (K : Behaviour) (side : Side) (bytes : List ℕ) (s : State C) → wrote K plain side bytes (map_state cells.byte s) ≡ map_outcome cells.byte (wrote K cells side bytes s)
+  write-forgets K side bytes s =
       let dir = direction_from side in
       let n = (book dir s).written in
       let base = map_state cells.byte s in
       let written = cells_written cells dir n bytes in
-      let t = cells_sent cells side written s in
-      ap (λ (xs : List ℕ). sent_on side xs (cells_sent plain side xs base)) (written-plain dir (book dir base).written bytes ∙ sym (written-bytes cells are dir n bytes))
-      ∙ ap (λ (t : Wrote ℕ). sent_on side (map cells.byte written) t) (cells_sent-forgets cells are side written s)
+      let t = cells_sent K cells side written s in
+      ap (λ (xs : List ℕ). sent_on side xs (cells_sent K plain side xs base)) (written-plain dir (book dir base).written bytes ∙ sym (written-bytes cells are dir n bytes))
+      ∙ ap (λ (t : Wrote ℕ). sent_on side (map cells.byte written) t) (cells_sent-forgets cells are K side written s)
       ∙ ap (λ (xs : List ℕ). record (map_outcome cells.byte (sent_on side written t)) { came = xs }) (take-map cells.byte t.taken written)
 
   -- a read, which gives the bytes of its cells
@@ -123,65 +124,67 @@ module _ {C : Type 0} (cells : Cells C) (are : AreCells cells) where
   group-forgets Master command body s = refl
   group-forgets Slave command body s = refl
 
-  performed-forgets : (caller : Caller) (asked : Request) (s : State C) → performed plain caller asked (map_state cells.byte s) ≡ map_outcome cells.byte (performed cells caller asked s)
-  performed-forgets caller OpenMaster s = refl
-  performed-forgets caller Unlock s = refl
-  performed-forgets caller OpenSlave s = ap (λ (none : Bool). opened-with none) (none-forgets {D = ℕ} cells.byte (map_message cells.byte) s.ends.master.driver.queue.messages)
+  performed-forgets : (K : Behaviour) (caller : Caller) (asked : Request) (s : State C) → performed K plain caller asked (map_state cells.byte s) ≡ map_outcome cells.byte (performed K cells caller asked s)
+  performed-forgets K caller OpenMaster s = refl
+  performed-forgets K caller Unlock s = refl
+  performed-forgets K caller OpenSlave s = ap (λ (none : Bool). opened-with none) (none-forgets {D = ℕ} cells.byte (map_message cells.byte) s.ends.master.driver.queue.messages)
     where
       opened-with : Bool → Outcome ℕ
       opened-with none = done (map_state cells.byte (record (with_stream Slave (record s.ends.slave { opened = Open; head = new_head }) s) { enabled = enable_if (not none) (driver_of Master) s.enabled }))
-  performed-forgets caller Shut s = ap (λ (t : Carried ℕ (State ℕ)). takes t) (closed_at-forgets cells.byte caller.side s)
-  performed-forgets caller (Push name) s = ap (λ (t : Carried ℕ (State ℕ)). takes t) (push-forgets cells.byte caller.side name s)
-  performed-forgets caller Pop s = ap (λ (t : Carried ℕ (State ℕ)). takes t) (pop-forgets cells.byte caller.side s)
-  performed-forgets caller Look s = ap (λ (name : Option ModuleName). name_answered name (map_state cells.byte s)) (top-forgets cells.byte caller.side s)
-  performed-forgets caller (Flush what band) s = ap (λ (t : Carried ℕ (State ℕ)). takes t) (flushed_on-forgets cells are band caller.side what s)
-  performed-forgets caller (Write bytes) s = write-forgets caller.side bytes s
-  performed-forgets caller (Read n) s = read_at-forgets caller.side n s
-  performed-forgets caller (Put prio control body) s =
-      ap (λ (t : Carried ℕ (State ℕ)). record (takes t) { came = cells_of (message_put plain caller.side prio control body (map_state cells.byte s)) }) (put_at-forgets cells are caller.side prio control body s)
-      ∙ ap (λ (xs : List ℕ). record (map_outcome cells.byte (takes (put_at cells caller.side prio control body s))) { came = xs }) (put_came-forgets cells are caller.side prio control body s)
-  performed-forgets caller (Get wanted cmax dmax) s = get_at-forgets caller.side wanted cmax dmax s
-  performed-forgets caller (Mode mode) s = ap (λ (t : State ℕ). done t) (mode-forgets cells.byte caller.side mode s)
-  performed-forgets caller Nread s = sizes-forgets cells.byte caller.side s
-  performed-forgets caller (Ioctl command body) s = at (asks_group caller.side command)
+  performed-forgets K caller Shut s = ap (λ (t : Carried ℕ (State ℕ)). takes t) (closed_at-forgets cells.byte caller.side s)
+  performed-forgets K caller (Push name) s = ap (λ (t : Carried ℕ (State ℕ)). takes t) (push-forgets cells.byte K caller.side name s)
+  performed-forgets K caller Pop s = ap (λ (t : Carried ℕ (State ℕ)). takes t) (pop-forgets cells.byte caller.side s)
+  performed-forgets K caller Look s = ap (λ (name : Option ModuleName). name_answered name (map_state cells.byte s)) (top-forgets cells.byte caller.side s)
+  performed-forgets K caller (Flush what band) s = ap (λ (t : Carried ℕ (State ℕ)). takes t) (flushed_on-forgets cells are K band caller.side what s)
+  performed-forgets K caller (Write bytes) s = write-forgets K caller.side bytes s
+  performed-forgets K caller (Read n) s = read_at-forgets caller.side n s
+  performed-forgets K caller (Put prio control body) s =
+      ap (λ (t : Carried ℕ (State ℕ)). record (takes t) { came = cells_of (message_put plain caller.side prio control body (map_state cells.byte s)) }) (put_at-forgets cells are K caller.side prio control body s)
+      ∙ ap (λ (xs : List ℕ). record (map_outcome cells.byte (takes (put_at K cells caller.side prio control body s))) { came = xs }) (put_came-forgets cells are caller.side prio control body s)
+  performed-forgets K caller (Get wanted cmax dmax) s = get_at-forgets caller.side wanted cmax dmax s
+  performed-forgets K caller (Mode mode) s = ap (λ (t : State ℕ). done t) (mode-forgets cells.byte caller.side mode s)
+  performed-forgets K caller Nread s = sizes-forgets cells.byte caller.side s
+  performed-forgets K caller (Ioctl command body) s = at (asks_group caller.side command)
     where
       behind : Carried ℕ (State ℕ) → Outcome ℕ
       behind t = record (ioctl_told caller.side t.state) { gone = t.gone }
 
       sent : Carried C (State C)
-      sent = ioctl_sent cells caller.side command body s
+      sent = ioctl_sent K cells caller.side command body s
 
-      at : (group : Bool) → cond group (group_at caller.side command body (map_state cells.byte s)) (ioctl_at plain caller.side command body (map_state cells.byte s))
-          ≡ map_outcome cells.byte (cond group (group_at caller.side command body s) (ioctl_at cells caller.side command body s))
+      at : (group : Bool) → cond group (group_at caller.side command body (map_state cells.byte s)) (ioctl_at K plain caller.side command body (map_state cells.byte s))
+          ≡ map_outcome cells.byte (cond group (group_at caller.side command body s) (ioctl_at K cells caller.side command body s))
       at true = group-forgets caller.side command body s
       at false =
-          ap behind (sent-forgets cells are caller.side command body s)
+          ap behind (sent-forgets cells are K caller.side command body s)
           ∙ ap (λ (o : Outcome ℕ). record o { gone = map (map_fate cells.byte) sent.gone }) (ioctl_told-forgets cells.byte caller.side sent.state)
-  performed-forgets caller (IoctlResult number) s = ioctl_told-forgets cells.byte caller.side s
-  performed-forgets caller events.Signals s = signals-forget cells.byte caller.side s
+  performed-forgets K caller (IoctlResult number) s = ioctl_told-forgets cells.byte caller.side s
+  performed-forgets K caller events.Signals s = signals-forget cells.byte caller.side s
 
-  pub call-forgets : (caller : Caller) (asked : Request) (s : State C) → called plain caller asked (map_state cells.byte s) ≡ map_outcome cells.byte (called cells caller asked s)
-  call-forgets caller asked s =
-      ap (λ v. or_stopped (stop_in v) (map_state cells.byte s) (performed plain caller asked (map_state cells.byte s))) (hold-same cells.byte s caller asked)
-      ∙ ap (λ (o : Outcome ℕ). or_stopped (stop_of s caller asked) (map_state cells.byte s) o) (performed-forgets caller asked s)
+  pub call-forgets : (K : Behaviour) (caller : Caller) (asked : Request) (s : State C) → called K plain caller asked (map_state cells.byte s) ≡ map_outcome cells.byte (called K cells caller asked s)
+  call-forgets K caller asked s =
+      ap (λ v. or_stopped (stop_in v) (map_state cells.byte s) (performed K plain caller asked (map_state cells.byte s))) (hold-same cells.byte s caller asked)
+      ∙ ap (λ (o : Outcome ℕ). or_stopped (stop_of s caller asked) (map_state cells.byte s) o) (performed-forgets K caller asked s)
       ∙ at (stop_of s caller asked)
     where
-      at : (stop : Option StopSignal) → or_stopped stop (map_state cells.byte s) (map_outcome cells.byte (performed cells caller asked s)) ≡ map_outcome cells.byte (or_stopped stop s (performed cells caller asked s))
+      at : (stop : Option StopSignal) → or_stopped stop (map_state cells.byte s) (map_outcome cells.byte (performed K cells caller asked s)) ≡ map_outcome cells.byte (or_stopped stop s (performed K cells caller asked s))
       at None = refl
       at (Some signal) = refl
 
-  pub turn-forgets : (name : QueueName) (turn : Turn) (s : State C) → turned plain name turn (map_state cells.byte s) ≡ map_turn_outcome cells.byte (turned cells name turn s)
-  turn-forgets name turn s = at name.place (record s { enabled = without name s.enabled })
+  pub turn-forgets : (K : Behaviour) (name : QueueName) (turn : Turn) (s : State C) → turned K plain name turn (map_state cells.byte s) ≡ map_turn_outcome cells.byte (turned K cells name turn s)
+  turn-forgets K name turn s = at name.place (record s { enabled = without name s.enabled })
     where
-      at : (place : Place) (s : State C) → turned_at plain place name turn (map_state cells.byte s) ≡ map_turn_outcome cells.byte (turned_at cells place name turn s)
-      at places.Driver s = driver_turned-forgets cells are name.side s
+      at : (place : Place) (s : State C) → turned_at K plain place name turn (map_state cells.byte s) ≡ map_turn_outcome cells.byte (turned_at K cells place name turn s)
+      at places.Driver s = driver_turned-forgets cells are K name.side s
       at places.Head s = refl
-      at (places.Module owner) s = module_turned-forgets cells are name turn s
+      at (places.Module owner) s = module_turned-forgets cells are K name turn s
 
-  pub after-forgets : (s : State C) (e : PlainEntry) → after plain (map_state cells.byte s) e ≡ map_state cells.byte (after cells s e)
-  after-forgets s (Called caller asked answer) = ap (λ (o : Outcome ℕ). o.state) (call-forgets caller asked s)
-  after-forgets s (Turned name turn) = ap (λ (o : TurnOutcome ℕ). o.state) (turn-forgets name turn s)
+  pub after-forgets : (K : Behaviour) (s : State C) (e : PlainEntry) → after K plain (map_state cells.byte s) e
+      ≡ map_state cells.byte (after K cells s e)
+  after-forgets K s (Called caller asked answer) = ap (λ (o : Outcome ℕ). o.state) (call-forgets K caller asked s)
+  after-forgets K s (Turned name turn) = ap (λ (o : TurnOutcome ℕ). o.state) (turn-forgets K name turn s)
 
-  pub replay-forgets : (s : State C) (es : List PlainEntry) → replay plain (map_state cells.byte s) es ≡ map_state cells.byte (replay cells s es)
-  replay-forgets s [] = refl
-  replay-forgets s (e ∷ es) = ap (λ (t : State ℕ). replay plain t es) (after-forgets s e) ∙ replay-forgets (after cells s e) es
+  pub replay-forgets : (K : Behaviour) (s : State C) (es : List PlainEntry) → replay K plain (map_state cells.byte s) es
+      ≡ map_state cells.byte (replay K cells s es)
+  replay-forgets K s [] = refl
+  replay-forgets K s (e ∷ es) = ap (λ (t : State ℕ). replay K plain t es) (after-forgets K s e) ∙ replay-forgets K (after K cells s e) es

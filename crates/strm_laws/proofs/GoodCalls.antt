@@ -12,12 +12,14 @@ use Rattle.strm_types.specs.declared.events.Event.TheVariants.{Flush, Ioctl}
 use Rattle.strm_types.specs.declared.modes.Mode as modes
 use Rattle.strm_types.specs.declared.modes.Mode.TheVariants as chosen
 use Rattle.strm_types.specs.declared.modes.Prio.TheVariants as prios
+use Rattle.strm_laws.specs.Behaviours.{Behaviour}
 use Rattle.strm_laws.specs.Calls.{group_at, ioctl_at, ioctl_begun, ioctl_called, ioctl_sent, message_put, mode_set, performed, put_at}
 use Rattle.strm_laws.specs.Closes.{closed_at, driver_emptied, ended, head_emptied, hung_up_at, stream_emptied}
-use Rattle.strm_laws.specs.Pushes.{all_taken, head_above, may_stand, module_named, named_by, pushed_named, top_taken, with_modules}
+use Rattle.strm_laws.specs.Pushes.{all_taken, head_above, is_known, may_stand, module_named, named_by, pushed_named, top_taken, with_modules}
 use Rattle.strm_laws.specs.Puts.{delivered, put_at_head}
 use Rattle.strm_laws.specs.Refusals.{goes_down, is_numbered, refused_at_once, unfit}
-use Rattle.strm_laws.specs.Restorable.{GoodHead, GoodMessage, GoodModules, GoodStream, IsBanded, IsWithinCall, stands_below}
+use Rattle.strm_laws.specs.GoodMessages.{GoodMessage}
+use Rattle.strm_laws.specs.Restorable.{GoodHead, GoodModules, GoodStream, IsBanded, IsWithinCall, stands_below}
 use Rattle.strm_laws.specs.Stacked.{Standing, module_name}
 use Rattle.strm_laws.specs.State.{State, Stream, book, opening, stream, with_driver_queue, with_head_queue, with_ioctl, with_stream}
 use Rattle.strm_laws.specs.Writes.{Wrote, below_head, chunks_sent, is_full_below}
@@ -31,7 +33,7 @@ use Rattle.strm_laws.proofs.PutParts.{either-holds}
 use Rattle.strm_laws.proofs.Replay.{fitting-met, or_else-none, unless-none}
 use Rattle.strm_laws.proofs.StackOnce.{none-once, pop-once, push-once}
 use Rattle.strm_laws.proofs.WriteSteps.{went}
-use Rattle.strm_laws.proofs.LawfulKinds.{new}
+use Rattle.strm_laws.proofs.LawfulKinds.{named-each, new}
 
 under : (a b : ℕ) → nat_lt a b ≡ true → suc a ≤ b
 under a b is = grind (arith, nat_tests)
@@ -86,17 +88,23 @@ module _ {C : Type 0} where
   }
 
   -- pushes and pops
-  one-more : (name : ModuleName) (ps : List (Standing C)) → may_stand (Some (module_named name)) ps ≡ true → GoodModules ps → GoodModules (module_named name ∷ ps)
-  one-more name ps may good = record {
-    each = ((new name).good, good.each);
-    few = under (length ps) MODULES (and_parts (nat_lt (length ps) MODULES) (not (stands module_name (module_name (module_named {C = C} name)) ps)) may).0;
-    once = push-once (module_named name) ps may good.once;
+  one-more : (K : Behaviour) (name : ModuleName) (ps : List (Standing C)) → is_known K name ≡ true → may_stand (Some (module_named K name)) ps ≡ true
+      → GoodModules ps
+      → GoodModules (module_named K name ∷ ps)
+  one-more K name ps known may good = record {
+    each = ((new K name).good known, good.each);
+    few = under (length ps) MODULES (and_parts (nat_lt (length ps) MODULES) (not (stands module_name (module_name (module_named {C = C} K name)) ps)) may).0;
+    once = push-once (module_named K name) ps may good.once;
   }
 
-  push-streams : (side : Side) (name : Option ModuleName) (s : State C) → may_stand (named_by name) (stream side s).modules ≡ true → OpenGood side s → OpenGood side (pushed_named side (named_by name) s).state
-  push-streams side None s may all = all
-  push-streams side (Some name) s may all =
-      pushed-holds side (OpenGood side) GoodModules (survives side) (module_named name) s (one-more name (stream side s).modules may (all.0.0 side).modules) all
+  push-streams : (K : Behaviour) (side : Side) (name : Option ModuleName) (s : State C) → may_stand (named_by K name) (stream side s).modules ≡ true → OpenGood side s → OpenGood side (pushed_named side (named_by K name) s).state
+  push-streams K side None s may all = all
+  push-streams K side (Some name) s may all =
+      named-each K name (λ o. may_stand o (stream side s).modules ≡ true → OpenGood side (pushed_named side o s).state) (λ may. all)
+      (λ known may.
+      let good = one-more K name (stream side s).modules known may (all.0.0 side).modules in
+      pushed-holds side (OpenGood side) GoodModules (survives side) (module_named K name) s good all)
+      may
 
   -- closes: when all modules are taken, none is left
   pub with-get : (side : Side) (ps : List (Standing C)) (names : List QueueName) (s : State C) → (stream side (record (with_modules side ps s) { enabled = names })).modules ≡ ps
@@ -190,12 +198,13 @@ module _ {C : Type 0} where
     went-streams true size s t more one two = one
     went-streams false size s t more one two = two
 
-    chunks-streams : (side : Side) (chunks : List (List C)) (s : State C) → AreStreams s → AreStreams (chunks_sent cells side chunks s).state
-    chunks-streams side [] s all = all
-    chunks-streams side (chunk ∷ chunks) s all =
-        let t = delivered cells (below_head side) (data_message chunk) s in
-        went-streams (is_full_below 0 side s) (length chunk) s t (chunks_sent cells side chunks t.state) all
-        (chunks-streams side chunks t.state (delivered-streams cells (below_head side) (data_message chunk) s (data-good chunk) all))
+    chunks-streams : (K : Behaviour) (side : Side) (chunks : List (List C)) (s : State C) → AreStreams s
+        → AreStreams (chunks_sent K cells side chunks s).state
+    chunks-streams K side [] s all = all
+    chunks-streams K side (chunk ∷ chunks) s all =
+        let t = delivered K cells (below_head side) (data_message chunk) s in
+        went-streams (is_full_below 0 side s) (length chunk) s t (chunks_sent K cells side chunks t.state) all
+        (chunks-streams K side chunks t.state (delivered-streams cells K (below_head side) (data_message chunk) s (data-good chunk) all))
 
     -- a putmsg that isn't refused: high priority has a control part
     put-good : (prio : Prio) (control body : Option (List C)) → IsBanded prio → (is_part control || is_part body) ≡ true → is_no_prio prio control ≡ false → GoodMessage (put_message prio control body)
@@ -240,12 +249,12 @@ module _ {C : Type 0} where
     same-prio prios.High a b same right = sym (ap (λ there. not there) same) ∙ right
     same-prio (prios.Band band) a b same right = right
 
-    put-streams : (side : Side) (prio : Prio) (control body : Option (List ℕ)) (s : State C) → IsBanded prio → is_no_prio prio control ≡ false → AreStreams s → AreStreams (put_at cells side prio control body s).state
-    put-streams side prio None None s low right all = all
-    put-streams side prio None (Some xs) s low right all =
-        delivered-streams cells (below side) (message_put cells side prio None (Some xs) s) s (put-good prio None _ low refl (same-prio prio None None refl right)) all
-    put-streams side prio (Some ys) body s low right all =
-        delivered-streams cells (below side) (message_put cells side prio (Some ys) body s) s (put-good prio _ _ low refl (same-prio prio (Some ys) (Some (cells_written cells (direction_from side) (book (direction_from side) s).written ys)) refl right)) all
+    put-streams : (K : Behaviour) (side : Side) (prio : Prio) (control body : Option (List ℕ)) (s : State C) → IsBanded prio → is_no_prio prio control ≡ false → AreStreams s → AreStreams (put_at K cells side prio control body s).state
+    put-streams K side prio None None s low right all = all
+    put-streams K side prio None (Some xs) s low right all =
+        delivered-streams cells K (below side) (message_put cells side prio None (Some xs) s) s (put-good prio None _ low refl (same-prio prio None None refl right)) all
+    put-streams K side prio (Some ys) body s low right all =
+        delivered-streams cells K (below side) (message_put cells side prio (Some ys) body s) s (put-good prio _ _ low refl (same-prio prio (Some ys) (Some (cells_written cells (direction_from side) (book (direction_from side) s).written ys)) refl right)) all
 
     -- its arguments are right
     prio-right : (prio : Prio) (control body : Option (List ℕ)) → put_refusal prio control body ≡ None → is_no_prio prio control ≡ false
@@ -261,51 +270,51 @@ module _ {C : Type 0} where
     goes-open : (side : Side) (s : State C) → goes_down side s ≡ true → is_open (stream side s).opened ≡ true
     goes-open side s is = (and_parts (is_open (stream side s).opened) (not (stream side s).head.hung_up) is).0
 
-    sent-streams : (side : Side) (command : ℕ) (body : List ℕ) (s : State C) → length body ≤ IOCTL_MAX → is_numbered s ≡ true → OpenGood side s → AreStreams (ioctl_sent cells side command body s).state
-    sent-streams side command body s few numbered all =
-        delivered-streams cells (below side) (ioctl_message (asking command s.next_ioctl) body) (ioctl_begun side command s) (ioctl-good (asking command s.next_ioctl) body few) (begun-streams side command s numbered all)
+    sent-streams : (K : Behaviour) (side : Side) (command : ℕ) (body : List ℕ) (s : State C) → length body ≤ IOCTL_MAX → is_numbered s ≡ true → OpenGood side s → AreStreams (ioctl_sent K cells side command body s).state
+    sent-streams K side command body s few numbered all =
+        delivered-streams cells K (below side) (ioctl_message (asking command s.next_ioctl) body) (ioctl_begun side command s) (ioctl-good (asking command s.next_ioctl) body few) (begun-streams side command s numbered all)
 
-    ioctl-streams : (side : Side) (command : ℕ) (body : List ℕ) (s : State C) → length body ≤ IOCTL_MAX → is_numbered s ≡ true → OpenGood side s → AreStreams (ioctl_called cells side command body s).state
-    ioctl-streams side command body s few numbered all = at (asks_group side command) refl
+    ioctl-streams : (K : Behaviour) (side : Side) (command : ℕ) (body : List ℕ) (s : State C) → length body ≤ IOCTL_MAX → is_numbered s ≡ true → OpenGood side s → AreStreams (ioctl_called K cells side command body s).state
+    ioctl-streams K side command body s few numbered all = at (asks_group side command) refl
       where
-        at : (group : Bool) → asks_group side command ≡ group → AreStreams (cond group (group_at side command body s) (ioctl_at cells side command body s)).state
+        at : (group : Bool) → asks_group side command ≡ group → AreStreams (cond group (group_at side command body s) (ioctl_at K cells side command body s)).state
         at true asks = group-streams side command body s asks numbered all
-        at false asks = told-streams side (ioctl_sent cells side command body s).state (sent-streams side command body s few numbered all)
+        at false asks = told-streams side (ioctl_sent K cells side command body s).state (sent-streams K side command body s few numbered all)
 
-    pub call-streams : (caller : Caller) (asked : Request) (s : State C) → IsWithinCall asked → or_else (refused_at_once s caller asked) (unfit s caller asked) ≡ None → AreStreams s → AreStreams (performed cells caller asked s).state
-    call-streams caller OpenMaster s low allowed all =
+    pub call-streams : (K : Behaviour) (caller : Caller) (asked : Request) (s : State C) → IsWithinCall asked → or_else (refused_at_once s caller asked) (unfit K s caller asked) ≡ None → AreStreams s → AreStreams (performed K cells caller asked s).state
+    call-streams K caller OpenMaster s low allowed all =
         streams-with Master (record (stream Master s) { opened = Open }) s
         (let t = all.0 Master in record { head = t.head; modules = t.modules; driver = t.driver; shut = λ closed. absurd (false≢true (sym closed)) }) all
-    call-streams caller OpenSlave s low allowed all =
+    call-streams K caller OpenSlave s low allowed all =
         streams-with Slave (record (stream Slave s) { opened = Open; head = new_head }) s
         (let t = all.0 Slave in record { head = new-head Slave; modules = t.modules; driver = t.driver; shut = λ closed. absurd (false≢true (sym closed)) }) all
-    call-streams caller Shut s low allowed all = close-streams caller.side s (all, (fitting-met s caller Shut allowed).reached)
-    call-streams caller (Push name) s low allowed all =
-        let may = unless-none (may_stand (named_by name) (stream caller.side s).modules) Einval (or_else-none (refused_at_once s caller (Push name)) _ allowed).1 in
-        (push-streams caller.side name s may (all, goes-open caller.side s (fitting-met s caller (Push name) allowed).reached)).0
-    call-streams caller Pop s low allowed all =
-        (pop-holds caller.side (OpenGood caller.side) GoodModules (survives caller.side) s (all, goes-open caller.side s (fitting-met s caller Pop allowed).reached)).0
-    call-streams caller (Flush what band) s low allowed all = delivered-streams cells (below caller.side) (flush_message (flush_bytes (asked_of what band))) s (flush-good (flush_bytes (asked_of what band))) all
-    call-streams caller (Write bytes) s low allowed all =
+    call-streams K caller Shut s low allowed all = close-streams caller.side s (all, (fitting-met K s caller Shut allowed).reached)
+    call-streams K caller (Push name) s low allowed all =
+        let may = unless-none (may_stand (named_by K name) (stream caller.side s).modules) Einval (or_else-none (refused_at_once s caller (Push name)) _ allowed).1 in
+        (push-streams K caller.side name s may (all, goes-open caller.side s (fitting-met K s caller (Push name) allowed).reached)).0
+    call-streams K caller Pop s low allowed all =
+        (pop-holds caller.side (OpenGood caller.side) GoodModules (survives caller.side) s (all, goes-open caller.side s (fitting-met K s caller Pop allowed).reached)).0
+    call-streams K caller (Flush what band) s low allowed all = delivered-streams cells K (below caller.side) (flush_message (flush_bytes (asked_of what band))) s (flush-good (flush_bytes (asked_of what band))) all
+    call-streams K caller (Write bytes) s low allowed all =
         let dir = direction_from caller.side in
         let xs = cells_written cells dir (book dir s).written bytes in
-        chunks-streams caller.side (chunks_of (chunk_count (length xs)) xs) s all
-    call-streams caller (Read n) s low allowed all =
+        chunks-streams K caller.side (chunks_of (chunk_count (length xs)) xs) s all
+    call-streams K caller (Read n) s low allowed all =
         let h = (stream caller.side s).head in
         let good = (all.0 caller.side).head in
-        opens caller.side (record h { queue = read_queue h.read_mode h.control_mode (min n READ_MAX) h.queue }) s (fitting-met s caller (Read n) allowed).reached
+        opens caller.side (record h { queue = read_queue h.read_mode h.control_mode (min n READ_MAX) h.queue }) s (fitting-met K s caller (Read n) allowed).reached
         (record { queue = read-good h.read_mode h.control_mode (min n READ_MAX) h.queue good.queue; group = good.group }) all
-    call-streams caller (Put prio control body) s low allowed all =
-        put-streams caller.side prio control body s low (prio-right prio control body (fitting-met s caller (Put prio control body) allowed).right) all
-    call-streams caller (Get wanted cmax dmax) s low allowed all =
+    call-streams K caller (Put prio control body) s low allowed all =
+        put-streams K caller.side prio control body s low (prio-right prio control body (fitting-met K s caller (Put prio control body) allowed).right) all
+    call-streams K caller (Get wanted cmax dmax) s low allowed all =
         let h = (stream caller.side s).head in
         let good = (all.0 caller.side).head in
-        opens caller.side (record h { queue = get_queue wanted (min cmax READ_MAX) (min dmax READ_MAX) h.queue }) s (fitting-met s caller (Get wanted cmax dmax) allowed).reached
+        opens caller.side (record h { queue = get_queue wanted (min cmax READ_MAX) (min dmax READ_MAX) h.queue }) s (fitting-met K s caller (Get wanted cmax dmax) allowed).reached
         (record { queue = get-good wanted (min cmax READ_MAX) (min dmax READ_MAX) h.queue good.queue; group = good.group }) all
-    call-streams caller (Mode mode) s low allowed all = mode-streams caller.side mode s (all, (fitting-met s caller (Mode mode) allowed).reached)
-    call-streams caller (Ioctl command body) s low allowed all =
-        let met = fitting-met s caller (Ioctl command body) allowed in
-        ioctl-streams caller.side command body s (short-right body met.right) met.numbered (all, goes-open caller.side s met.reached)
-    call-streams caller (IoctlResult number) s low allowed all = told-streams caller.side s all
-    call-streams caller Signals s low allowed all = signals-streams caller.side s all
-    call-streams caller _ s low allowed all = all
+    call-streams K caller (Mode mode) s low allowed all = mode-streams caller.side mode s (all, (fitting-met K s caller (Mode mode) allowed).reached)
+    call-streams K caller (Ioctl command body) s low allowed all =
+        let met = fitting-met K s caller (Ioctl command body) allowed in
+        ioctl-streams K caller.side command body s (short-right body met.right) met.numbered (all, goes-open caller.side s met.reached)
+    call-streams K caller (IoctlResult number) s low allowed all = told-streams caller.side s all
+    call-streams K caller Signals s low allowed all = signals-streams caller.side s all
+    call-streams K caller _ s low allowed all = all

@@ -5,8 +5,9 @@ use Rattle.strm_laws.specs.Prelude.{Error, Side, Way, Up, Down, Across, Spot, is
 use Rattle.strm_laws.specs.Prelude.{driver_put, flush_across, flush_down, freed, ioctl_put, own_flushed, put_across, put_down, reader_flush, taken_in}
 use Rattle.strm_laws.specs.Prelude.{of_data, asked_by, read_flush, read_ioc, is_body_kind, is_control_kind, Message, has_parts, is_master, Queue}
 use Rattle.strm_types.specs.declared.kinds.MsgKind.TheVariants.{Read, Stop, Start}
-use Rattle.strm_laws.specs.Restorable.{GoodMessage, GoodQueue, StandsOn, is_part_kind, stands_below}
-use Rattle.strm_laws.proofs.GoodDeliveries.{AreGood, all-join}
+use Rattle.strm_laws.specs.GoodMessages.{AreGood, GoodMessage, is_part_kind}
+use Rattle.strm_laws.specs.Restorable.{GoodQueue, StandsOn, stands_below}
+use Rattle.strm_laws.proofs.GoodDeliveries.{all-join}
 use Rattle.strm_laws.proofs.GoodHeads.{flush-good, nak-good, with-parts}
 use Rattle.strm_laws.proofs.GoodQueues.{behind-good, put-good}
 

@@ -12,8 +12,8 @@ use Rattle.strm_types.specs.declared.kinds.MsgKind.TheVariants.{Read, Stop, Star
 use Rattle.strm_types.specs.declared.options.Options.{Options}
 use Rattle.strm_types.specs.Heads.{with_options}
 use Rattle.strm_types.specs.Ioctls.{refused}
-use Rattle.strm_laws.specs.Restorable.{GoodHead, GoodMessage, StandsOn, has_header, is_part_kind, sets_options}
-use Rattle.strm_laws.proofs.GoodDeliveries.{AreGood}
+use Rattle.strm_laws.specs.GoodMessages.{AreGood, GoodMessage, has_header, is_part_kind, sets_options}
+use Rattle.strm_laws.specs.Restorable.{GoodHead, StandsOn}
 use Rattle.strm_laws.proofs.GoodQueues.{behind-good, put-good}
 
 -- messages that the parts of a pair make

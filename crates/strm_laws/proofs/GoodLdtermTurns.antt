@@ -16,8 +16,9 @@ use Rattle.std.proofs.lemmas.List.{length-append}
 use Rattle.std.specs.List.{AllByRecursion}
 use Rattle.strm_types.specs.declared.keys.Key.TheVariants as keys
 use Rattle.strm_types.specs.declared.kinds.MsgKind.TheVariants as kinds
-use Rattle.strm_laws.specs.Restorable.{GoodMessage, GoodQueue, IsWork, StandsOn, goes_out, is_part_kind}
-use Rattle.strm_laws.proofs.GoodDeliveries.{AreGood, all-join}
+use Rattle.strm_laws.specs.GoodMessages.{AreGood, GoodMessage, is_part_kind}
+use Rattle.strm_laws.specs.Restorable.{GoodQueue, IsWork, StandsOn, goes_out}
+use Rattle.strm_laws.proofs.GoodDeliveries.{all-join}
 use Rattle.strm_laws.proofs.GoodHeads.{data-good, flush-good, signal-good, start-good, stop-good}
 use Rattle.strm_laws.proofs.GoodLdterms.{GoodAtLdterm, GoodDiscipline, either-ldterm, quiet-good, stands_at, queue-good, with-queue-good}
 use Rattle.strm_laws.proofs.GoodQueues.{all-put_back, put-good}

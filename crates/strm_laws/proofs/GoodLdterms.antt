@@ -9,9 +9,10 @@ use Rattle.strm_laws.specs.Prelude.{with_queue_at, without_line, write_flushed, 
 use Rattle.strm_laws.specs.Prelude.{new_pair, ends_lines, input_flushed, line_up, read_mode_of, taken_up, termios_taken, read_termios, tostop}
 use Rattle.strm_laws.specs.Prelude.{up_alone, Flushed}
 use Rattle.strm_types.specs.Ldterms.{Ldterm}
-use Rattle.strm_laws.specs.Restorable.{GoodLdterm, GoodMessage, GoodModule, GoodPair, GoodQueue, IsWhole, IsWork, StandsOn, goes_out}
+use Rattle.strm_laws.specs.GoodMessages.{AreGood, GoodMessage}
+use Rattle.strm_laws.specs.Restorable.{GoodLdterm, GoodModule, GoodPair, GoodQueue, IsWhole, IsWork, StandsOn, goes_out}
 use Rattle.strm_laws.specs.Stacked.{ldterm_stands}
-use Rattle.strm_laws.proofs.GoodDeliveries.{AreGood, all-join}
+use Rattle.strm_laws.proofs.GoodDeliveries.{all-join}
 use Rattle.strm_laws.proofs.GoodHeads.{data-good, flush-good, mode-good}
 use Rattle.strm_laws.proofs.GoodPtems.{read-whole}
 use Rattle.strm_laws.proofs.GoodQueues.{behind-good, new-good, put-good}

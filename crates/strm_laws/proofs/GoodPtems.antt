@@ -15,8 +15,9 @@ use Rattle.strm_types.specs.Acks.{acked}
 use Rattle.strm_types.specs.Ioctls.{word_at}
 use Rattle.strm_types.specs.Pckts.{writers_flush}
 use Rattle.strm_types.specs.Ptems.{window_signal}
-use Rattle.strm_laws.specs.Restorable.{GoodMessage, IsWhole, has_header}
-use Rattle.strm_laws.proofs.GoodDeliveries.{AreGood, all-join}
+use Rattle.strm_laws.specs.GoodMessages.{AreGood, GoodMessage, has_header}
+use Rattle.strm_laws.specs.Restorable.{IsWhole}
+use Rattle.strm_laws.proofs.GoodDeliveries.{all-join}
 use Rattle.strm_laws.proofs.GoodHeads.{flush-good, header-long, ioctl-good, nak-good, signal-good}
 
 -- a termios of 35 bytes is whole

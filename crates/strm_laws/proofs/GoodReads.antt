@@ -9,7 +9,8 @@ use Rattle.strm_laws.specs.Prelude.{head_draw, is_passed, is_refused, no_cells, 
 use Rattle.strm_laws.specs.Prelude.{shown, stopped, takes_none, wanted_after}
 use Rattle.std.specs.List.{AllByRecursion}
 use Rattle.strm_types.specs.declared.modes.ControlMode.TheVariants as controls
-use Rattle.strm_laws.specs.Restorable.{GoodMessage, GoodQueue, StandsOn, is_part_kind}
+use Rattle.strm_laws.specs.GoodMessages.{GoodMessage, is_part_kind}
+use Rattle.strm_laws.specs.Restorable.{GoodQueue, StandsOn}
 use Rattle.strm_laws.proofs.GoodDeliveries.{all-join}
 use Rattle.strm_laws.proofs.GoodQueues.{all-put_back, relieved-good}
 use Rattle.strm_laws.proofs.QueueOrder.{drawn-order, got-order}

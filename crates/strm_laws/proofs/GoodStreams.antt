@@ -5,19 +5,21 @@ use Rattle.strm_laws.specs.Prelude.{IOCTL_END, Dir, ModuleName, Side, Up, EndClo
 use Rattle.strm_laws.specs.Prelude.{driver_put, Head, head_put, Message, cells_of, act_among, change_among, put_among, direction_at, is_open, Queue}
 use Rattle.std.specs.List.{AllByRecursion}
 use Rattle.strm_types.specs.declared.names.Place.TheVariants as places
+use Rattle.strm_laws.specs.Behaviours.{Behaviour}
 use Rattle.strm_laws.specs.Earlier.{driver_place}
 use Rattle.strm_laws.specs.Puts.{across_of, earlier_at, made_above, module_acted, noted, put_at_driver, put_at_head, put_at_module}
-use Rattle.strm_laws.specs.Restorable.{GoodHead, GoodMessage, GoodModule, GoodModules, GoodQueue, GoodStream, stands_below}
+use Rattle.strm_laws.specs.GoodMessages.{AreGood, GoodMessage}
+use Rattle.strm_laws.specs.Restorable.{GoodHead, GoodModule, GoodModules, GoodQueue, GoodStream, stands_below}
 use Rattle.strm_laws.specs.StackCosts.{EachOnce}
 use Rattle.strm_laws.specs.Stacked.{Standing, module_name, module_puts}
 use Rattle.strm_laws.specs.State.{State, Stream, book, stream, with_book, with_driver_queue, with_stream}
-use Rattle.strm_laws.proofs.GoodDeliveries.{AreGood, GoodParts, GoodTook}
+use Rattle.strm_laws.proofs.GoodDeliveries.{GoodParts, GoodTook}
 use Rattle.strm_laws.proofs.GoodDrivers.{driver-good}
 use Rattle.strm_laws.proofs.GoodHeads.{head-good}
 use Rattle.strm_laws.proofs.PutParts.{NamesHold, acted-holds}
-use Rattle.strm_laws.proofs.StackStays.{keep-names}
+use Rattle.strm_laws.proofs.SameNames.{keep-names}
 use Rattle.strm_laws.proofs.Lawful.{GoodActed}
-use Rattle.strm_laws.proofs.LawfulKinds.{lawful}
+use Rattle.strm_laws.proofs.LawfulKinds.{puts-lawfully}
 
 module _ {C : Type 0} where
   -- both streams are good, and the next ioctl has a number
@@ -113,13 +115,13 @@ module _ {C : Type 0} where
       sent = acts.sent;
     }
 
-    stack-puts : (here : Spot) (m : Message C) (s : State C) → GoodMessage m → AreStreams s → GoodTook GoodMessage AreStreams (put_at_module cells here m s)
-    stack-puts here m s fits all =
+    stack-puts : (K : Behaviour) (here : Spot) (m : Message C) (s : State C) → GoodMessage m → AreStreams s → GoodTook GoodMessage AreStreams (put_at_module K cells here m s)
+    stack-puts K here m s fits all =
         let ps = (stream here.side s).modules in
         let made = made_above here.side s in
         let i = here.at - 1 in
-        acted-good here (put_among (module_puts cells made) i here m ps) s (keep-names cells made i here m ps)
-        (acts-good (module_puts cells made here m) (λ p. ((lawful p).put cells made here m).good fits) i ps (all.0 here.side).modules.each) all
+        acted-good here (put_among (module_puts K cells made) i here m ps) s (keep-names K cells made i here m ps)
+        (acts-good (module_puts K cells made here m) (λ p. (puts-lawfully K p cells made here m).good fits) i ps (all.0 here.side).modules.each) all
 
-    pub stream-parts : GoodParts GoodMessage AreStreams cells
-    stream-parts = record { head = head-puts; stack = stack-puts; driver = driver-puts }
+    pub stream-parts : (K : Behaviour) → GoodParts GoodMessage AreStreams K cells
+    stream-parts K = record { head = head-puts; stack = stack-puts K; driver = driver-puts }

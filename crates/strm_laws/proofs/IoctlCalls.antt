@@ -3,6 +3,7 @@
 use Rattle.strm_laws.proofs.Prelude.{ℕ, ◌≡◌, ◌+◌, Bool, List, refl, arith}
 use Rattle.strm_laws.specs.Prelude.{Ioc, Side, Master, Slave, Down, Spot, Dir, AreCells, Cells, plain, direction_from, asking, ioctl_message, Message}
 use Rattle.strm_laws.specs.Prelude.{cells_of, map_message, weight_of, map_carried, PlainSlot, Waiting, slot_behind}
+use Rattle.strm_laws.specs.Behaviours.{Behaviour, MayTestOwn}
 use Rattle.strm_laws.specs.Calls.{ioctl_begun, ioctl_sent, ioctl_told, signals_told, map_outcome}
 use Rattle.strm_laws.specs.Kept.{state_weight}
 use Rattle.strm_laws.specs.Places.{weight_gone, weight_made}
@@ -30,13 +31,14 @@ module _ {C : Type 0} where
     pub told-keeps : (side : Side) (s : State C) → state_weight p (ioctl_told side s).state ≡ state_weight p s
     told-keeps side s = ioctl-keeps side (slot_behind (stream side s).head.ioctl) s
 
-    pub sent-keeps : (cells : Cells C) (side : Side) (command : ℕ) (body : List ℕ) (s : State C) → let t = ioctl_sent cells side command body s in
+    pub sent-keeps : (K : Behaviour) (cells : Cells C) → MayTestOwn K cells p → (side : Side) (command : ℕ) (body : List ℕ) (s : State C)
+        → let t = ioctl_sent K cells side command body s in
         state_weight p (ioctl_told side t.state).state + weight_gone p t.gone ≡ state_weight p s + weight_made p t.gone
-    sent-keeps cells side command body s =
+    sent-keeps K cells tests side command body s =
         let ioc = asking command s.next_ioctl in
         let m : Message C = ioctl_message ioc body in
         let begun = ioctl_begun side command s in
-        omega (arith, told-keeps side (delivered cells (below side) m begun).state, delivered-keeps cells p (below side) m begun, weight-ioctl (p (direction_from side)) ioc body, ioctl-keeps side (Waiting s.next_ioctl command) s)
+        omega (arith, told-keeps side (delivered K cells (below side) m begun).state, delivered-keeps K cells p tests (below side) m begun, weight-ioctl (p (direction_from side)) ioc body, ioctl-keeps side (Waiting s.next_ioctl command) s)
 
 module _ {C D : Type 0} (f : C → D) where
   message-forgets : (ioc : Ioc) (body : List ℕ) → map_message f (ioctl_message ioc body) ≡ ioctl_message ioc body
@@ -59,7 +61,7 @@ module _ {C : Type 0} (cells : Cells C) (are : AreCells cells) where
   abbrev f : C → ℕ
   f = cells.byte
 
-  pub sent-forgets : (side : Side) (command : ℕ) (body : List ℕ) (s : State C) → ioctl_sent plain side command body (map_state f s) ≡ map_carried f (map_state f) (ioctl_sent cells side command body s)
-  sent-forgets side command body s =
+  pub sent-forgets : (K : Behaviour) (side : Side) (command : ℕ) (body : List ℕ) (s : State C) → ioctl_sent K plain side command body (map_state f s) ≡ map_carried f (map_state f) (ioctl_sent K cells side command body s)
+  sent-forgets K side command body s =
       let m = ioctl_message (asking command s.next_ioctl) body in
-      rw (begun-forgets f side command s, ← message-forgets f (asking command s.next_ioctl) body) (delivered-forgets cells are (below side) m (ioctl_begun side command s))
+      rw (begun-forgets f side command s, ← message-forgets f (asking command s.next_ioctl) body) (delivered-forgets cells are K (below side) m (ioctl_begun side command s))

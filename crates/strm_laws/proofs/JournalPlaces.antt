@@ -7,6 +7,7 @@ use Rattle.strm_laws.specs.Prelude.{Tagged, cells_made, cells_written, tagged, P
 use Rattle.strm_types.specs.declared.names.Place.TheVariants.{Head}
 use Rattle.strm_types.specs.declared.names.Place.TheVariants as places
 use Rattle.strm_laws.specs.Based.{based, number}
+use Rattle.strm_laws.specs.Behaviours.{Behaviour}
 use Rattle.strm_laws.specs.Kept.{AreIdle, MayTest, NothingUnread, gone, state_weight, tests_at}
 use Rattle.strm_laws.specs.LdtermWeights.{IgnoresMapping}
 use Rattle.strm_laws.specs.Ledgers.{all_gone, base_count, direction_in, is_booked, own_places_of, places_of, same_dir, same_origin}
@@ -22,27 +23,27 @@ use Rattle.strm_laws.proofs.Unread.{step-unread}
 use Rattle.strm_laws.proofs.StepsIdle.{step-idle}
 
 module _ {C : Type 0} (cells : Cells C) (p : Dir → C → Bool) (numbered : Numbered cells p) (ignores : IgnoresMapping cells p) where
-  may-test : (entry : PlainEntry) → MayTest cells p entry
-  may-test (Called caller asked answer) = tt
-  may-test (Turned name turn) = at name.place
+  may-test : (K : Behaviour) (entry : PlainEntry) → MayTest K cells p entry
+  may-test K (Called caller asked answer) = λ delivered changes. ignores
+  may-test K (Turned name turn) = at name.place
     where
-      at : (place : Place) → tests_at cells p place
+      at : (place : Place) → tests_at K cells p place
       at Head = tt
-      at Driver = tt
+      at Driver = λ changes. ignores
       at (places.Module owner) = ignores
 
   -- a journal from any state: what it adds to the books is what stands and has gone more
-  pub follows : (s : State C) → NothingUnread s → AreIdle s → (entries : List PlainEntry) → IsLegal cells s entries
-      → state_weight p (replay cells s entries) + weight_gone p (all_gone cells s entries) + total cells p numbered s ≡ state_weight p s + total cells p numbered (replay cells s entries)
-  follows s unread idle [] legal = omega arith
-  follows s unread idle (entry ∷ entries) legal =
-      let next = after cells s entry in
+  pub follows : (K : Behaviour) (s : State C) → NothingUnread s → AreIdle s → (entries : List PlainEntry) → IsLegal K cells s entries
+      → state_weight p (replay K cells s entries) + weight_gone p (all_gone K cells s entries) + total cells p numbered s ≡ state_weight p s + total cells p numbered (replay K cells s entries)
+  follows K s unread idle [] legal = omega arith
+  follows K s unread idle (entry ∷ entries) legal =
+      let next = after K cells s entry in
       omega (
         arith,
-        follows next (step-unread cells s next entry unread legal.0) (step-idle cells s next entry idle legal.0) entries legal.1,
-        step-keeps p cells s next entry (may-test entry) unread idle legal.0,
-        step-counts cells p numbered s entry,
-        gone-append p (gone cells s entry) (all_gone cells next entries),
+        follows K next (step-unread K cells s next entry unread legal.0) (step-idle K cells s next entry idle legal.0) entries legal.1,
+        step-keeps p K cells s next entry (may-test K entry) unread idle legal.0,
+        step-counts cells p numbered K s entry,
+        gone-append p (gone K cells s entry) (all_gone K cells next entries),
       )
 
 -- all bytes of a direction
@@ -75,14 +76,14 @@ module _ {C : Type 0} (cells : Cells C) where
   of-total SlaveToMaster s = let e : 0 + 0 + (s.books.slave.written + s.books.slave.made) ≡ s.books.slave.written + s.books.slave.made = omega arith in e
 
   -- of each direction: what stands and what has gone more than at first is what was written and made since
-  pub balanced : (dir : Dir) (s : State C) → NothingUnread s → AreIdle s → (entries : List PlainEntry) → IsLegal cells s entries → let t = replay cells s entries in
-      state_weight (of_dir dir) t + weight_gone (of_dir dir) (all_gone cells s entries) + ((book dir s).written + (book dir s).made) ≡ state_weight (of_dir dir) s + ((book dir t).written + (book dir t).made)
-  balanced dir s unread idle entries legal =
+  pub balanced : (K : Behaviour) (dir : Dir) (s : State C) → NothingUnread s → AreIdle s → (entries : List PlainEntry) → IsLegal K cells s entries → let t = replay K cells s entries in
+      state_weight (of_dir dir) t + weight_gone (of_dir dir) (all_gone K cells s entries) + ((book dir s).written + (book dir s).made) ≡ state_weight (of_dir dir) s + ((book dir t).written + (book dir t).made)
+  balanced K dir s unread idle entries legal =
       omega (
         arith,
-        follows cells (of_dir dir) (direction-numbered dir) (λ direction b c. refl) s unread idle entries legal,
+        follows cells (of_dir dir) (direction-numbered dir) (λ direction b c. refl) K s unread idle entries legal,
         of-total dir s,
-        of-total dir (replay cells s entries),
+        of-total dir (replay K cells s entries),
       )
 
 -- bytes that are numbered one after the other in each direction, by one kind of origin
@@ -203,23 +204,23 @@ module _ (guard : Dir → Bool) where
       (omega (arith, so, upto-both dir holds k (λ d. (book d base).made), upto-both dir holds k (λ d. (book d s).made)))
   once (Base dir k) holds base s n so = omega (arith, so, upto-both dir holds k (λ d. base_count d base))
 
-  pub placed : (o : Origin) → guard (direction_in o) ≡ true → (base : State ℕ) → NothingUnread base → AreIdle base → (entries : List PlainEntry) → IsLegal tagged (based base) entries → let s = replay tagged (based base) entries in
-      state_weight (the_byte o) s + weight_gone (the_byte o) (all_gone tagged (based base) entries) ≡ one_if (is_booked o base s)
-  placed o holds base unread idle entries legal =
-      let s = replay tagged (based base) entries in
+  pub placed : (K : Behaviour) (o : Origin) → guard (direction_in o) ≡ true → (base : State ℕ) → NothingUnread base → AreIdle base → (entries : List PlainEntry) → IsLegal K tagged (based base) entries → let s = replay K tagged (based base) entries in
+      state_weight (the_byte o) s + weight_gone (the_byte o) (all_gone K tagged (based base) entries) ≡ one_if (is_booked o base s)
+  placed K o holds base unread idle entries legal =
+      let s = replay K tagged (based base) entries in
       once o holds base s _
       (
-      follows tagged (the_byte o) (byte-numbered o) (λ direction b c. refl) (based base) (based-unread base unread) (based-idle base idle) entries legal
+      follows tagged (the_byte o) (byte-numbered o) (λ direction b c. refl) K (based base) (based-unread base unread) (based-idle base idle) entries legal
       ∙ ap (λ n. n + total tagged (the_byte o) (byte-numbered o) s) (based-counted (the_byte o) (base-numbered o) base)
       )
 
 -- in one place, and in its own direction
-pub one-place : (o : Origin) (base : State ℕ) (entries : List PlainEntry) → NothingUnread base → AreIdle base → IsLegal tagged (based base) entries → places_of o base entries ≡ cond (is_booked o base (replay tagged (based base) entries)) 1 0
-one-place o base entries unread idle legal = placed (λ direction. true) o refl base unread idle entries legal
+pub one-place : (K : Behaviour) (o : Origin) (base : State ℕ) (entries : List PlainEntry) → NothingUnread base → AreIdle base → IsLegal K tagged (based base) entries → places_of K o base entries ≡ cond (is_booked o base (replay K tagged (based base) entries)) 1 0
+one-place K o base entries unread idle legal = placed (λ direction. true) K o refl base unread idle entries legal
 
 own-direction : (dir : Dir) → same_dir dir dir ≡ true
 own-direction MasterToSlave = refl
 own-direction SlaveToMaster = refl
 
-pub own-place : (o : Origin) (base : State ℕ) (entries : List PlainEntry) → NothingUnread base → AreIdle base → IsLegal tagged (based base) entries → own_places_of o base entries ≡ cond (is_booked o base (replay tagged (based base) entries)) 1 0
-own-place o base entries unread idle legal = placed (λ direction. same_dir direction (direction_in o)) o (own-direction (direction_in o)) base unread idle entries legal
+pub own-place : (K : Behaviour) (o : Origin) (base : State ℕ) (entries : List PlainEntry) → NothingUnread base → AreIdle base → IsLegal K tagged (based base) entries → own_places_of K o base entries ≡ cond (is_booked o base (replay K tagged (based base) entries)) 1 0
+own-place K o base entries unread idle legal = placed (λ direction. same_dir direction (direction_in o)) K o (own-direction (direction_in o)) base unread idle entries legal

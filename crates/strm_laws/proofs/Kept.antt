@@ -9,8 +9,9 @@ use Rattle.strm_laws.specs.Prelude.{group_behind, PlainEntry, or_else}
 use Rattle.strm_types.specs.declared.events.Event.TheVariants.{Flush, Ioctl}
 use Rattle.strm_types.specs.declared.modes.Mode as modes
 use Rattle.strm_types.specs.declared.modes.Mode.TheVariants as chosen
+use Rattle.strm_laws.specs.Behaviours.{Behaviour, MayTestOwn}
 use Rattle.strm_laws.specs.State.{State, stream, book, with_head_queue}
-use Rattle.strm_laws.specs.Calls.{Outcome, get_at, group_at, ioctl_at, mode_set, performed, read_at, write_sent, wrote}
+use Rattle.strm_laws.specs.Calls.{Outcome, get_at, group_at, ioctl_at, mode_set, performed, read_at, write_sent, wrote, delivers}
 use Rattle.strm_laws.specs.Refusals.{refused_at_once, unfit}
 use Rattle.strm_laws.specs.Step.{Step}
 use Rattle.strm_laws.specs.Turns.{turned}
@@ -41,12 +42,13 @@ module _ {C : Type 0} where
       at false = refl
 
   module _ (p : Dir → C → Bool) where
-    write-keeps : (cells : Cells C) (side : Side) (bytes : List ℕ) (s : State C) → let t = write_sent cells side bytes s in
-        state_weight p (wrote cells side bytes s).state + weight_gone p t.gone ≡ state_weight p s + (count_by (p (direction_from side)) (wrote cells side bytes s).came + weight_made p t.gone)
-    write-keeps cells side bytes s =
+    write-keeps : (K : Behaviour) (cells : Cells C) → MayTestOwn K cells p → (side : Side) (bytes : List ℕ) (s : State C)
+        → let t = write_sent K cells side bytes s in
+        state_weight p (wrote K cells side bytes s).state + weight_gone p t.gone ≡ state_weight p s + (count_by (p (direction_from side)) (wrote K cells side bytes s).came + weight_made p t.gone)
+    write-keeps K cells tests side bytes s =
         let dir = direction_from side in
-        let t = write_sent cells side bytes s in
-        omega (arith, cells_sent-keeps cells p side (cells_written cells dir (book dir s).written bytes) s)
+        let t = write_sent K cells side bytes s in
+        omega (arith, cells_sent-keeps cells p side K tests (cells_written cells dir (book dir s).written bytes) s)
 
     -- what a read leaves on the queue, and what goes by its rules
     drawn-keeps : (dir : Dir) (read : ReadMode) (control : ControlMode) (n : ℕ) (q : Queue C) → weight (p dir) (read_queue read control n q).messages + weight_gone p (read_gone dir read control n q.messages) ≡ weight (p dir) q.messages + weight_made p (read_gone dir read control n q.messages)
@@ -94,36 +96,38 @@ module _ {C : Type 0} where
         let t = stream side s in
         same-weighs p side (record t { head = record t.head { group = group_behind command body t.head.group; ioctl = Free } }) s refl
 
-    performed-keeps : (cells : Cells C) (caller : Caller) (asked : Request) (s : State C) → NothingUnread s → AreIdle s → or_else (refused_at_once s caller asked) (unfit s caller asked) ≡ None → Keeps caller s (performed cells caller asked s)
-    performed-keeps cells caller Shut s unread idle allowed = omega (arith, closed_at-keeps p caller.side s (idle caller.side))
-    performed-keeps cells caller (Push name) s unread idle allowed = omega (arith, push-keeps p caller.side name s)
-    performed-keeps cells caller Pop s unread idle allowed = omega (arith, pop-keeps p caller.side s (idle caller.side))
-    performed-keeps cells caller (Flush what band) s unread idle allowed = omega (arith, flushed_on-keeps cells p band caller.side what s)
-    performed-keeps cells caller OpenSlave s unread idle allowed =
+    performed-keeps : (K : Behaviour) (cells : Cells C) (caller : Caller) (asked : Request) (s : State C) → (delivers asked ≡ true → MayTestOwn K cells p) → NothingUnread s → AreIdle s → or_else (refused_at_once s caller asked) (unfit K s caller asked) ≡ None → Keeps caller s (performed K cells caller asked s)
+    performed-keeps K cells caller Shut s tests unread idle allowed = omega (arith, closed_at-keeps p caller.side s (idle caller.side))
+    performed-keeps K cells caller (Push name) s tests unread idle allowed = omega (arith, push-keeps p K caller.side name s)
+    performed-keeps K cells caller Pop s tests unread idle allowed = omega (arith, pop-keeps p caller.side s (idle caller.side))
+    performed-keeps K cells caller (Flush what band) s tests unread idle allowed =
+        omega (arith, flushed_on-keeps K cells p (tests refl) band caller.side what s)
+    performed-keeps K cells caller OpenSlave s tests unread idle allowed =
         let by_state = or_else-none _ _ (or_else-none (refused_at_once s caller OpenSlave) _ allowed).1 in
         let closed = closed-of (is_open s.ends.slave.opened) (unless-none (not (is_open s.ends.slave.opened)) Einval by_state.0) in
         let nothing = ap (λ (q : List (Message C)). weight (p (direction_at Up Slave)) q) (unread Slave closed) in
         omega (arith, nothing)
-    performed-keeps cells caller (Write bytes) s unread idle allowed = write-keeps cells caller.side bytes s
-    performed-keeps cells caller (Read n) s unread idle allowed = omega (arith, read-keeps cells caller.side n s)
-    performed-keeps cells caller (Put prio control body) s unread idle allowed = put_at-keeps p cells caller.side prio control body s
-    performed-keeps cells caller (Get wanted cmax dmax) s unread idle allowed = omega (arith, get-keeps cells caller.side wanted cmax dmax s)
-    performed-keeps cells caller (Mode mode) s unread idle allowed = omega (arith, mode-keeps caller.side mode s)
-    performed-keeps cells caller (Ioctl command body) s unread idle allowed = at (asks_group caller.side command)
+    performed-keeps K cells caller (Write bytes) s tests unread idle allowed = write-keeps K cells (tests refl) caller.side bytes s
+    performed-keeps K cells caller (Read n) s tests unread idle allowed = omega (arith, read-keeps cells caller.side n s)
+    performed-keeps K cells caller (Put prio control body) s tests unread idle allowed =
+        put_at-keeps p K cells (tests refl) caller.side prio control body s
+    performed-keeps K cells caller (Get wanted cmax dmax) s tests unread idle allowed = omega (arith, get-keeps cells caller.side wanted cmax dmax s)
+    performed-keeps K cells caller (Mode mode) s tests unread idle allowed = omega (arith, mode-keeps caller.side mode s)
+    performed-keeps K cells caller (Ioctl command body) s tests unread idle allowed = at (asks_group caller.side command)
       where
-        at : (group : Bool) → Keeps caller s (cond group (group_at caller.side command body s) (ioctl_at cells caller.side command body s))
+        at : (group : Bool) → Keeps caller s (cond group (group_at caller.side command body s) (ioctl_at K cells caller.side command body s))
         at true = omega (arith, group-keeps caller.side command body s)
-        at false = omega (arith, sent-keeps p cells caller.side command body s)
-    performed-keeps cells caller (IoctlResult number) s unread idle allowed = omega (arith, told-keeps p caller.side s)
-    performed-keeps cells caller Signals s unread idle allowed = omega (arith, signals-keep p caller.side [] s)
-    performed-keeps cells caller _ s unread idle allowed = refl
+        at false = omega (arith, sent-keeps p K cells (tests refl) caller.side command body s)
+    performed-keeps K cells caller (IoctlResult number) s tests unread idle allowed = omega (arith, told-keeps p caller.side s)
+    performed-keeps K cells caller Signals s tests unread idle allowed = omega (arith, signals-keep p caller.side [] s)
+    performed-keeps K cells caller _ s tests unread idle allowed = refl
 
     -- what stands on the queues after a step, and what it took away, is what stood there before, what it brought, and what was
     -- made on the way
-    pub step-keeps : (cells : Cells C) (old new : State C) (entry : PlainEntry) → MayTest cells p entry → NothingUnread old → AreIdle old → Step cells old entry new
-        → state_weight p new + weight_gone p (gone cells old entry) ≡ state_weight p old + (count_came cells p old entry + weight_made p (gone cells old entry))
-    step-keeps cells old new (Called caller asked answer) tests unread idle step =
-        ap (λ (s : State C). state_weight p s + weight_gone p (gone cells old (Called caller asked answer))) (sym step.leads)
-        ∙ of-allowed cells caller asked old (Keeps caller old) (λ signal. refl) step.allowed (λ fits. performed-keeps cells caller asked old unread idle fits)
-    step-keeps cells old new (Turned name turn) tests unread idle step =
-        ap (λ (s : State C). state_weight p s + weight_gone p (gone cells old (Turned name turn))) (sym step.leads) ∙ turn-keeps p cells name tests turn old idle ∙ (let same : state_weight p old + weight_made p (turned cells name turn old).gone ≡ state_weight p old + (0 + weight_made p (turned cells name turn old).gone) = omega arith in same)
+    pub step-keeps : (K : Behaviour) (cells : Cells C) (old new : State C) (entry : PlainEntry) → MayTest K cells p entry → NothingUnread old → AreIdle old → Step K cells old entry new
+        → state_weight p new + weight_gone p (gone K cells old entry) ≡ state_weight p old + (count_came K cells p old entry + weight_made p (gone K cells old entry))
+    step-keeps K cells old new (Called caller asked answer) tests unread idle step =
+        ap (λ (s : State C). state_weight p s + weight_gone p (gone K cells old (Called caller asked answer))) (sym step.leads)
+        ∙ of-allowed K cells caller asked old (Keeps caller old) (λ signal. refl) step.allowed (λ fits. performed-keeps K cells caller asked old tests unread idle fits)
+    step-keeps K cells old new (Turned name turn) tests unread idle step =
+        ap (λ (s : State C). state_weight p s + weight_gone p (gone K cells old (Turned name turn))) (sym step.leads) ∙ turn-keeps p K cells name tests turn old idle ∙ (let same : state_weight p old + weight_made p (turned K cells name turn old).gone ≡ state_weight p old + (0 + weight_made p (turned K cells name turn old).gone) = omega arith in same)

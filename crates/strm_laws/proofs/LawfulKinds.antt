@@ -1,19 +1,22 @@
 -- Each kind of module is lawful: the one place that names them all.
-use Rattle.strm_laws.proofs.Prelude.{ℕ, ◌≡◌, true, [], ◌∷◌, refl, ap, ◌∙◌, arith, Bool, false, Option, Some, count_by, option_map, false≢true}
-use Rattle.strm_laws.proofs.Prelude.{idle-stays, puts-stay, puts-each, pckt-within, puts-gone, ptem-within}
+use Rattle.strm_laws.proofs.Prelude.{ℕ, ◌≡◌, true, [], ◌∷◌, refl, ap, ◌∙◌, arith, Bool, false, cond, None, Option, Some, count_by, option_map}
+use Rattle.strm_laws.proofs.Prelude.{idle-stays, puts-stay, puts-each, pckt-within, puts-gone, ptem-within, false≢true}
 use Rattle.strm_laws.specs.Prelude.{Dir, ModuleName, Side, Way, Up, Spot, ldterm_asks, Cells, plain, made_of, kind_number, ldterm_puts, ldterm_serves}
 use Rattle.strm_laws.specs.Prelude.{disciplined, map_message, Message, direction_at, other, Pckt, plain_packed, Ptem, ptem_puts, done_by, served_by}
 use Rattle.strm_laws.specs.Prelude.{map_pair, QueuePair, stood}
 use Rattle.strm_types.specs.declared.names.ModuleName.TheVariants as names
+use Rattle.strm_types.specs.Owns.{Own}
+use Rattle.strm_laws.specs.Behaviours.{Behaviour}
 use Rattle.strm_laws.specs.LdtermWeights.{weight_begun, weight_in_work}
 use Rattle.strm_laws.specs.Places.{weight_gone, weight_made}
-use Rattle.strm_laws.specs.Stacked.{kind_line, kind_weight, KindRests, ldterm_stands, Module, module_puts, OfLdterm, OfPckt, OfPtem, Standing}
+use Rattle.strm_laws.specs.Pushes.{is_known, module_named, named_by}
+use Rattle.strm_laws.specs.Stacked.{kind_line, kind_weight, KindRests, ldterm_stands, Module, OfLdterm, OfOwn, OfPckt, OfPtem, Standing}
 use Rattle.strm_types.proofs.LdtermWithin.{ldterm-within}
 use Rattle.strm_laws.proofs.GoodLdtermTurns.{serves-good}
 use Rattle.strm_laws.proofs.GoodLdterms.{good-stands, good-with, ldterm-good}
 use Rattle.strm_laws.proofs.GoodPtems.{pckt-good, ptem-good}
 use Rattle.strm_laws.proofs.GoodQueues.{new-good}
-use Rattle.strm_laws.proofs.Lawful.{IsLawful, IsNew, IsPlain, IsReadyAt, LawfulCall, LawfulImage, LawfulPut}
+use Rattle.strm_laws.proofs.Lawful.{IsLawful, IsNew, IsPlain, IsPlainPut, IsReadyAt, LawfulCall, LawfulImage, LawfulPut}
 use Rattle.strm_laws.proofs.LdtermKeeps.{ldterm-none, puts-hold}
 use Rattle.strm_laws.proofs.LdtermPutForgets.{puts-forget}
 use Rattle.strm_laws.proofs.LdtermServes.{goes-at, keeps-at, puts-ready, rests-at, serves-forget}
@@ -48,8 +51,9 @@ module _ {C : Type 0} where
   ready way left (OfLdterm l) queues rests = rests
   ready way left part queues rests = tt
 
-  module _ (cells : Cells C) where
-    put : (part : Module C) (queues : Option (QueuePair C)) (made : ℕ) (here : Spot) (m : Message C) → LawfulPut (stood part queues) cells made here m
+  module _ (K : Behaviour) (cells : Cells C) where
+    put : (part : Module C) (queues : Option (QueuePair C)) (made : ℕ) (here : Spot) (m : Message C)
+        → LawfulPut (stood part queues) K cells made here m
     put (OfLdterm l) queues made here m =
         let d = disciplined l queues in
         let t = ldterm_puts here m d in
@@ -57,7 +61,7 @@ module _ {C : Type 0} where
           name = refl;
           rests = λ rests. idle-stays d t.state (puts-stay here m d) rests;
           ready = λ again way left ready. puts-ready again way left here m d ready;
-          once = λ p. omega (arith, puts-hold p here m d, ldterm-none p here m d, weigh p here.side l queues, weigh-stands p here.side t.state);
+          once = λ p tests. omega (arith, puts-hold p here m d, ldterm-none p here m d, weigh p here.side l queues, weigh-stands p here.side t.state);
           order = order-none cells (other here.side) made _ (ldterm-none (λ dir c. true) here m d);
           within = ldterm-within here m d;
           makes = λ small. omega (arith, made-all t.gone, ldterm-none (λ dir c. true) here m d);
@@ -74,7 +78,7 @@ module _ {C : Type 0} where
           name = refl;
           rests = λ rests. tt;
           ready = λ again way left ready. tt;
-          once = λ p. omega (arith, puts-sent p here m q, ap (λ gone. weight_gone p gone) none, ap (λ gone. weight_made p gone) none);
+          once = λ p tests. omega (arith, puts-sent p here m q, ap (λ gone. weight_gone p gone) none, ap (λ gone. weight_made p gone) none);
           order = order-none cells (other here.side) made _ (ap all_made none);
           within = ptem-within here m q;
           makes = λ small. omega (arith, ap made_of none);
@@ -88,7 +92,7 @@ module _ {C : Type 0} where
       name = refl;
       rests = λ rests. tt;
       ready = λ again way left ready. tt;
-      once = λ p. omega (arith, pckt-keeps p cells made here m);
+      once = λ p tests. omega (arith, pckt-keeps p cells made here m);
       order = puts-each cells made here m (λ t. TurnOrder cells (other here.side) made t.gone) (order-none cells (other here.side) made [] refl)
           (λ up is. order-next cells (other here.side) made (kind_number m.kind ∷ plain_packed m) [] refl);
       within = pckt-within cells made here m;
@@ -96,7 +100,23 @@ module _ {C : Type 0} where
       forgets = λ are. ap (done_by (λ (p : Pckt). stood (OfPckt p) (option_map (map_pair cells.byte) queues))) (pckt-forgets cells are made here m);
       good = λ fits good. record { state = record { kind = tt; queues = good.queues; has = good.has }; sent = pckt-good cells made here m fits };
     }
+    put (OfOwn o) queues made here m =
+        let t = K.puts cells here m o in
+        let own = K.put cells here m o in
+        let none = own.none_made (λ dir c. true) in
+        record {
+          name = ap (λ n. names.Own n) own.number;
+          rests = λ rests. tt;
+          ready = λ again way left ready. tt;
+          once = λ p tests. omega (arith, own.once p tests, own.none_made p);
+          order = order-none cells (other here.side) made t.gone none;
+          within = own.within;
+          makes = λ small. omega (arith, made-all t.gone, none);
+          forgets = λ are. ap (done_by (λ (p : Own). stood (OfOwn p) (option_map (map_pair cells.byte) queues))) (K.forgets cells are here m o);
+          good = λ fits good. record { state = record { kind = own.stays good.kind; queues = good.queues; has = good.has }; sent = own.sends fits };
+        }
 
+  module _ (cells : Cells C) where
     -- one without a service procedure does nothing
     call : (part : Module C) (queues : Option (QueuePair C)) (here : Spot) (made : ℕ) (again : Bool)
         → LawfulCall (stood part queues) cells here made again
@@ -133,23 +153,33 @@ lawful x = record {
   image = λ f. image f x.part x.queues;
   weighs = λ p side idle. weighs p side x.part idle;
   ready = λ way left rests. ready way left x.part x.queues rests;
-  put = λ cells. put cells x.part x.queues;
   call = λ cells. call cells x.part x.queues;
 }
 
+pub puts-lawfully : {C : Type 0} (K : Behaviour) (x : Standing C) (cells : Cells C) (made : ℕ) (here : Spot) (m : Message C)
+    → LawfulPut x K cells made here m
+puts-lawfully K x cells made here m = put K cells x.part x.queues made here m
+
 -- and plain
-put-same : (part : Module ℕ) (queues : Option (QueuePair ℕ)) (a b : ℕ) (here : Spot) (m : Message ℕ)
-    → module_puts plain a here m (stood part queues) ≡ module_puts plain b here m (stood part queues)
-put-same (OfPckt q) queues a b here m = ap (done_by (λ (p : Pckt). stood (OfPckt p) queues)) (puts-same a b here m)
-put-same part queues a b here m = refl
+pub puts-plainly : (K : Behaviour) (x : Standing ℕ) → IsPlainPut K x
+puts-plainly K x = by x.part
+  where
+    by : (part : Module ℕ) → IsPlainPut K (stood part x.queues)
+    by (OfLdterm l) = record {
+      put_same = λ a b here m. refl;
+      put_stays = λ made here m. (let same = puts-stay here m (disciplined l x.queues) in (same.stage, same.work));
+    }
+    by (OfPckt q) = record {
+      put_same = λ a b here m. ap (done_by (λ (p : Pckt). stood (OfPckt p) x.queues)) (puts-same a b here m);
+      put_stays = λ made here m. (refl, refl);
+    }
+    by part = record { put_same = λ a b here m. refl; put_stays = λ made here m. (refl, refl) }
 
 pub plainly : (x : Standing ℕ) → IsPlain x
 plainly x = by x.part
   where
     by : (part : Module ℕ) → IsPlain (stood part x.queues)
     by (OfLdterm l) = let d = disciplined l x.queues in record {
-      put_same = put-same (OfLdterm l) x.queues;
-      put_stays = λ made here m. (let same = puts-stay here m d in (same.stage, same.work));
       call_same = λ here again stop made. ap (served_by ldterm_stands) (serves-made here again stop d made);
       goes = λ here again begins works. serves-goes here again d begins works;
       alike = λ here again works left made fits. ap (served_by ldterm_stands) (serves-alike here again d works left made fits);
@@ -159,8 +189,6 @@ plainly x = by x.part
       forgets = λ side up idle. ap OfLdterm (numbered-forgets side up l idle);
     }
     by part = record {
-      put_same = put-same part x.queues;
-      put_stays = λ made here m. (refl, refl);
       call_same = λ here again stop made. refl;
       goes = λ here again begins works. absurd (false≢true works);
       alike = λ here again works left made fits. refl;
@@ -171,16 +199,33 @@ plainly x = by x.part
     }
 
 -- and as it is pushed
-pub new : {C : Type 0} (name : ModuleName) → IsNew C name
-new names.Ldterm = record {
+pub new : {C : Type 0} (K : Behaviour) (name : ModuleName) → IsNew C K name
+new K names.Ldterm = record {
   forgets = λ f. refl;
   weighs = λ p side. refl;
   rests = (refl, refl, refl, refl);
-  good = record {
+  good = λ known. record {
     kind = record { termios = refl; column = omega arith; line = omega arith; work = tt };
     queues = (new-good _ 512 128 (omega arith) (omega arith) (omega arith), new-good _ 512 128 (omega arith) (omega arith) (omega arith));
     has = refl;
   };
 }
-new names.Ptem = record { forgets = λ f. refl; weighs = λ p side. refl; rests = tt; good = record { kind = refl; queues = tt; has = refl } }
-new names.Pckt = record { forgets = λ f. refl; weighs = λ p side. refl; rests = tt; good = record { kind = tt; queues = tt; has = refl } }
+new K names.Ptem =
+    record { forgets = λ f. refl; weighs = λ p side. refl; rests = tt; good = λ known. record { kind = refl; queues = tt; has = refl } }
+new K names.Pckt = record { forgets = λ f. refl; weighs = λ p side. refl; rests = tt; good = λ known. record { kind = tt; queues = tt; has = refl } }
+new K (names.Own n) = record {
+  forgets = λ f. refl;
+  weighs = λ p side. refl;
+  rests = tt;
+  good = λ known. record { kind = K.good n known; queues = tt; has = refl };
+}
+
+-- what is pushed by a name: such a module where there are any, and else none
+pub named-each : {C : Type 0} (K : Behaviour) (name : ModuleName) (P : Option (Standing C) → Type 0) → P None
+    → (is_known K name ≡ true → P (Some (module_named K name)))
+    → P (named_by K (Some name))
+named-each K name P none some = at (is_known K name) refl
+  where
+    at : (known : Bool) → is_known K name ≡ known → P (cond known (Some (module_named K name)) None)
+    at true is = some is
+    at false is = none

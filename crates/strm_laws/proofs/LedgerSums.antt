@@ -10,6 +10,7 @@ use Rattle.std.proofs.lemmas.List.Sums.{get_or-le-sum_by, sum_by-set}
 use Rattle.std.proofs.lemmas.List.{length-set}
 use Rattle.strm_types.specs.declared.rules.Rule.TheVariants as rules
 use Rattle.strm_laws.specs.Based.{cells_in, held_by}
+use Rattle.strm_laws.specs.Behaviours.{Behaviour}
 use Rattle.strm_laws.specs.Kept.{AreIdle, NothingUnread, gone, state_weight, told_by}
 use Rattle.strm_laws.specs.Ledgers.{Balanced, all_gone, inline, queued}
 use Rattle.strm_laws.specs.Places.{weight_gone}
@@ -160,10 +161,10 @@ module _ {C : Type 0} where
   tallied-append [] ys f = refl
   tallied-append (x ∷ xs) ys f = tallied-append xs ys (counted_with x f)
 
-  tells-all : (cells : Cells C) (s : State C) (entries : List PlainEntry) (f : Fates) → told_by cells s entries f ≡ tallied (all_gone cells s entries) f
-  tells-all cells s [] f = refl
-  tells-all cells s (entry ∷ entries) f =
-      tells-all cells (after cells s entry) entries (tallied (gone cells s entry) f) ∙ sym (tallied-append (gone cells s entry) (all_gone cells (after cells s entry) entries) f)
+  tells-all : (K : Behaviour) (cells : Cells C) (s : State C) (entries : List PlainEntry) (f : Fates) → told_by K cells s entries f ≡ tallied (all_gone K cells s entries) f
+  tells-all K cells s [] f = refl
+  tells-all K cells s (entry ∷ entries) f =
+      tells-all K cells (after K cells s entry) entries (tallied (gone K cells s entry) f) ∙ sym (tallied-append (gone K cells s entry) (all_gone K cells (after K cells s entry) entries) f)
 
   sized-on : (dir : Dir) (told : List (Fate C)) (f : Fates) → Sized dir f → Sized dir (tallied told f)
   sized-on dir [] f sized = sized
@@ -189,15 +190,15 @@ module _ {C : Type 0} where
       omega (arith, e, sums-on dir told (told_more other rule (length xs) f) (sized-more dir other rule (length xs) f sized) (omega (arith, e, low)))
 
 -- The numbers of a ledger agree behind a journal where they do at its base, as long as no count goes round.
-pub agrees : (dir : Dir) (base : State ℕ) (fates : Fates) (entries : List PlainEntry) → NothingUnread base → AreIdle base → IsLegal plain base entries → Balanced dir base fates
-    → let s = replay plain base entries in (book dir s).written + (book dir s).made < 2 ^ 64 → Balanced dir s (told_by plain base entries fates)
-agrees dir base fates entries unread idle legal before low =
-    let s = replay plain base entries in
-    let gone = all_gone plain base entries in
-    let balance = balanced plain dir base unread idle entries legal in
+pub agrees : (K : Behaviour) (dir : Dir) (base : State ℕ) (fates : Fates) (entries : List PlainEntry) → NothingUnread base → AreIdle base → IsLegal K plain base entries → Balanced dir base fates
+    → let s = replay K plain base entries in (book dir s).written + (book dir s).made < 2 ^ 64 → Balanced dir s (told_by K plain base entries fates)
+agrees K dir base fates entries unread idle legal before low =
+    let s = replay K plain base entries in
+    let gone = all_gone K plain base entries in
+    let balance = balanced plain K dir base unread idle entries legal in
     let first = stands-there dir base idle in
-    let last = stands-there dir s (idle-behind plain base entries idle legal) in
-    let told = tells-all plain base entries fates in
+    let last = stands-there dir s (idle-behind K plain base entries idle legal) in
+    let told = tells-all K plain base entries fates in
     let sums = sums-on dir gone fates before.rules (omega (arith, balance, first, before.agree, low)) in
     record {
       rules = ap (λ f. length (fates_of dir f)) told ∙ sized-on dir gone fates before.rules;

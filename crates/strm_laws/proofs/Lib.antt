@@ -19,8 +19,12 @@ pub mod EnabledExist
 pub mod EnabledPuts
 pub mod EnabledCalls
 pub mod RestorableSteps
+pub mod KnownStay
 pub mod RestCosts
 pub mod RestPuts
+pub mod RestOwns
+pub mod NoOwn
+pub mod EitherOwn
 pub mod RestLdterms
 pub mod RestServes
 pub mod RestStates
@@ -62,6 +66,7 @@ pub mod StacksFit
 pub mod Budgeted
 pub mod StackOnce
 pub mod StackSpares
+pub mod SameNames
 pub mod StackStays
 pub mod PutWeights
 pub mod EndsMake

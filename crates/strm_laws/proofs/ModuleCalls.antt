@@ -2,12 +2,13 @@
 -- on, or nothing of one is under way at any module.
 use Rattle.strm_laws.proofs.Prelude.{ℕ, zero, suc, ◌≡◌, ◌+◌, ◌-◌, Bool, true, false, List, [], ◌∷◌, map, arith, Some, slice_index_or, sum_by-cons}
 use Rattle.strm_laws.specs.Prelude.{Spot, Dir, Cells, Acted, Message, act_among, put_among}
+use Rattle.strm_laws.specs.Behaviours.{Behaviour}
 use Rattle.strm_laws.specs.LdtermWeights.{IgnoresMapping}
 use Rattle.strm_laws.specs.Places.{weight_gone, weight_made, weight_sent}
 use Rattle.strm_laws.specs.Stacked.{Standing, IsAtRest, module_puts, module_serves, module_weight, modules_weight}
 use Rattle.strm_laws.proofs.ModulesIdle.{AllIdle, among-idle}
 use Rattle.strm_laws.proofs.Lawful.{IsReadyAt}
-use Rattle.strm_laws.proofs.LawfulKinds.{lawful}
+use Rattle.strm_laws.proofs.LawfulKinds.{lawful, puts-lawfully}
 
 -- the module at a place is so, counted from the top, from 0, and at all others nothing of a turn is under way
 abbrev pub OneIs : {C : Type 0} → (Standing C → Type 0) → ℕ → List (Standing C) → Type 0
@@ -21,13 +22,13 @@ module _ {C : Type 0} where
   one-of-idle Is from zero (l ∷ ls) idle = (from l idle.0, idle.1)
   one-of-idle Is from (suc i) (l ∷ ls) idle = (idle.0, one-of-idle Is from i ls idle.1)
 
-  module _ (cells : Cells C) (made : ℕ) where
-    pub one-puts : (Is : Standing C → Type 0) → ((here : Spot) (m : Message C) (l : Standing C) → Is l → Is (module_puts cells made here m l).state)
-        → (i j : ℕ) (here : Spot) (m : Message C) (ps : List (Standing C)) → OneIs Is i ps → OneIs Is i (put_among (module_puts cells made) j here m ps).state
+  module _ (K : Behaviour) (cells : Cells C) (made : ℕ) where
+    pub one-puts : (Is : Standing C → Type 0) → ((here : Spot) (m : Message C) (l : Standing C) → Is l → Is (module_puts K cells made here m l).state)
+        → (i j : ℕ) (here : Spot) (m : Message C) (ps : List (Standing C)) → OneIs Is i ps → OneIs Is i (put_among (module_puts K cells made) j here m ps).state
     one-puts Is stays i j here m [] one = tt
     one-puts Is stays zero zero here m (l ∷ ls) one = (stays here m l one.0, one.1)
-    one-puts Is stays zero (suc j) here m (l ∷ ls) one = (one.0, among-idle cells made j here m ls one.1)
-    one-puts Is stays (suc i) zero here m (l ∷ ls) one = (((lawful l).put cells made here m).rests one.0, one.1)
+    one-puts Is stays zero (suc j) here m (l ∷ ls) one = (one.0, among-idle K cells made j here m ls one.1)
+    one-puts Is stays (suc i) zero here m (l ∷ ls) one = ((puts-lawfully K l cells made here m).rests one.0, one.1)
     one-puts Is stays (suc i) (suc j) here m (l ∷ ls) one = (one.0, one-puts Is stays i j here m ls one.1)
 
 -- a call of the one at a place

@@ -6,6 +6,7 @@ use Rattle.strm_laws.proofs.Prelude.{length-map, carried-holds, in_turn-holds, g
 use Rattle.strm_laws.specs.Prelude.{Moved, Blocked, HOPS, QueueName, Side, Way, Up, Down, Spot, with_made, plain, Acted, Fate, Goes, Comes, Parcel}
 use Rattle.strm_laws.specs.Prelude.{carried, in_turn, stages_done, to_treat, Stage, Message, at_place, messages_at, act_among, put_among, Serving}
 use Rattle.strm_laws.specs.Prelude.{Begins, Ends, bytes_left, first_size}
+use Rattle.strm_laws.specs.Behaviours.{Behaviour}
 use Rattle.strm_laws.specs.ModuleTurns.{Calls, again_at, bytes_at, call_at, calls, made_below, module_turn_ended, moved_on, moved_within}
 use Rattle.strm_laws.specs.Puts.{booked, module_acted, put_in}
 use Rattle.strm_laws.specs.Stacked.{Standing, module_puts, module_serves}
@@ -15,7 +16,7 @@ use Rattle.strm_laws.specs.TurnOutcomes.{TurnOutcome, stayed_put}
 use Rattle.strm_laws.proofs.LdtermStops.{GoesOn}
 use Rattle.strm_laws.proofs.ModulesHold.{OnBoth, puts-good}
 use Rattle.strm_laws.proofs.StandingLdterms.{stands-at}
-use Rattle.strm_laws.proofs.LawfulKinds.{plainly}
+use Rattle.strm_laws.proofs.LawfulKinds.{plainly, puts-plainly}
 
 -- one of several, and what is said of it
 module _ {P : Type 0} (d : P) where
@@ -61,16 +62,16 @@ module _ (here : Spot) (again : Bool) where
 ways : (a b : Stage ℕ) (c d : Option (Message ℕ)) → a ≡ b → c ≡ d → (let x : UnderWay = record { stage = a; in_work = c } in let y : UnderWay = record { stage = b; in_work = d } in x ≡ y)
 ways a b c d same work = ap (λ (x : Stage ℕ). let v : UnderWay = record { stage = x; in_work = c } in v) same ∙ ap (λ (x : Option (Message ℕ)). let v : UnderWay = record { stage = b; in_work = x } in v) work
 
-put-stays : (made j : ℕ) (to : Spot) (m : Message ℕ) (ps : List (Standing ℕ)) → map under_way (put_among (module_puts plain made) j to m ps).state ≡ map under_way ps
-put-stays made j to m [] = refl
-put-stays made zero to m (l ∷ ls) =
-    let stays = (plainly l).put_stays made to m in
+put-stays : (K : Behaviour) (made j : ℕ) (to : Spot) (m : Message ℕ) (ps : List (Standing ℕ)) → map under_way (put_among (module_puts K plain made) j to m ps).state ≡ map under_way ps
+put-stays K made j to m [] = refl
+put-stays K made zero to m (l ∷ ls) =
+    let stays = (puts-plainly K l).put_stays made to m in
     ap (λ x. x ∷ map under_way ls) (ways _ _ _ _ stays.0 stays.1)
-put-stays made (suc j) to m (l ∷ ls) = ap (λ xs. under_way l ∷ xs) (put-stays made j to m ls)
+put-stays K made (suc j) to m (l ∷ ls) = ap (λ xs. under_way l ∷ xs) (put-stays K made j to m ls)
 
 -- so it does in deliveries
-pub sent-stays : (sent : List (Parcel ℕ)) (s : State ℕ) (side : Side) → map under_way (stream side (in_turn (carried (put_in plain) HOPS) sent s).state).modules ≡ map under_way (stream side s).modules
-sent-stays sent s = in_turn-holds (OnBoth Good) (carried (put_in plain) HOPS) (carried-holds (OnBoth Good) (put_in plain) (puts-good Good plain (λ side made i to m ps same. put-stays made i to m ps ∙ same)) HOPS) sent s (λ side. refl)
+pub sent-stays : (K : Behaviour) (sent : List (Parcel ℕ)) (s : State ℕ) (side : Side) → map under_way (stream side (in_turn (carried (put_in K plain) HOPS) sent s).state).modules ≡ map under_way (stream side s).modules
+sent-stays K sent s = in_turn-holds (OnBoth Good) (carried (put_in K plain) HOPS) (carried-holds (OnBoth Good) (put_in K plain) (puts-good Good K plain (λ side made i to m ps same. put-stays K made i to m ps ∙ same)) HOPS) sent s (λ side. refl)
   where
     Good : Side → List (Standing ℕ) → Type 0
     Good side ps = map under_way ps ≡ map under_way (stream side s).modules
@@ -88,25 +89,25 @@ module _ (here : Spot) where
   acted-modules : (t : Acted ℕ (List (Standing ℕ))) (s : State ℕ) → (stream here.side (module_acted here t s).state).modules ≡ t.state
   acted-modules t s = booked-stays here.side t.gone (module_acted here (record t { gone = [] }) s).state ∙ with-modules here.side t.state s
 
-  module _ (again : Bool) (stop : Option ℕ) where
+  module _ (K : Behaviour) (again : Bool) (stop : Option ℕ) where
     -- the module behind it
-    pub led-under-way : (s : State ℕ) → map under_way (stream here.side (led here again stop s).state).modules ≡ map under_way (called here again stop (stream here.side s).modules).state
+    pub led-under-way : (s : State ℕ) → map under_way (stream here.side (led K here again stop s).state).modules ≡ map under_way (called here again stop (stream here.side s).modules).state
     led-under-way s =
         let t = module_acted here (called here again stop (stream here.side s).modules) s in
-        sent-stays t.sent t.state here.side ∙ ap (λ ps. map under_way ps) (acted-modules (called here again stop (stream here.side s).modules) s)
+        sent-stays K t.sent t.state here.side ∙ ap (λ ps. map under_way ps) (acted-modules (called here again stop (stream here.side s).modules) s)
 
-    pub led-length : (s : State ℕ) → length (stream here.side (led here again stop s).state).modules ≡ length (stream here.side s).modules
+    pub led-length : (s : State ℕ) → length (stream here.side (led K here again stop s).state).modules ≡ length (stream here.side s).modules
     led-length s =
         let ps = (stream here.side s).modules in
         let same = ap length (led-under-way s) in
-        let before = length-map (stream here.side (led here again stop s).state).modules under_way in
+        let before = length-map (stream here.side (led K here again stop s).state).modules under_way in
         let behind = length-map (called here again stop ps).state under_way in
         sym before ∙ same ∙ behind ∙ act-length (λ p. (module_serves plain here 0 again stop p).acted) (here.at - 1) ps
 
-    pub led-at : (s : State ℕ) → here.at - 1 < length (stream here.side s).modules → under_way (module_at here (led here again stop s).state) ≡ under_way (module_serves plain here 0 again stop (module_at here s)).acted.state
+    pub led-at : (s : State ℕ) → here.at - 1 < length (stream here.side s).modules → under_way (module_at here (led K here again stop s).state) ≡ under_way (module_serves plain here 0 again stop (module_at here s)).acted.state
     led-at s low =
         let ps = (stream here.side s).modules in
-        let qs = (stream here.side (led here again stop s).state).modules in
+        let qs = (stream here.side (led K here again stop s).state).modules in
         let i = here.at - 1 in
         let acts : Standing ℕ → Acted ℕ (Standing ℕ) = λ p. (module_serves plain here 0 again stop p).acted in
         let none = under_way none_there in
@@ -122,27 +123,27 @@ module _ (here : Spot) where
   behind gone bytes v = record { state = v.state; gone = gone ++ v.gone; bytes = bytes + v.bytes; ended = v.ended }
 
   -- a call and those that follow it
-  abbrev next_of : ℕ → ℕ → Acted ℕ (List (Standing ℕ)) → ℕ → Bool → State ℕ → Calls ℕ
-  next_of more left t bytes again s =
+  abbrev next_of : Behaviour → ℕ → ℕ → Acted ℕ (List (Standing ℕ)) → ℕ → Bool → State ℕ → Calls ℕ
+  next_of K more left t bytes again s =
       let w = module_acted here t s in
-      let u = in_turn (carried (put_in plain) HOPS) w.sent w.state in
-      let v = calls plain here more true (left - bytes) u.state in
+      let u = in_turn (carried (put_in K plain) HOPS) w.sent w.state in
+      let v = calls K plain here more true (left - bytes) u.state in
       cond {A = Calls ℕ} again (record { state = v.state; gone = w.gone ++ u.gone ++ v.gone; bytes = bytes + v.bytes; ended = v.ended }) (record { state = u.state; gone = w.gone ++ u.gone; bytes = bytes; ended = true })
 
-  next-same : (more left : ℕ) (s : State ℕ) (t t' : Acted ℕ (List (Standing ℕ))) (b b' : ℕ) (g g' : Bool) → t ≡ t' → b ≡ b' → g ≡ g' → next_of more left t b g s ≡ next_of more left t' b' g' s
-  next-same more left s t t' b b' g g' acts bytes asks = ap (λ x. next_of more left x b g s) acts ∙ ap (λ x. next_of more left t' x g s) bytes ∙ ap (λ x. next_of more left t' b' x s) asks
+  next-same : (K : Behaviour) (more left : ℕ) (s : State ℕ) (t t' : Acted ℕ (List (Standing ℕ))) (b b' : ℕ) (g g' : Bool) → t ≡ t' → b ≡ b' → g ≡ g' → next_of K more left t b g s ≡ next_of K more left t' b' g' s
+  next-same K more left s t t' b b' g g' acts bytes asks = ap (λ x. next_of K more left x b g s) acts ∙ ap (λ x. next_of K more left t' x g s) bytes ∙ ap (λ x. next_of K more left t' b' x s) asks
 
   -- a call within a limit is as one without it, where the module does alike
-  call-same : (more left : ℕ) (again : Bool) (stop : Option ℕ) (s : State ℕ) → here.at - 1 < length (stream here.side s).modules
+  call-same : (K : Behaviour) (more left : ℕ) (again : Bool) (stop : Option ℕ) (s : State ℕ) → here.at - 1 < length (stream here.side s).modules
       → ((made : ℕ) → module_serves plain here made again (Some left) (module_at here s) ≡ module_serves plain here 0 again stop (module_at here s))
-      → let ps = (stream here.side s).modules in calls plain here (suc more) again left s ≡ next_of more left (called here again stop ps) (treated here again stop ps) (asks_on here again stop ps) s
-  call-same more left again stop s low alike =
+      → let ps = (stream here.side s).modules in calls K plain here (suc more) again left s ≡ next_of K more left (called here again stop ps) (treated here again stop ps) (asks_on here again stop ps) s
+  call-same K more left again stop s low alike =
       let ps = (stream here.side s).modules in
       let i = here.at - 1 in
       let made = made_below here.side s in
       let f : Standing ℕ → Serving ℕ (Standing ℕ) = λ p. module_serves plain here made again (Some left) p in
       let g : Standing ℕ → Serving ℕ (Standing ℕ) = λ p. module_serves plain here 0 again stop p in
-      next-same more left s (call_at plain here made again left ps) (called here again stop ps) (bytes_at plain here made again left ps) (treated here again stop ps) (again_at plain here made again left ps) (asks_on here again stop ps)
+      next-same K more left s (call_at plain here made again left ps) (called here again stop ps) (bytes_at plain here made again left ps) (treated here again stop ps) (again_at plain here made again left ps) (asks_on here again stop ps)
       (act-alike none_there (λ p. (f p).acted) (λ p. (g p).acted) i ps (ap (λ (t : Serving ℕ (Standing ℕ)). t.acted) (alike made)))
       (index-map none_there (λ p. (f p).bytes) 0 i ps low ∙ ap (λ (t : Serving ℕ (Standing ℕ)). t.bytes) (alike made) ∙ sym (index-map none_there (λ p. (g p).bytes) 0 i ps low))
       (index-map none_there (λ p. (f p).again) false i ps low ∙ ap (λ (t : Serving ℕ (Standing ℕ)). t.again) (alike made) ∙ sym (index-map none_there (λ p. (g p).again) false i ps low))
@@ -150,28 +151,28 @@ module _ (here : Spot) where
   module _ (s0 : State ℕ) where
     -- What the calls of a turn have led to so far, of which the next one is the first (false) or not: whatever the bytes are that the rest
     -- of the turn treats, those of it that has begun among them, the turn's calls are these and then those of the rest.
-    pub record Reached (again : Bool) (bytes : ℕ) (gone : List (Fate ℕ)) (s : State ℕ) : Type 0 where
+    pub record Reached (K : Behaviour) (again : Bool) (bytes : ℕ) (gone : List (Fate ℕ)) (s : State ℕ) : Type 0 where
       pub made : ℕ
       pub inside : here.at - 1 < length (stream here.side s).modules
       pub begins : Begins here.way again (discipline_of (module_at here s))
       pub few : made ≤ 3 * bytes + stages_done (discipline_of (module_at here s)).stage
       pub within : bytes + bytes_left here.way again (discipline_of (module_at here s)) ≤ bytes_left here.way false (discipline_of (module_at here s0))
-      pub goes : (left more : ℕ) → stages_done (discipline_of (module_at here s)).stage ≤ 3 * left → calls plain here (made + more) false (bytes + left) s0 ≡ behind gone bytes (calls plain here more again left s)
+      pub goes : (left more : ℕ) → stages_done (discipline_of (module_at here s)).stage ≤ 3 * left → calls K plain here (made + more) false (bytes + left) s0 ≡ behind gone bytes (calls K plain here more again left s)
 
     none-behind : (v : Calls ℕ) → behind [] 0 v ≡ v
     none-behind v = ap (λ (n : ℕ). record { state = v.state; gone = v.gone; bytes = n; ended = v.ended }) (let e : 0 + v.bytes ≡ v.bytes = omega arith in e)
 
-    pub reached-first : here.at - 1 < length (stream here.side s0).modules → Begins here.way false (discipline_of (module_at here s0)) → Reached false 0 [] s0
-    reached-first low begins = record {
+    pub reached-first : (K : Behaviour) → here.at - 1 < length (stream here.side s0).modules → Begins here.way false (discipline_of (module_at here s0)) → Reached K false 0 [] s0
+    reached-first K low begins = record {
       made = 0;
       inside = low;
       begins = begins;
       few = omega arith;
       within = omega arith;
       goes = λ left more fits.
-          ap (λ n. calls plain here n false (0 + left) s0) (let e : 0 + more ≡ more = omega arith in e)
-          ∙ ap (λ n. calls plain here more false n s0) (let e : 0 + left ≡ left = omega arith in e)
-          ∙ sym (none-behind (calls plain here more false left s0));
+          ap (λ n. calls K plain here n false (0 + left) s0) (let e : 0 + more ≡ more = omega arith in e)
+          ∙ ap (λ n. calls K plain here more false n s0) (let e : 0 + left ≡ left = omega arith in e)
+          ∙ sym (none-behind (calls K plain here more false left s0));
     }
 
     both-behind : (gone first second : List (Fate ℕ)) (bytes more : ℕ) (v : Calls ℕ)
@@ -182,12 +183,12 @@ module _ (here : Spot) where
         ∙ ap (λ (n : ℕ). record { state = v.state; gone = (gone ++ (first ++ second)) ++ v.gone; bytes = n; ended = v.ended }) (let e : bytes + (more + v.bytes) ≡ bytes + more + v.bytes = omega arith in e)
 
     -- one more call, which asks for another one
-    pub reached-next : (again : Bool) (bytes : ℕ) (gone : List (Fate ℕ)) (s : State ℕ) → Reached again bytes gone s → let ps = (stream here.side s).modules in
-        asks_on here again None ps ≡ true → Reached true (bytes + treated here again None ps) (gone ++ (led here again None s).gone) (led here again None s).state
-    reached-next again bytes gone s r asks =
+    pub reached-next : (K : Behaviour) (again : Bool) (bytes : ℕ) (gone : List (Fate ℕ)) (s : State ℕ) → Reached K again bytes gone s → let ps = (stream here.side s).modules in
+        asks_on here again None ps ≡ true → Reached K true (bytes + treated here again None ps) (gone ++ (led K here again None s).gone) (led K here again None s).state
+    reached-next K again bytes gone s r asks =
         record {
           made = suc r.made;
-          inside = omega (arith, r.inside, led-length again None s);
+          inside = omega (arith, r.inside, led-length K again None s);
           begins = subst (λ w. Begins w true (discipline_of q)) (sym g.up) (ap (λ (x : UnderWay). is_some x.in_work) at ∙ g.work);
           few = omega (arith, r.few, g.done, bytes_is, done);
           within = omega (arith, r.within, g.treat, bytes_is, left_is);
@@ -204,7 +205,7 @@ module _ (here : Spot) where
         t = module_serves plain here 0 again None l
 
         q : Standing ℕ
-        q = module_at here (led here again None s).state
+        q = module_at here (led K here again None s).state
 
         b : ℕ
         b = treated here again None ps
@@ -219,7 +220,7 @@ module _ (here : Spot) where
         g = module-goes here again l r.begins works
 
         at : under_way q ≡ under_way t.acted.state
-        at = led-at again None s r.inside
+        at = led-at K again None s r.inside
 
         done : stages_done (discipline_of q).stage ≡ stages_done (discipline_of t.acted.state).stage
         done = ap (λ (x : UnderWay). stages_done x.stage) at
@@ -227,69 +228,71 @@ module _ (here : Spot) where
         left_is : bytes_left here.way true (discipline_of q) ≡ to_treat (discipline_of t.acted.state)
         left_is = ap (λ w. bytes_left w true (discipline_of q)) g.up ∙ ap (λ (x : UnderWay). to_treat (record (discipline_of q) { stage = x.stage; in_work = x.in_work })) at
 
-        goes : (left more : ℕ) → stages_done (discipline_of q).stage ≤ 3 * left → calls plain here (suc r.made + more) false (bytes + b + left) s0 ≡ behind (gone ++ (led here again None s).gone) (bytes + b) (calls plain here more true left (led here again None s).state)
+        goes : (left more : ℕ) → stages_done (discipline_of q).stage ≤ 3 * left → calls K plain here (suc r.made + more) false (bytes + b + left) s0 ≡ behind (gone ++ (led K here again None s).gone) (bytes + b) (calls K plain here more true left (led K here again None s).state)
         goes left more fits =
             let w = module_acted here (called here again None ps) s in
-            let u = in_turn (carried (put_in plain) HOPS) w.sent w.state in
-            let v = calls plain here more true left u.state in
-            ap (λ n. calls plain here n false (bytes + b + left) s0) (let e : suc r.made + more ≡ r.made + suc more = omega arith in e)
-            ∙ ap (λ n. calls plain here (r.made + suc more) false n s0) (let e : bytes + b + left ≡ bytes + (b + left) = omega arith in e)
+            let u = in_turn (carried (put_in K plain) HOPS) w.sent w.state in
+            let v = calls K plain here more true left u.state in
+            ap (λ n. calls K plain here n false (bytes + b + left) s0) (let e : suc r.made + more ≡ r.made + suc more = omega arith in e)
+            ∙ ap (λ n. calls K plain here (r.made + suc more) false n s0) (let e : bytes + b + left ≡ bytes + (b + left) = omega arith in e)
             ∙ r.goes (b + left) (suc more) (omega (arith, g.done, bytes_is, done, fits))
-            ∙ ap (behind gone bytes) (call-same more (b + left) again None s r.inside
+            ∙ ap (behind gone bytes) (call-same K more (b + left) again None s r.inside
             (λ made. (plainly l).alike here again works (b + left) made (omega (arith, bytes_is, done, fits))))
-            ∙ ap (λ x. behind gone bytes (next_of more (b + left) (called here again None ps) b x s)) asks
-            ∙ ap (λ n. let v = calls plain here more true n u.state in behind gone bytes (record { state = v.state; gone = w.gone ++ u.gone ++ v.gone; bytes = b + v.bytes; ended = v.ended })) (let e : b + left - b ≡ left = omega arith in e)
+            ∙ ap (λ x. behind gone bytes (next_of K more (b + left) (called here again None ps) b x s)) asks
+            ∙ ap (λ n. let v = calls K plain here more true n u.state in behind gone bytes (record { state = v.state; gone = w.gone ++ u.gone ++ v.gone; bytes = b + v.bytes; ended = v.ended })) (let e : b + left - b ≡ left = omega arith in e)
             ∙ both-behind gone w.gone u.gone bytes b v
 
     -- the last call
-    module _ (name : QueueName) (again : Bool) (bytes : ℕ) (gone : List (Fate ℕ)) (s : State ℕ) (r : Reached again bytes gone s) where
-      -- how far the turn goes by it
-      abbrev all : Option ℕ → ℕ
-      all stop = bytes + treated here again stop (stream here.side s).modules
+    module _ (K : Behaviour) (name : QueueName) (again : Bool) (bytes : ℕ) (gone : List (Fate ℕ)) (s : State ℕ)
+        (r : Reached K again bytes gone s)
+      where
+        -- how far the turn goes by it
+        abbrev all : Option ℕ → ℕ
+        all stop = bytes + treated here again stop (stream here.side s).modules
 
-      abbrev ended : Option ℕ → TurnOutcome ℕ
-      ended stop = record { turn = Moved (all stop); state = module_turn_ended name here (not (all stop == 0)) (led here again stop s).state; gone = gone ++ (led here again stop s).gone }
+        abbrev ended : Option ℕ → TurnOutcome ℕ
+        ended stop = record { turn = Moved (all stop); state = module_turn_ended name here (not (all stop == 0)) (led K here again stop s).state; gone = gone ++ (led K here again stop s).gone }
 
-      -- it is the same within what it treated
-      abbrev IsLast : Option ℕ → Type 0
-      IsLast stop =
-          let b = treated here again stop (stream here.side s).modules in
-          Ends here.way again (discipline_of (module_at here s)) b × ((made : ℕ) → module_serves plain here made again (Some b) (module_at here s) ≡ module_serves plain here 0 again stop (module_at here s))
+        -- it is the same within what it treated
+        abbrev IsLast : Option ℕ → Type 0
+        IsLast stop =
+            let b = treated here again stop (stream here.side s).modules in
+            Ends here.way again (discipline_of (module_at here s)) b × ((made : ℕ) → module_serves plain here made again (Some b) (module_at here s) ≡ module_serves plain here 0 again stop (module_at here s))
 
-      last-is : (stop : Option ℕ) → asks_on here again stop (stream here.side s).modules ≡ false → Stopped here again s stop → IsLast stop
-      last-is None over _ =
-          let ps = (stream here.side s).modules in
-          let l = module_at here s in
-          let i = here.at - 1 in
-          let over : (module_serves plain here 0 again None l).again ≡ false = sym (index-map none_there (λ p. (module_serves plain here 0 again None p).again) false i ps r.inside) ∙ over in
-          let bytes_is = index-map none_there (λ p. (module_serves plain here 0 again None p).bytes) 0 i ps r.inside in
-          let e = module-ends here again l r.begins over in
-          (record { treat = let a = e.0.treat in omega (arith, bytes_is); done = let a = e.0.done in omega (arith, bytes_is) }, λ made. ap (λ n. module_serves plain here made again (Some n) l) bytes_is ∙ e.1 made)
-      last-is (Some n) over is =
-          let l = module_at here s in (
-            subst (λ b. Ends here.way again (discipline_of l) b) is.0 is.1,
-            λ made. ap (λ b. module_serves plain here made again (Some b) l) (sym is.0) ∙ (plainly l).call_same here again (Some n) made,
-          )
+        last-is : (stop : Option ℕ) → asks_on here again stop (stream here.side s).modules ≡ false → Stopped here again s stop → IsLast stop
+        last-is None over _ =
+            let ps = (stream here.side s).modules in
+            let l = module_at here s in
+            let i = here.at - 1 in
+            let over : (module_serves plain here 0 again None l).again ≡ false = sym (index-map none_there (λ p. (module_serves plain here 0 again None p).again) false i ps r.inside) ∙ over in
+            let bytes_is = index-map none_there (λ p. (module_serves plain here 0 again None p).bytes) 0 i ps r.inside in
+            let e = module-ends here again l r.begins over in
+            (record { treat = let a = e.0.treat in omega (arith, bytes_is); done = let a = e.0.done in omega (arith, bytes_is) }, λ made. ap (λ n. module_serves plain here made again (Some n) l) bytes_is ∙ e.1 made)
+        last-is (Some n) over is =
+            let l = module_at here s in (
+              subst (λ b. Ends here.way again (discipline_of l) b) is.0 is.1,
+              λ made. ap (λ b. module_serves plain here made again (Some b) l) (sym is.0) ∙ (plainly l).call_same here again (Some n) made,
+            )
 
-      last-moves : (stop : Option ℕ) → asks_on here again stop (stream here.side s).modules ≡ false → IsLast stop → moved_on plain here name (all stop) s0 ≡ ended stop
-      last-moves stop over is =
-          let ps = (stream here.side s).modules in
-          let b = treated here again stop ps in
-          let more = 3 * (bytes + b) - r.made in
-          let w = module_acted here (called here again stop ps) s in
-          let u = in_turn (carried (put_in plain) HOPS) w.sent w.state in
-          ap (λ (t : Calls ℕ). cond {A = TurnOutcome ℕ} t.ended (record { turn = Moved t.bytes; state = module_turn_ended name here (not (t.bytes == 0)) t.state; gone = t.gone }) (stayed_put Blocked s0))
-          (ap (λ n. calls plain here n false (bytes + b) s0) (let few = r.few in let done = is.0.done in let e : 3 * (bytes + b) + 1 ≡ r.made + suc more = omega (arith, few, done) in e)
-          ∙ r.goes b (suc more) is.0.done
-          ∙ ap (behind gone bytes) (call-same more b again stop s r.inside is.1)
-          ∙ ap (λ x. behind gone bytes (next_of more b (called here again stop ps) b x s)) over)
+        last-moves : (stop : Option ℕ) → asks_on here again stop (stream here.side s).modules ≡ false → IsLast stop → moved_on K plain here name (all stop) s0 ≡ ended stop
+        last-moves stop over is =
+            let ps = (stream here.side s).modules in
+            let b = treated here again stop ps in
+            let more = 3 * (bytes + b) - r.made in
+            let w = module_acted here (called here again stop ps) s in
+            let u = in_turn (carried (put_in K plain) HOPS) w.sent w.state in
+            ap (λ (t : Calls ℕ). cond {A = TurnOutcome ℕ} t.ended (record { turn = Moved t.bytes; state = module_turn_ended name here (not (t.bytes == 0)) t.state; gone = t.gone }) (stayed_put Blocked s0))
+            (ap (λ n. calls K plain here n false (bytes + b) s0) (let few = r.few in let done = is.0.done in let e : 3 * (bytes + b) + 1 ≡ r.made + suc more = omega (arith, few, done) in e)
+            ∙ r.goes b (suc more) is.0.done
+            ∙ ap (behind gone bytes) (call-same K more b again stop s r.inside is.1)
+            ∙ ap (λ x. behind gone bytes (next_of K more b (called here again stop ps) b x s)) over)
 
-      -- The turn went so far, and led to that.
-      pub reached-last : (stop : Option ℕ) → asks_on here again stop (stream here.side s).modules ≡ false → Stopped here again s stop
-          → (all stop ≤ bytes_left here.way false (discipline_of (module_at here s0))) × (moved_on plain here name (all stop) s0 ≡ ended stop)
-      reached-last stop over stopped =
-          let is = last-is stop over stopped in
-          (let treat = is.0.treat in omega (arith, r.within, treat), last-moves stop over is)
+        -- The turn went so far, and led to that.
+        pub reached-last : (stop : Option ℕ) → asks_on here again stop (stream here.side s).modules ≡ false → Stopped here again s stop
+            → (all stop ≤ bytes_left here.way false (discipline_of (module_at here s0))) × (moved_on K plain here name (all stop) s0 ≡ ended stop)
+        reached-last stop over stopped =
+            let is = last-is stop over stopped in
+            (let treat = is.0.treat in omega (arith, r.within, treat), last-moves stop over is)
 
   pub whole : (way : Way) (p : Standing ℕ) → bytes_left way false (discipline_of p) ≡ first_size (messages_at way p)
   whole Up p = ap (λ ms. first_size ms) (stands-at Up (ldterm_of p.part) p.queues)
@@ -307,9 +310,9 @@ module _ (here : Spot) where
   one-at-least (suc bytes) size within some = omega (arith, within)
 
   -- and no further than to the end of the first message, of which a byte was treated where it has one
-  pub moves-within : (name : QueueName) (bytes : ℕ) (s : State ℕ) → here.at - 1 < length (stream here.side s).modules → bytes ≤ bytes_left here.way false (discipline_of (module_at here s))
-      → (bytes ≡ 0 → bytes_left here.way false (discipline_of (module_at here s)) ≡ 0) → moved_within plain here name (Moved bytes) s ≡ moved_on plain here name bytes s
-  moves-within name bytes s low within some =
+  pub moves-within : (K : Behaviour) (name : QueueName) (bytes : ℕ) (s : State ℕ) → here.at - 1 < length (stream here.side s).modules → bytes ≤ bytes_left here.way false (discipline_of (module_at here s))
+      → (bytes ≡ 0 → bytes_left here.way false (discipline_of (module_at here s)) ≡ 0) → moved_within K plain here name (Moved bytes) s ≡ moved_on K plain here name bytes s
+  moves-within K name bytes s low within some =
       let ps = (stream here.side s).modules in
       let first = first-left s low in
-      ap (λ n. moved_on plain here name n s) (one-at-least bytes (at_place (λ p. first_size (messages_at here.way p)) 0 here.at ps) (omega (arith, first, within)) (λ none. (let e = some none in omega (arith, first, e))))
+      ap (λ n. moved_on K plain here name n s) (one-at-least bytes (at_place (λ p. first_size (messages_at here.way p)) 0 here.at ps) (omega (arith, first, within)) (λ none. (let e = some none in omega (arith, first, e))))

@@ -8,6 +8,7 @@ use Rattle.strm_laws.specs.Prelude.{map_parcel, map_took, Queue, is_none_left, m
 use Rattle.strm_laws.specs.Prelude.{has_more, turn_ended}
 use Rattle.std.specs.Prelude.{◌*◌}
 use Rattle.strm_types.specs.declared.spots.Asks.TheVariants as asked
+use Rattle.strm_laws.specs.Behaviours.{Behaviour}
 use Rattle.strm_laws.specs.Earlier.{places_of}
 use Rattle.strm_laws.specs.ModuleTurns.{Calls, again_at, asked_turn, bytes_at, call_at, calls, made_below, module_called, module_turn_ended, module_turned, moved_by, moved_on, moved_within, named_from, place_named, queue_ended, stayed_at, turned_named, turned_there, waits_there}
 use Rattle.strm_laws.specs.Past.{has_room_past, writer_waits}
@@ -159,8 +160,8 @@ module _ {C : Type 0} (cells : Cells C) (are : AreCells cells) where
       (acts-same here made again left) (here.at - 1) ps)
       ∙ acted-same f here (call_at cells here made again left ps) s
 
-  sent-same : (t : Took C (State C)) → in_turn (carried (put_in plain) HOPS) (map (map_parcel f) t.sent) (map_state f t.state) ≡ map_carried f (map_state f) (in_turn (carried (put_in cells) HOPS) t.sent t.state)
-  sent-same t = in_turn-agrees f (map_state f) (carried (put_in cells) HOPS) (carried (put_in plain) HOPS) (carried-agrees f (map_state f) (put_in cells) (put_in plain) (puts-forget cells are) HOPS) t.sent t.state
+  sent-same : (K : Behaviour) (t : Took C (State C)) → in_turn (carried (put_in K plain) HOPS) (map (map_parcel f) t.sent) (map_state f t.state) ≡ map_carried f (map_state f) (in_turn (carried (put_in K cells) HOPS) t.sent t.state)
+  sent-same K t = in_turn-agrees f (map_state f) (carried (put_in K cells) HOPS) (carried (put_in K plain) HOPS) (carried-agrees f (map_state f) (put_in K cells) (put_in K plain) (puts-forget cells are K) HOPS) t.sent t.state
 
   -- what a call and those behind it come to
   abbrev went_on : {E : Type 0} → Bool → ℕ → Took E (State E) → Carried E (State E) → Calls E → Calls E
@@ -176,58 +177,59 @@ module _ {C : Type 0} (cells : Cells C) (are : AreCells cells) where
   went_on-same false bytes t u v =
       ap (λ gone. record { state = map_state f u.state; gone = gone; bytes = bytes; ended = true }) (sym (map-join (map_fate f) t.gone u.gone))
 
-  calls-same : (here : Spot) (n : ℕ) (again : Bool) (left : ℕ) (s : State C) → calls plain here n again left (map_state f s) ≡ map_calls f (calls cells here n again left s)
-  calls-same here zero again left s = refl
-  calls-same here (suc more) again left s =
+  calls-same : (K : Behaviour) (here : Spot) (n : ℕ) (again : Bool) (left : ℕ) (s : State C) → calls K plain here n again left (map_state f s) ≡ map_calls f (calls K cells here n again left s)
+  calls-same K here zero again left s = refl
+  calls-same K here (suc more) again left s =
       let ps = (stream here.side s).modules in
       let made = made_below here.side s in
       let t = module_called cells here again left s in
-      let u = in_turn (carried (put_in cells) HOPS) t.sent t.state in
+      let u = in_turn (carried (put_in K cells) HOPS) t.sent t.state in
       let bytes = bytes_at cells here made again left ps in
       let goes = again_at cells here made again left ps in
-      let next : Bool → ℕ → Took ℕ (State ℕ) → Calls ℕ = λ b n x. (let y = in_turn (carried (put_in plain) HOPS) x.sent x.state in went_on b n x y (calls plain here more true (left - n) y.state)) in
+      let next : Bool → ℕ → Took ℕ (State ℕ) → Calls ℕ = λ b n x. (let y = in_turn (carried (put_in K plain) HOPS) x.sent x.state in went_on b n x y (calls K plain here more true (left - n) y.state)) in
       ap (λ (on : Stream ℕ). next (again_at plain here (made_below here.side (map_state f s)) again left on.modules) (bytes_at plain here (made_below here.side (map_state f s)) again left on.modules) (module_called plain here again left (map_state f s))) (stream-forgets f here.side s)
       ∙ ap (λ b. next b (bytes_at plain here made again left (map (map_module f) ps)) (module_called plain here again left (map_state f s)))
       (at_place-same f (λ p. (module_serves cells here made again (Some left) p).again) (λ p. (module_serves plain here made again (Some left) p).again) (again-same here made again left) false here.at ps)
       ∙ ap (λ n. next goes n (module_called plain here again left (map_state f s)))
       (at_place-same f (λ p. (module_serves cells here made again (Some left) p).bytes) (λ p. (module_serves plain here made again (Some left) p).bytes) (bytes-same here made again left) 0 here.at ps)
       ∙ ap (λ x. next goes bytes x) (called-same here again left s)
-      ∙ ap (λ (y : Carried ℕ (State ℕ)). went_on goes bytes (map_took f (map_state f) t) y (calls plain here more true (left - bytes) y.state)) (sent-same t)
-      ∙ ap (λ v. went_on goes bytes (map_took f (map_state f) t) (map_carried f (map_state f) u) v) (calls-same here more true (left - bytes) u.state)
-      ∙ went_on-same goes bytes t u (calls cells here more true (left - bytes) u.state)
+      ∙ ap (λ (y : Carried ℕ (State ℕ)). went_on goes bytes (map_took f (map_state f) t) y (calls K plain here more true (left - bytes) y.state)) (sent-same K t)
+      ∙ ap (λ v. went_on goes bytes (map_took f (map_state f) t) (map_carried f (map_state f) u) v)
+      (calls-same K here more true (left - bytes) u.state)
+      ∙ went_on-same goes bytes t u (calls K cells here more true (left - bytes) u.state)
 
   -- a turn that treats bytes
   abbrev moved_so : {E : Type 0} → QueueName → Spot → Calls E → State E → TurnOutcome E
   moved_so name here t s =
       cond t.ended (record { turn = Moved t.bytes; state = module_turn_ended name here (not (t.bytes == 0)) t.state; gone = t.gone }) (stayed_put Blocked s)
 
-  moved-same : (here : Spot) (name : QueueName) (bytes : ℕ) (s : State C) → moved_on plain here name bytes (map_state f s) ≡ map_turn_outcome f (moved_on cells here name bytes s)
-  moved-same here name bytes s =
-      let t = calls cells here (3 * bytes + 1) false bytes s in
-      ap (λ x. moved_so name here x (map_state f s)) (calls-same here (3 * bytes + 1) false bytes s)
+  moved-same : (K : Behaviour) (here : Spot) (name : QueueName) (bytes : ℕ) (s : State C) → moved_on K plain here name bytes (map_state f s) ≡ map_turn_outcome f (moved_on K cells here name bytes s)
+  moved-same K here name bytes s =
+      let t = calls K cells here (3 * bytes + 1) false bytes s in
+      ap (λ x. moved_so name here x (map_state f s)) (calls-same K here (3 * bytes + 1) false bytes s)
       ∙ either-same f t.ended (record { turn = Moved t.bytes; state = module_turn_ended name here (not (t.bytes == 0)) t.state; gone = t.gone }) (stayed_put Blocked s) _ _
       (ap (λ x. record { turn = Moved t.bytes; state = x; gone = map (map_fate f) t.gone }) (turn_ended-same f name here (not (t.bytes == 0)) t.state)) refl
 
-  within-same : (here : Spot) (name : QueueName) (turn : Turn) (s : State C) → moved_within plain here name turn (map_state f s) ≡ map_turn_outcome f (moved_within cells here name turn s)
-  within-same here name turn s =
+  within-same : (K : Behaviour) (here : Spot) (name : QueueName) (turn : Turn) (s : State C) → moved_within K plain here name turn (map_state f s) ≡ map_turn_outcome f (moved_within K cells here name turn s)
+  within-same K here name turn s =
       let ps = (stream here.side s).modules in
       let size = at_place (λ p. first_size (messages_at here.way p)) 0 here.at ps in
-      ap (λ (t : Stream ℕ). moved_on plain here name (min (moved_by turn) (at_place (λ p. first_size (messages_at here.way p)) 0 here.at t.modules)) (map_state f s)) (stream-forgets f here.side s)
-      ∙ ap (λ n. moved_on plain here name (min (moved_by turn) n) (map_state f s))
+      ap (λ (t : Stream ℕ). moved_on K plain here name (min (moved_by turn) (at_place (λ p. first_size (messages_at here.way p)) 0 here.at t.modules)) (map_state f s)) (stream-forgets f here.side s)
+      ∙ ap (λ n. moved_on K plain here name (min (moved_by turn) n) (map_state f s))
       (at_place-same f (λ p. first_size (messages_at here.way p)) (λ p. first_size (messages_at here.way p)) (size-same f here.way) 0 here.at ps)
-      ∙ moved-same here name (min (moved_by turn) size) s
+      ∙ moved-same K here name (min (moved_by turn) size) s
 
-  asked-turn-same : (here : Spot) (asks : Asks) (name : QueueName) (turn : Turn) (s : State C) → asked_turn plain here asks name turn (map_state f s) ≡ map_turn_outcome f (asked_turn cells here asks name turn s)
-  asked-turn-same here asked.Empty name turn s = stayed-same f Idle here s
-  asked-turn-same here asked.Held name turn s = stayed-same f Blocked here s
-  asked-turn-same here asked.Free name turn s = within-same here name turn s
-  asked-turn-same here (asked.Room band) name turn s =
+  asked-turn-same : (K : Behaviour) (here : Spot) (asks : Asks) (name : QueueName) (turn : Turn) (s : State C) → asked_turn K plain here asks name turn (map_state f s) ≡ map_turn_outcome f (asked_turn K cells here asks name turn s)
+  asked-turn-same K here asked.Empty name turn s = stayed-same f Idle here s
+  asked-turn-same K here asked.Held name turn s = stayed-same f Blocked here s
+  asked-turn-same K here asked.Free name turn s = within-same K here name turn s
+  asked-turn-same K here (asked.Room band) name turn s =
       let room = has_room_past here.side here.way here.at band.0 s in
-      ap (λ b. cond b (moved_within plain here name turn (map_state f s)) (waits_there band.0 here (map_state f s))) (room-forgets f here.side here.way here.at band.0 s)
-      ∙ either-same f room (moved_within cells here name turn s) (waits_there band.0 here s) _ _ (within-same here name turn s) (waits-same f band.0 here s)
+      ap (λ b. cond b (moved_within K plain here name turn (map_state f s)) (waits_there band.0 here (map_state f s))) (room-forgets f here.side here.way here.at band.0 s)
+      ∙ either-same f room (moved_within K cells here name turn s) (waits_there band.0 here s) _ _ (within-same K here name turn s) (waits-same f band.0 here s)
 
-  there-same : (here : Spot) (name : QueueName) (turn : Turn) (s : State C) → turned_there plain here name turn (map_state f s) ≡ map_turn_outcome f (turned_there cells here name turn s)
-  there-same here name turn s =
+  there-same : (K : Behaviour) (here : Spot) (name : QueueName) (turn : Turn) (s : State C) → turned_there K plain here name turn (map_state f s) ≡ map_turn_outcome f (turned_there K cells here name turn s)
+  there-same K here name turn s =
       let ps = (stream here.side s).modules in
       let rests = at_place module_rests false here.at ps in
       let asks = at_place (module_asks here.way) asked.Empty here.at ps in
@@ -237,12 +239,12 @@ module _ {C : Type 0} (cells : Cells C) (are : AreCells cells) where
         at_place-same f module_rests module_rests (λ p. ((lawful p).image f).rests) false here.at ps,
         at_place-same f (module_asks here.way) (module_asks here.way) (λ p. ((lawful p).image f).asks here.way) asked.Empty here.at ps,
       )
-      (either-same f rests (asked_turn cells here asks name turn s) (stayed_put Blocked s) _ _ (asked-turn-same here asks name turn s) refl)
+      (either-same f rests (asked_turn K cells here asks name turn s) (stayed_put Blocked s) _ _ (asked-turn-same K here asks name turn s) refl)
 
-  turned_named-same : (name : QueueName) (turn : Turn) (s : State C) (at : Option ℕ) → turned_named plain name turn (map_state f s) at ≡ map_turn_outcome f (turned_named cells name turn s at)
-  turned_named-same name turn s None = refl
-  turned_named-same name turn s (Some at) = there-same (record { side = name.side; at = at; way = name.way }) name turn s
+  turned_named-same : (K : Behaviour) (name : QueueName) (turn : Turn) (s : State C) (at : Option ℕ) → turned_named K plain name turn (map_state f s) at ≡ map_turn_outcome f (turned_named K cells name turn s at)
+  turned_named-same K name turn s None = refl
+  turned_named-same K name turn s (Some at) = there-same K (record { side = name.side; at = at; way = name.way }) name turn s
 
-  pub module_turned-forgets : (name : QueueName) (turn : Turn) (s : State C) → module_turned plain name turn (map_state f s) ≡ map_turn_outcome f (module_turned cells name turn s)
-  module_turned-forgets name turn s =
-      rw (stream-forgets f name.side s, named-same f name.place (stream name.side s).modules) (turned_named-same name turn s (place_named name.place (stream name.side s).modules))
+  pub module_turned-forgets : (K : Behaviour) (name : QueueName) (turn : Turn) (s : State C) → module_turned K plain name turn (map_state f s) ≡ map_turn_outcome f (module_turned K cells name turn s)
+  module_turned-forgets K name turn s =
+      rw (stream-forgets f name.side s, named-same f name.place (stream name.side s).modules) (turned_named-same K name turn s (place_named name.place (stream name.side s).modules))

@@ -11,8 +11,9 @@ use Rattle.strm_types.specs.declared.names.Place.TheVariants.{Head}
 use Rattle.strm_types.specs.declared.names.Place.TheVariants as places
 use Rattle.strm_types.specs.declared.slots.Slot.TheVariants.{Answered}
 use Rattle.strm_types.specs.Dropped.{is_ioctl_of}
+use Rattle.strm_laws.specs.Behaviours.{Behaviour}
 use Rattle.strm_laws.specs.Earlier.{before_at}
-use Rattle.strm_laws.specs.Pushes.{all_taken, below_top, enable_waiting, head_above, ioctl_dropped, let_come, messages_of, messages_on, messages_there, mode_behind, mode_on_push, mode_put, modules_emptied, named_by, popped, pushed, pushed_named, taken_off, top_on, top_taken, with_modules, without_top}
+use Rattle.strm_laws.specs.Pushes.{all_taken, below_top, enable_waiting, head_above, ioctl_dropped, is_known, let_come, messages_of, messages_on, messages_there, mode_behind, mode_on_push, mode_put, module_named, modules_emptied, named_by, popped, pushed, pushed_named, taken_off, top_on, top_taken, with_modules, without_top}
 use Rattle.strm_laws.specs.Puts.{earlier_at, noted, put_at_head}
 use Rattle.strm_laws.specs.Stacked.{Module, Standing, kind_line, map_kind, map_module, module_name, without_kind_line}
 use Rattle.strm_laws.specs.State.{State, Stream, stream, map_state, map_stream, with_ioctl}
@@ -178,17 +179,22 @@ module _ {C D : Type 0} (f : C → D) where
       ∙ ap (λ (t : Carried D (State D)). record { state = let_come reads side t.state; gone = t.gone }) (mode_put-forgets side mode on)
       ∙ ap (λ (x : State D). record { state = x; gone = map (map_fate f) (mode_put side mode on).gone }) (let_come-forgets reads side (mode_put side mode on).state)
 
-  pub named_by-forgets : (name : Option ModuleName) → named_by name ≡ option_map (map_module f) (named_by name)
-  named_by-forgets None = refl
-  named_by-forgets (Some name) = ap (λ p. Some p) ((new name).forgets f)
+  pub named_by-forgets : (K : Behaviour) (name : Option ModuleName) → named_by K name ≡ option_map (map_module f) (named_by K name)
+  named_by-forgets K None = refl
+  named_by-forgets K (Some name) = at (is_known K name)
+    where
+      at : (known : Bool) → cond known (Some (module_named {C = D} K name)) None
+          ≡ option_map (map_module f) (cond known (Some (module_named {C = C} K name)) None)
+      at true = ap (λ p. Some p) ((new K name).forgets f)
+      at false = refl
 
   of_named-forgets : (side : Side) (p : Option (Standing C)) (s : State C) → pushed_named side (option_map (map_module f) p) (map_state f s) ≡ image (pushed_named side p s)
   of_named-forgets side None s = refl
   of_named-forgets side (Some p) s = pushed-forgets side p s
 
-  pub push-forgets : (side : Side) (name : Option ModuleName) (s : State C) → pushed_named side (named_by name) (map_state f s) ≡ image (pushed_named side (named_by name) s)
-  push-forgets side name s =
-      ap (λ (p : Option (Standing D)). pushed_named side p (map_state f s)) (named_by-forgets name) ∙ of_named-forgets side (named_by name) s
+  pub push-forgets : (K : Behaviour) (side : Side) (name : Option ModuleName) (s : State C) → pushed_named side (named_by K name) (map_state f s) ≡ image (pushed_named side (named_by K name) s)
+  push-forgets K side name s =
+      ap (λ (p : Option (Standing D)). pushed_named side p (map_state f s)) (named_by-forgets K name) ∙ of_named-forgets side (named_by K name) s
 
   -- a pop
   top_name-forgets : (ps : List (Standing C)) → top_name module_name (images ps) ≡ top_name module_name ps

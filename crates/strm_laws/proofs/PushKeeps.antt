@@ -5,6 +5,7 @@ use Rattle.strm_laws.specs.Prelude.{ReadMode, ModuleName, Side, Master, Slave, W
 use Rattle.strm_laws.specs.Prelude.{cells_gone, Message, QueuePair, has_queues, direction_at, is_open, mode_message, Queue, weight, line_gone}
 use Rattle.strm_laws.specs.Prelude.{queues_cleared}
 use Rattle.std.specs.List.{AllByRecursion}
+use Rattle.strm_laws.specs.Behaviours.{Behaviour}
 use Rattle.strm_laws.specs.Kept.{state_weight}
 use Rattle.strm_laws.specs.Places.{weight_gone, weight_made, weight_sent}
 use Rattle.strm_laws.specs.Pushes.{all_taken, below_top, head_above, ioctl_dropped, let_come, mode_behind, mode_on_push, mode_put, module_named, modules_emptied, named_by, popped, pushed, pushed_named, taken_off, top_on, top_taken, with_modules}
@@ -17,7 +18,7 @@ use Rattle.strm_laws.proofs.EmptiedKeeps.{behind-all, behind-keeps}
 use Rattle.strm_laws.proofs.LdtermKeeps.{lost-gone, lost-made}
 use Rattle.strm_laws.proofs.PushForgets.{clears}
 use Rattle.strm_laws.proofs.PutWeights.{weight-mode}
-use Rattle.strm_laws.proofs.LawfulKinds.{lawful, new}
+use Rattle.strm_laws.proofs.LawfulKinds.{lawful, named-each, new}
 
 module _ {C : Type 0} (p : Dir → C → Bool) where
   -- what a pair comes to that had so many cells
@@ -127,9 +128,11 @@ module _ {C : Type 0} (p : Dir → C → Bool) where
       let apart = modules-weigh side (l ∷ (stream side s).modules) s in
       omega arith
 
-  pub push-keeps : (side : Side) (name : Option ModuleName) (s : State C) → Keeps (pushed_named side (named_by name) s) (state_weight p s)
-  push-keeps side None s = refl
-  push-keeps side (Some name) s = omega (arith, (new name).weighs p side, pushed-keeps side (module_named name) s)
+  pub push-keeps : (K : Behaviour) (side : Side) (name : Option ModuleName) (s : State C)
+      → Keeps (pushed_named side (named_by K name) s) (state_weight p s)
+  push-keeps K side None s = refl
+  push-keeps K side (Some name) s = named-each K name (λ o. Keeps (pushed_named side o s) (state_weight p s)) refl
+      (λ known. omega (arith, (new K name).weighs p side, pushed-keeps side (module_named K name) s))
 
   -- a pop
   off-keeps : (side : Side) (s : State C) → AllByRecursion (λ l. IsAtRest l) (stream side s).modules → Keeps (taken_off side s) (state_weight p s)

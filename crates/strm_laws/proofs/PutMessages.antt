@@ -5,6 +5,7 @@ use Rattle.strm_laws.proofs.Prelude.{option_map, count_by, written-plain, writte
 use Rattle.strm_laws.specs.Prelude.{Prio, High, Dir, Side, Down, Spot, with_written, Cells, AreCells, plain, cells_written, Carried, Message, part}
 use Rattle.strm_laws.specs.Prelude.{cells_of, map_message, direction_from, map_carried, no_parts, put_message}
 use Rattle.strm_types.specs.declared.modes.Prio.TheVariants.{Band}
+use Rattle.strm_laws.specs.Behaviours.{Behaviour, MayTestOwn}
 use Rattle.strm_laws.specs.Calls.{message_put, put_at}
 use Rattle.strm_laws.specs.Kept.{state_weight}
 use Rattle.strm_laws.specs.Places.{weight_gone, weight_made}
@@ -28,15 +29,17 @@ module _ {C : Type 0} where
     unfolding cells_of
     nothing-put cells side prio s = refl
 
-    module _ (cells : Cells C) where
-      sent-keeps : (side : Side) (n : ℕ) (m : Message C) (s : State C) → let t = booked (direction_from side) n (delivered cells (below side) m s) in
+    module _ (K : Behaviour) (cells : Cells C) (tests : MayTestOwn K cells p) where
+      sent-keeps : (side : Side) (n : ℕ) (m : Message C) (s : State C)
+          → let t = booked (direction_from side) n (delivered K cells (below side) m s) in
           state_weight p t.state + weight_gone p t.gone ≡ state_weight p s + (count_by (p (direction_from side)) (cells_of m) + weight_made p t.gone)
       sent-keeps side n m s =
           let dir = direction_from side in
-          let led = (delivered cells (below side) m s).state in
-          omega (arith, delivered-keeps cells p (below side) m s, weight-whole (p dir) m)
+          let led = (delivered K cells (below side) m s).state in
+          omega (arith, delivered-keeps K cells p tests (below side) m s, weight-whole (p dir) m)
 
-      pub put_at-keeps : (side : Side) (prio : Prio) (control body : Option (List ℕ)) (s : State C) → let t = put_at cells side prio control body s in
+      pub put_at-keeps : (side : Side) (prio : Prio) (control body : Option (List ℕ)) (s : State C)
+          → let t = put_at K cells side prio control body s in
           state_weight p t.state + weight_gone p t.gone ≡ state_weight p s + (count_by (p (direction_from side)) (cells_of (message_put cells side prio control body s)) + weight_made p t.gone)
       put_at-keeps side prio None None s = omega (arith, nothing-put cells side prio s)
       put_at-keeps side prio None (Some xs) s = sent-keeps side (0 + length xs) (message_put cells side prio None (Some xs) s) s
@@ -69,8 +72,8 @@ module _ {C : Type 0} (cells : Cells C) (are : AreCells cells) where
       let n = (book dir s).written in
       ap (λ m. cells_of m) (message-forgets dir n prio control body) ∙ cells-forget cells.byte (message_of cells dir n prio control body)
 
-  pub put_at-forgets : (side : Side) (prio : Prio) (control body : Option (List ℕ)) (s : State C) → put_at plain side prio control body (map_state cells.byte s) ≡ map_carried cells.byte (map_state cells.byte) (put_at cells side prio control body s)
-  put_at-forgets side prio control body s = at (no_parts control body)
+  pub put_at-forgets : (K : Behaviour) (side : Side) (prio : Prio) (control body : Option (List ℕ)) (s : State C) → put_at K plain side prio control body (map_state cells.byte s) ≡ map_carried cells.byte (map_state cells.byte) (put_at K cells side prio control body s)
+  put_at-forgets K side prio control body s = at (no_parts control body)
     where
       image : State ℕ
       image = map_state cells.byte s
@@ -84,7 +87,7 @@ module _ {C : Type 0} (cells : Cells C) (are : AreCells cells) where
       size : ℕ
       size = length (part control) + length (part body)
 
-      at : (none : Bool) → cond none (record { state = image; gone = [] }) (booked dir size (delivered plain (below side) (message_of plain dir n prio control body) image))
-          ≡ map_carried cells.byte (map_state cells.byte) (cond none (record { state = s; gone = [] }) (booked dir size (delivered cells (below side) (message_of cells dir n prio control body) s)))
+      at : (none : Bool) → cond none (record { state = image; gone = [] }) (booked dir size (delivered K plain (below side) (message_of plain dir n prio control body) image))
+          ≡ map_carried cells.byte (map_state cells.byte) (cond none (record { state = s; gone = [] }) (booked dir size (delivered K cells (below side) (message_of cells dir n prio control body) s)))
       at true = refl
-      at false = rw (message-forgets dir n prio control body, delivered-forgets cells are (below side) (message_of cells dir n prio control body) s) refl
+      at false = rw (message-forgets dir n prio control body, delivered-forgets cells are K (below side) (message_of cells dir n prio control body) s) refl

@@ -4,6 +4,7 @@ use Rattle.strm_laws.proofs.Prelude.{nat_le}
 use Rattle.strm_laws.specs.Prelude.{HOPS, MODULES, Dir, MasterToSlave, SlaveToMaster, Side, Master, Slave, Way, Up, Down, Spot, with_made, Cells}
 use Rattle.strm_laws.specs.Prelude.{Acted, Fate, Goes, Comes, Parcel, Took, carried, in_turn, Message, put_among, direction_at, is_open, other}
 use Rattle.strm_laws.specs.Prelude.{side_from, is_bare_flush, Both, Book, get}
+use Rattle.strm_laws.specs.Behaviours.{Behaviour}
 use Rattle.strm_laws.specs.Earlier.{driver_place, modules_on}
 use Rattle.strm_laws.specs.Places.{weight_made}
 use Rattle.strm_laws.specs.Puts.{across_of, booked, delivered, made_above, module_acted, passed_up, put_at_driver, put_at_head, put_at_module, put_behind, put_below, put_in}
@@ -12,7 +13,7 @@ use Rattle.strm_laws.specs.State.{State, book, stream, with_book}
 use Rattle.strm_laws.proofs.EndsMake.{driver_put-none, head_put-none}
 use Rattle.strm_laws.proofs.InOrder.{BooksMade, InOrder, books-none, carried-books, in_turn-books}
 use Rattle.strm_laws.proofs.TurnOrder.{TurnOrder, all_made, order-none}
-use Rattle.strm_laws.proofs.LawfulKinds.{lawful}
+use Rattle.strm_laws.proofs.LawfulKinds.{puts-lawfully}
 
 module _ {C : Type 0} where
   -- the books of both directions stay
@@ -106,18 +107,18 @@ module _ {C : Type 0} (cells : Cells C) where
     abbrev Ordered : ℕ → List (Fate C) → Type 0
     Ordered made told = TurnOrder cells (other here.side) made told
 
-    among-order : (made i : ℕ) (ps : List (Standing C)) → Ordered made (put_among (module_puts cells made) i here m ps).gone
-    among-order made i [] = order-none cells (other here.side) made [] refl
-    among-order made zero (q ∷ ps) = ((lawful q).put cells made here m).order
-    among-order made (suc i) (q ∷ ps) = among-order made i ps
+    among-order : (K : Behaviour) (made i : ℕ) (ps : List (Standing C)) → Ordered made (put_among (module_puts K cells made) i here m ps).gone
+    among-order K made i [] = order-none cells (other here.side) made [] refl
+    among-order K made zero (q ∷ ps) = (puts-lawfully K q cells made here m).order
+    among-order K made (suc i) (q ∷ ps) = among-order K made i ps
 
   abbrev PutBooks : (Spot → Message C → State C → Took C (State C)) → Type 0
   PutBooks put = (to : Spot) (m : Message C) (s : State C) → Books s (put to m s).gone (put to m s).state
 
-  stack-books : PutBooks (put_at_module cells)
-  stack-books here m s =
+  stack-books : (K : Behaviour) → PutBooks (put_at_module K cells)
+  stack-books K here m s =
       let made = made_above here.side s in
-      acted-books (other here.side) here (put_among (module_puts cells made) (here.at - 1) here m (stream here.side s).modules) s (among-order here m made (here.at - 1) (stream here.side s).modules)
+      acted-books (other here.side) here (put_among (module_puts K cells made) (here.at - 1) here m (stream here.side s).modules) s (among-order here m K made (here.at - 1) (stream here.side s).modules)
 
   either-books : (s : State C) (b : Bool) (one another : Took C (State C)) → Books s one.gone one.state → Books s another.gone another.state → Books s (cond b one another).gone (cond b one another).state
   either-books s true one another first second = first
@@ -135,14 +136,15 @@ module _ {C : Type 0} (cells : Cells C) where
   behind-books Up here m s =
       either-books s (is_bare_flush m && here.at == suc MODULES) (put_at_driver here.side here m s) (passed_up here m s) (driver-books here.side here m s) (nothing-booked s s refl)
 
-  pub puts-book : PutBooks (put_in cells)
-  puts-book here m s =
-      either-books s (here.at == 0) (put_at_head here.side here m s) (put_below cells here.way here m s) (head-books here.side here m s)
-      (either-books s (nat_le here.at (modules_on here.side s)) (put_at_module cells here m s) (put_behind here.way here m s) (stack-books here m s) (behind-books here.way here m s))
+  pub puts-book : (K : Behaviour) → PutBooks (put_in K cells)
+  puts-book K here m s =
+      either-books s (here.at == 0) (put_at_head here.side here m s) (put_below K cells here.way here m s) (head-books here.side here m s)
+      (either-books s (nat_le here.at (modules_on here.side s)) (put_at_module K cells here m s) (put_behind here.way here m s) (stack-books K here m s) (behind-books here.way here m s))
 
   -- a delivery, and several
-  pub delivered-books : (to : Spot) (m : Message C) (s : State C) → let t = delivered cells to m s in Books s t.gone t.state
-  delivered-books to m s = carried-books cells (put_in cells) puts-book HOPS (record { to = to; message = m }) s
+  pub delivered-books : (K : Behaviour) (to : Spot) (m : Message C) (s : State C) → let t = delivered K cells to m s in Books s t.gone t.state
+  delivered-books K to m s = carried-books cells (put_in K cells) (puts-book K) HOPS (record { to = to; message = m }) s
 
-  pub sent-books : (ps : List (Parcel C)) (s : State C) → let t = in_turn (carried (put_in cells) HOPS) ps s in Books s t.gone t.state
-  sent-books ps s = in_turn-books cells (put_in cells) puts-book (carried (put_in cells) HOPS) (carried-books cells (put_in cells) puts-book HOPS) ps s
+  pub sent-books : (K : Behaviour) (ps : List (Parcel C)) (s : State C)
+      → let t = in_turn (carried (put_in K cells) HOPS) ps s in Books s t.gone t.state
+  sent-books K ps s = in_turn-books cells (put_in K cells) (puts-book K) (carried (put_in K cells) HOPS) (carried-books cells (put_in K cells) (puts-book K) HOPS) ps s

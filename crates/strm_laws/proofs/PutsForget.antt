@@ -6,6 +6,7 @@ use Rattle.strm_laws.specs.Prelude.{AreCells, Cells, plain, Acted, Comes, Fate, 
 use Rattle.strm_laws.specs.Prelude.{flush_message, is_bare_flush, head_put, Message, has_parts, map_message, put_among, is_closed, is_open, other}
 use Rattle.strm_laws.specs.Prelude.{PutsAgree, map_acted, map_carried, map_fate, map_took, Queue, map_queue}
 use Rattle.strm_types.specs.declared.names.Place.TheVariants as places
+use Rattle.strm_laws.specs.Behaviours.{Behaviour}
 use Rattle.strm_laws.specs.Earlier.{driver_place, modules_on, places_of}
 use Rattle.strm_laws.specs.Puts.{booked, delivered, earlier_at, flushed_on, made_above, module_acted, noted, passed_up, put_at_driver, put_at_head, put_at_module, put_behind, put_below, put_in}
 use Rattle.strm_laws.specs.Stacked.{Standing, map_module, module_puts}
@@ -101,32 +102,33 @@ module _ {C : Type 0} (cells : Cells C) (are : AreCells cells) where
   abbrev f : C → ℕ
   f = cells.byte
 
-  module-forgets : (here : Spot) (m : Message C) (s : State C) → put_at_module plain here (map_message f m) (map_state f s) ≡ map_took f (map_state f) (put_at_module cells here m s)
-  module-forgets here m s =
+  module-forgets : (K : Behaviour) (here : Spot) (m : Message C) (s : State C) → put_at_module K plain here (map_message f m) (map_state f s) ≡ map_took f (map_state f) (put_at_module K cells here m s)
+  module-forgets K here m s =
       let i = here.at - 1 in
       let ps = (stream here.side s).modules in
       let made = made_above here.side s in
-      ap (λ (t : Stream ℕ). module_acted here (put_among (module_puts plain (made_above here.side (map_state f s))) i here (map_message f m) t.modules) (map_state f s)) (stream-forgets f here.side s)
-      ∙ ap (λ t. module_acted here t (map_state f s)) (among-forgets cells are made i here m ps)
-      ∙ acted-same f here (put_among (module_puts cells made) i here m ps) s
+      ap (λ (t : Stream ℕ). module_acted here (put_among (module_puts K plain (made_above here.side (map_state f s))) i here (map_message f m) t.modules) (map_state f s)) (stream-forgets f here.side s)
+      ∙ ap (λ t. module_acted here t (map_state f s)) (among-forgets K cells are made i here m ps)
+      ∙ acted-same f here (put_among (module_puts K cells made) i here m ps) s
 
-  below-forgets : (way : Way) (here : Spot) (m : Message C) (s : State C) → put_below plain way here (map_message f m) (map_state f s) ≡ map_took f (map_state f) (put_below cells way here m s)
-  below-forgets way here m s =
-      let at = put_at_module plain here (map_message f m) (map_state f s) in
+  below-forgets : (K : Behaviour) (way : Way) (here : Spot) (m : Message C) (s : State C) → put_below K plain way here (map_message f m) (map_state f s) ≡ map_took f (map_state f) (put_below K cells way here m s)
+  below-forgets K way here m s =
+      let at = put_at_module K plain here (map_message f m) (map_state f s) in
       let behind = put_behind way here (map_message f m) (map_state f s) in
       ap (λ n. cond (nat_le here.at n) at behind) (modules_on-forgets f here.side s)
-      ∙ either-agrees f (nat_le here.at (modules_on here.side s)) (put_at_module cells here m s) (put_behind way here m s) at behind (module-forgets here m s) (behind-forgets f way here m s)
+      ∙ either-agrees f (nat_le here.at (modules_on here.side s)) (put_at_module K cells here m s) (put_behind way here m s) at behind (module-forgets K here m s) (behind-forgets f way here m s)
 
-  pub puts-forget : PutsAgree f (map_state f) (put_in cells) (put_in plain)
-  puts-forget to m s =
-      either-agrees f (to.at == 0) (put_at_head to.side to m s) (put_below cells to.way to m s)
-      (put_at_head to.side to (map_message f m) (map_state f s)) (put_below plain to.way to (map_message f m) (map_state f s)) (head-forgets f to.side to m s) (below-forgets to.way to m s)
+  pub puts-forget : (K : Behaviour) → PutsAgree f (map_state f) (put_in K cells) (put_in K plain)
+  puts-forget K to m s =
+      either-agrees f (to.at == 0) (put_at_head to.side to m s) (put_below K cells to.way to m s)
+      (put_at_head to.side to (map_message f m) (map_state f s)) (put_below K plain to.way to (map_message f m) (map_state f s)) (head-forgets f to.side to m s) (below-forgets K to.way to m s)
 
-  pub delivered-forgets : (to : Spot) (m : Message C) (s : State C) → delivered plain to (map_message f m) (map_state f s) ≡ map_carried f (map_state f) (delivered cells to m s)
-  delivered-forgets to m s = carried-agrees f (map_state f) (put_in cells) (put_in plain) puts-forget HOPS (record { to = to; message = m }) s
+  pub delivered-forgets : (K : Behaviour) (to : Spot) (m : Message C) (s : State C) → delivered K plain to (map_message f m) (map_state f s) ≡ map_carried f (map_state f) (delivered K cells to m s)
+  delivered-forgets K to m s =
+      carried-agrees f (map_state f) (put_in K cells) (put_in K plain) (puts-forget K) HOPS (record { to = to; message = m }) s
 
-  pub flushed_on-forgets : (band : Option Band) (side : Side) (what : FlushQueues) (s : State C) → flushed_on plain band side what (map_state f s) ≡ map_carried f (map_state f) (flushed_on cells band side what s)
-  flushed_on-forgets band side what s =
+  pub flushed_on-forgets : (K : Behaviour) (band : Option Band) (side : Side) (what : FlushQueues) (s : State C) → flushed_on K plain band side what (map_state f s) ≡ map_carried f (map_state f) (flushed_on K cells band side what s)
+  flushed_on-forgets K band side what s =
       let to : Spot = record { side = side; at = 1; way = Down } in
       let bytes = flush_bytes (asked_of what band) in
-      ap (λ m. delivered plain to m (map_state f s)) (sym (flush-forgets f bytes)) ∙ delivered-forgets to (flush_message bytes) s
+      ap (λ m. delivered K plain to m (map_state f s)) (sym (flush-forgets f bytes)) ∙ delivered-forgets K to (flush_message bytes) s

@@ -3,6 +3,7 @@ use Rattle.strm_laws.proofs.Prelude.{ℕ, zero, suc, ◌≡◌, ◌<◌, ◌≤�
 use Rattle.strm_laws.proofs.Prelude.{◌==◌, ◌&&◌, not, min, nat_le, nat_tests, weight-whole, set-all}
 use Rattle.strm_laws.specs.Prelude.{QueueName, MODULES, Side, Way, Up, Down, Spot, Dir, with_made, Cells, Acted, Comes, Fate, Goes, Took, is_flush}
 use Rattle.strm_laws.specs.Prelude.{is_bare_flush, Message, has_parts, weight_of, direction_at, is_open, put_among, head_put, driver_put}
+use Rattle.strm_laws.specs.Behaviours.{Behaviour, MayTestOwn}
 use Rattle.strm_laws.specs.Earlier.{driver_place, modules_on}
 use Rattle.strm_laws.specs.Kept.{state_weight}
 use Rattle.strm_laws.specs.Places.{PutKeeps, direction_to, way_to, weight_sent, weight_gone, weight_made}
@@ -105,25 +106,25 @@ module _ {C : Type 0} (p : Dir → C → Bool) where
       at zero is = refl
       at (suc n) is = absurd (let none : suc n ≡ 0 = grind (arith, nat_tests) in omega (arith, none))
 
-  module _ (cells : Cells C) where
-    module-keeps : (here : Spot) (m : Message C) (s : State C) → here.at - 1 < length (stream here.side s).modules → Keeps (put_at_module cells here m s) (with_message here.way here.side m s)
+  module _ (K : Behaviour) (cells : Cells C) (tests : MayTestOwn K cells p) where
+    module-keeps : (here : Spot) (m : Message C) (s : State C) → here.at - 1 < length (stream here.side s).modules → Keeps (put_at_module K cells here m s) (with_message here.way here.side m s)
     module-keeps here m s within =
         let ps = (stream here.side s).modules in
-        let t = put_among (module_puts cells (made_above here.side s)) (here.at - 1) here m ps in
-        acted-keeps here t s (weight_of (p (direction_at here.way here.side)) m) (among-keeps p cells (made_above here.side s) (here.at - 1) here m ps within)
+        let t = put_among (module_puts K cells (made_above here.side s)) (here.at - 1) here m ps in
+        acted-keeps here t s (weight_of (p (direction_at here.way here.side)) m) (among-keeps K p cells tests (made_above here.side s) (here.at - 1) here m ps within)
 
-    below-keeps : (way : Way) (here : Spot) (m : Message C) (s : State C) → 0 < here.at → let to : Spot = record here { way = way } in Keeps (put_below cells way to m s) (with_message way here.side m s)
+    below-keeps : (way : Way) (here : Spot) (m : Message C) (s : State C) → 0 < here.at → let to : Spot = record here { way = way } in Keeps (put_below K cells way to m s) (with_message way here.side m s)
     below-keeps way here m s some =
         either-keeps _ (nat_le here.at (modules_on here.side s)) _ _
         (λ is. module-keeps (record here { way = way }) m s (stands-within here.at (length (stream here.side s).modules) some is))
         (λ _. behind-keeps way here m s)
 
-    in-keeps : (to : Spot) (m : Message C) (s : State C) → Keeps (put_in cells to m s) (state_weight p s + weight_of (p (direction_to to)) m)
+    in-keeps : (to : Spot) (m : Message C) (s : State C) → Keeps (put_in K cells to m s) (state_weight p s + weight_of (p (direction_to to)) m)
     in-keeps to m s = either-keeps _ (to.at == 0) _ _
         (λ is. omega (arith, top-weighs to m is, head-keeps to.side to m s))
         (λ is. let some = not-head to.at is in omega (arith, below-weighs to m some, below-keeps to.way to m s some))
 
-    pub puts-keep : PutKeeps p (state_weight p) (put_in cells)
+    pub puts-keep : PutKeeps p (state_weight p) (put_in K cells)
     puts-keep to m s = let all = in-keeps to m s in omega arith
 
 -- which sides are open, the lock, the number of the next ioctl and what was written stay; cells may be made
@@ -144,7 +145,7 @@ module _ {C : Type 0} (s : State C) where
   same-stays = record {
     head = λ side here m t same. either-holds (SameButMade s) (is_open (stream side t).opened) _ _ (enabled _ (same-with side (record (stream side t) { head = (head_put here m (stream side t).head).state }) t refl same)) same;
     driver = λ side here m t same. enabled _ (same-with side (with_driver_queue _ (stream side t)) t refl same);
-    modules = λ side ps t same. same-with side (record (stream side t) { modules = ps }) t refl same;
+    modules = λ side ps t names same. same-with side (record (stream side t) { modules = ps }) t refl same;
     names = same-enabled;
     books = λ dir n t same. record { opened = same.opened; locked = same.locked; next_ioctl = same.next_ioctl; written = λ d. more-written d dir n t ∙ same.written d };
     waits = waits;

@@ -13,6 +13,7 @@ use Rattle.std.specs.Prelude.{take}
 use Rattle.strm_types.specs.Shapes.{bare_shape, flush_shape}
 use Rattle.strm_types.proofs.CostsOf.{both-cost, cost-one, none-few, one-few, sent-none}
 use Rattle.strm_types.proofs.ShapesOf.{reads-shape, same-flushing, writes-shape}
+use Rattle.strm_laws.specs.Behaviours.{Behaviour}
 use Rattle.strm_laws.specs.Earlier.{driver_place, modules_on}
 use Rattle.strm_laws.specs.Puts.{across_of, made_above, passed_up, put_at_driver, put_at_head, put_at_module, put_behind, put_below, put_in}
 use Rattle.strm_laws.specs.SideCosts.{SideCosts, both_costs, behind_costs, costs, crossed, does_among, front_on, fronts, place_costs, rises, side_does, side_drives, side_next, whole}
@@ -20,7 +21,7 @@ use Rattle.strm_laws.specs.StackCosts.{stands_of, stands_on}
 use Rattle.strm_laws.specs.Stacked.{Standing, module_name, module_puts}
 use Rattle.strm_laws.specs.State.{State, Stream, stream}
 use Rattle.strm_laws.proofs.StackStays.{puts-stand}
-use Rattle.strm_laws.proofs.LawfulKinds.{lawful}
+use Rattle.strm_laws.proofs.LawfulKinds.{puts-lawfully}
 
 module _ (cost : At → ℕ) where
   -- what a place of a side's stream may send costs so much, where what goes across comes behind so many modules
@@ -161,15 +162,15 @@ module _ (C : Type 0) (cost : At → ℕ) where
         at false = kinds m.kind
 
   -- at one of the modules
-  module _ (cells : Cells C) (made : ℕ) (here : Spot) (m : Message C) where
-    among-fits : (i : ℕ) (ps : List (Standing C)) → cost_of cost (put_among (module_puts cells made) i here m ps).sent ≤ sum_by cost (emits_at here (does_among i (map module_name ps) here.way (shape_of m)))
+  module _ (K : Behaviour) (cells : Cells C) (made : ℕ) (here : Spot) (m : Message C) where
+    among-fits : (i : ℕ) (ps : List (Standing C)) → cost_of cost (put_among (module_puts K cells made) i here m ps).sent ≤ sum_by cost (emits_at here (does_among i (map module_name ps) here.way (shape_of m)))
     among-fits i [] = none-few C cost 0
-    among-fits zero (p ∷ ps) = ((lawful p).put cells made here m).within cost
+    among-fits zero (p ∷ ps) = (puts-lawfully K p cells made here m).within cost
     among-fits (suc i) (p ∷ ps) = among-fits i ps
 
-pub module-within : {C : Type 0} (cells : Cells C) (made : ℕ) (here : Spot) (m : Message C) (p : Standing C)
-    → Within (module_puts cells made here m p).sent (emits_at here (name_does (module_name p) here.way (shape_of m)))
-module-within cells made here m p = ((lawful p).put cells made here m).within
+pub module-within : {C : Type 0} (K : Behaviour) (cells : Cells C) (made : ℕ) (here : Spot) (m : Message C) (p : Standing C)
+    → Within (module_puts K cells made here m p).sent (emits_at here (name_does (module_name p) here.way (shape_of m)))
+module-within K cells made here m p = (puts-lawfully K p cells made here m).within
 
 -- the first of several are the same among the first so many
 pub among-front : (k i : ℕ) (on : List ModuleName) (way : Way) (shape : Shape) → i < k → does_among i (take k on) way shape ≡ does_among i on way shape
@@ -234,47 +235,49 @@ module _ {C : Type 0} (cells : Cells C) (cost : At → ℕ) where
         goes false same = subst (λ b. cost_of cost (cond b (put_at_driver to.side to m s) (passed_up to m s)).sent ≤ sum_by cost (whole to.side (rises count shape) ∷ [])) same passed
 
     -- at a module
-    stack-fits : 0 < to.at → to.at ≤ modules_on to.side s
-        → cost_of cost (put_at_module cells to m s).sent ≤ places cost to.side bottom (side_does to.at (does_among (to.at - 1) (map module_name (stream to.side s).modules) to.way shape))
-    stack-fits some low =
+    stack-fits : (K : Behaviour) → 0 < to.at → to.at ≤ modules_on to.side s
+        → cost_of cost (put_at_module K cells to m s).sent ≤ places cost to.side bottom (side_does to.at (does_among (to.at - 1) (map module_name (stream to.side s).modules) to.way shape))
+    stack-fits K some low =
         let d = does_among (to.at - 1) (map module_name (stream to.side s).modules) to.way shape in
-        omega (arith, among-fits C cost cells (made_above to.side s) to m (to.at - 1) (stream to.side s).modules, side-sum cost to d.emits)
+        omega (arith, among-fits C cost K cells (made_above to.side s) to m (to.at - 1) (stream to.side s).modules, side-sum cost to d.emits)
 
     abbrev on : List ModuleName
     on = fronts (map module_name (stream to.side s).modules)
 
-    front-fits : 0 < to.at → to.at ≤ modules_on to.side s → cost_of cost (put_at_module cells to m s).sent ≤ places cost to.side bottom (side_does to.at (does_among (to.at - 1) on to.way shape))
-    front-fits some low =
+    front-fits : (K : Behaviour) → 0 < to.at → to.at ≤ modules_on to.side s → cost_of cost (put_at_module K cells to m s).sent ≤ places cost to.side bottom (side_does to.at (does_among (to.at - 1) on to.way shape))
+    front-fits K some low =
         let count = length (stream to.side s).modules in
-        subst (λ d. cost_of cost (put_at_module cells to m s).sent ≤ places cost to.side bottom (side_does to.at d))
-        (sym (among-front MODULES (to.at - 1) (map module_name (stream to.side s).modules) to.way shape (omega (arith, some, low)))) (stack-fits some low)
+        subst (λ d. cost_of cost (put_at_module K cells to m s).sent ≤ places cost to.side bottom (side_does to.at d))
+        (sym (among-front MODULES (to.at - 1) (map module_name (stream to.side s).modules) to.way shape (omega (arith, some, low)))) (stack-fits K some low)
 
-    put-fits : Fits s to m on (modules_on to.side s) bottom (put_in cells to m s).sent
-    put-fits = at (to.at == 0) refl
+    put-fits : (K : Behaviour) → Fits s to m on (modules_on to.side s) bottom (put_in K cells to m s).sent
+    put-fits K = at (to.at == 0) refl
       where
         count : ℕ
         count = modules_on to.side s
 
         below : (to.at == 0) ≡ false → (stands : Bool) → nat_le to.at count ≡ stands
-            → cost_of cost (cond stands (put_at_module cells to m s) (put_behind to.way to m s)).sent
+            → cost_of cost (cond stands (put_at_module K cells to m s) (put_behind to.way to m s)).sent
             ≤ places cost to.side bottom (cond stands (side_does to.at (does_among (to.at - 1) on to.way shape)) (behind_costs count to.way to.at shape))
-        below inside true is = front-fits (let some : 0 < to.at = grind (arith, nat_tests) in some) (let low : to.at ≤ count = grind (arith, nat_tests) in low)
+        below inside true is = front-fits K (let some : 0 < to.at = grind (arith, nat_tests) in some) (let low : to.at ≤ count = grind (arith, nat_tests) in low)
         below inside false is = behind-fits to.way refl
 
         at : (top : Bool) → (to.at == 0) ≡ top
-            → cost_of cost (cond top (put_at_head to.side to m s) (put_below cells to.way to m s)).sent
+            → cost_of cost (cond top (put_at_head to.side to m s) (put_below K cells to.way to m s)).sent
             ≤ places cost to.side bottom (cond top (side_does 0 (head_does shape)) (cond (nat_le to.at count) (side_does to.at (does_among (to.at - 1) on to.way shape)) (behind_costs count to.way to.at shape)))
         at true is = reached-fits (let top : to.at ≡ 0 = grind (arith, nat_tests) in top)
         at false is = below is (nat_le to.at count) refl
 
-    pub put-within : cost_of cost (put_in cells to m s).sent ≤ sum_by cost (costs (stands_of s) (record { to = to; shape = shape_of m })).emits
-    put-within =
-        subst (λ n. Fits s to m (front_on to.side (stands_of s)) (length (front_on to.side (stands_of s))) n (put_in cells to m s).sent) (sym (count-on (other to.side) s))
-        (subst (λ n. Fits s to m (front_on to.side (stands_of s)) n bottom (put_in cells to m s).sent) (sym (count-on to.side s))
-        (subst (λ names. Fits s to m (fronts names) (modules_on to.side s) bottom (put_in cells to m s).sent) (sym (names-on to.side s)) put-fits))
+    pub put-within : (K : Behaviour) → cost_of cost (put_in K cells to m s).sent
+        ≤ sum_by cost (costs (stands_of s) (record { to = to; shape = shape_of m })).emits
+    put-within K =
+        subst (λ n. Fits s to m (front_on to.side (stands_of s)) (length (front_on to.side (stands_of s))) n (put_in K cells to m s).sent) (sym (count-on (other to.side) s))
+        (subst (λ n. Fits s to m (front_on to.side (stands_of s)) n bottom (put_in K cells to m s).sent) (sym (count-on to.side s))
+        (subst (λ names. Fits s to m (fronts names) (modules_on to.side s) bottom (put_in K cells to m s).sent) (sym (names-on to.side s))
+        (put-fits K)))
 
-pub puts-costed : {C : Type 0} (cells : Cells C) → Costed (λ (s : State C). costs (stands_of s)) (put_in cells)
-puts-costed cells = record {
-  within = λ to m s cost. put-within cells cost to m s;
-  stays = λ to m s. ap costs (puts-stand (stands_of s) cells to m s refl);
+pub puts-costed : {C : Type 0} (K : Behaviour) (cells : Cells C) → Costed (λ (s : State C). costs (stands_of s)) (put_in K cells)
+puts-costed K cells = record {
+  within = λ to m s cost. put-within cells cost to m s K;
+  stays = λ to m s. ap costs (puts-stand (stands_of s) K cells to m s refl);
 }

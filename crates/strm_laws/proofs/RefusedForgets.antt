@@ -11,6 +11,7 @@ use Rattle.strm_types.specs.declared.events.Event.TheVariants.{Ioctl}
 use Rattle.strm_types.specs.declared.modes.Prio.TheVariants as prios
 use Rattle.strm_types.specs.declared.needs.Reach.TheVariants as reaches
 use Rattle.strm_laws.specs.Based.{based}
+use Rattle.strm_laws.specs.Behaviours.{Behaviour}
 use Rattle.strm_laws.specs.Kept.{AreIdle}
 use Rattle.strm_laws.specs.Pushes.{may_stand, named_by}
 use Rattle.strm_laws.specs.Refusals.{at_end, goes_down, in_range, is_numbered, is_reached, hold, refused_at_once, refused_by_state, unfit}
@@ -112,73 +113,76 @@ module _ {C D : Type 0} (f : C → D) where
   may-same None ps = refl
   may-same (Some p) ps = may-push p ps
 
-  push-same : (side : Side) (name : Option ModuleName) (s : State C) → may_stand (named_by name) (stream side (map_state f s)).modules ≡ may_stand (named_by name) (stream side s).modules
-  push-same Master name s = ap (λ (p : Option (Standing D)). may_stand p (images s.ends.master.modules)) (named_by-forgets f name) ∙ may-same (named_by name) s.ends.master.modules
-  push-same Slave name s = ap (λ (p : Option (Standing D)). may_stand p (images s.ends.slave.modules)) (named_by-forgets f name) ∙ may-same (named_by name) s.ends.slave.modules
+  push-same : (K : Behaviour) (side : Side) (name : Option ModuleName) (s : State C) → may_stand (named_by K name) (stream side (map_state f s)).modules ≡ may_stand (named_by K name) (stream side s).modules
+  push-same K Master name s = ap (λ (p : Option (Standing D)). may_stand p (images s.ends.master.modules)) (named_by-forgets f K name) ∙ may-same (named_by K name) s.ends.master.modules
+  push-same K Slave name s = ap (λ (p : Option (Standing D)). may_stand p (images s.ends.slave.modules)) (named_by-forgets f K name) ∙ may-same (named_by K name) s.ends.slave.modules
 
   slot-same : (side : Side) (s : State C) → (stream side (map_state f s)).head.ioctl ≡ (stream side s).head.ioctl
   slot-same Master s = refl
   slot-same Slave s = refl
 
-  fits-same : (s : State C) (caller : Caller) (asked : Request) → unfit (map_state f s) caller asked ≡ unfit s caller asked
-  fits-same s caller (Write bytes) = ap (λ b. unless (not b) Eagain) (full-same caller.side 0 s)
-  fits-same s caller (Read n) = read-same caller.side n s
-  fits-same s caller (Put prio control body) = ap (λ b. unless (not b) Eagain) (put-same prio control body caller.side s)
-  fits-same s caller (Get wanted cmax dmax) = get-same caller.side wanted s
-  fits-same s caller (Ioctl command body) = ap (λ slot. unless (is_free slot) Eagain) (slot-same caller.side s)
-  fits-same s caller (IoctlResult number) = ap (λ slot. result_refusal number slot) (slot-same caller.side s)
-  fits-same s caller (Push name) = ap (λ b. unless b Einval) (push-same caller.side name s)
-  fits-same s caller Pop = ap (λ name. unless (is_some name) Einval) (top-forgets f caller.side s)
-  fits-same s caller Look = ap (λ name. unless (is_some name) Einval) (top-forgets f caller.side s)
-  fits-same s caller _ = refl
+  fits-same : (K : Behaviour) (s : State C) (caller : Caller) (asked : Request) → unfit K (map_state f s) caller asked ≡ unfit K s caller asked
+  fits-same K s caller (Write bytes) = ap (λ b. unless (not b) Eagain) (full-same caller.side 0 s)
+  fits-same K s caller (Read n) = read-same caller.side n s
+  fits-same K s caller (Put prio control body) = ap (λ b. unless (not b) Eagain) (put-same prio control body caller.side s)
+  fits-same K s caller (Get wanted cmax dmax) = get-same caller.side wanted s
+  fits-same K s caller (Ioctl command body) = ap (λ slot. unless (is_free slot) Eagain) (slot-same caller.side s)
+  fits-same K s caller (IoctlResult number) = ap (λ slot. result_refusal number slot) (slot-same caller.side s)
+  fits-same K s caller (Push name) = ap (λ b. unless b Einval) (push-same K caller.side name s)
+  fits-same K s caller Pop = ap (λ name. unless (is_some name) Einval) (top-forgets f caller.side s)
+  fits-same K s caller Look = ap (λ name. unless (is_some name) Einval) (top-forgets f caller.side s)
+  fits-same K s caller _ = refl
 
-  by-state : (s : State C) (caller : Caller) (asked : Request) → refused_by_state (map_state f s) caller asked ≡ refused_by_state s caller asked
-  by-state s caller asked = ap (λ v. refusal_behind v (unfit (map_state f s) caller asked)) (hold-same f s caller asked) ∙ ap (λ r. refusal_behind (hold s caller asked) r) (fits-same s caller asked)
+  by-state : (K : Behaviour) (s : State C) (caller : Caller) (asked : Request) → refused_by_state K (map_state f s) caller asked
+      ≡ refused_by_state K s caller asked
+  by-state K s caller asked = ap (λ v. refusal_behind v (unfit K (map_state f s) caller asked)) (hold-same f s caller asked) ∙ ap (λ r. refusal_behind (hold s caller asked) r) (fits-same K s caller asked)
 
-  pub refusals-forget : (s : State C) (caller : Caller) (asked : Request) → or_else (refused_at_once (map_state f s) caller asked) (refused_by_state (map_state f s) caller asked) ≡ or_else (refused_at_once s caller asked) (refused_by_state s caller asked)
-  refusals-forget s caller asked = ap (λ r. or_else r (refused_by_state (map_state f s) caller asked)) (at-once s caller asked) ∙ ap (λ r. or_else (refused_at_once s caller asked) r) (by-state s caller asked)
+  pub refusals-forget : (K : Behaviour) (s : State C) (caller : Caller) (asked : Request) → or_else (refused_at_once (map_state f s) caller asked) (refused_by_state K (map_state f s) caller asked) ≡ or_else (refused_at_once s caller asked) (refused_by_state K s caller asked)
+  refusals-forget K s caller asked = ap (λ r. or_else r (refused_by_state K (map_state f s) caller asked)) (at-once s caller asked) ∙ ap (λ r. or_else (refused_at_once s caller asked) r) (by-state K s caller asked)
 
 -- a journal is legal of bytes exactly where it is of bytes with their origin
 module _ {C : Type 0} (cells : Cells C) (are : AreCells cells) where
   abbrev forgotten : State C → State ℕ
   forgotten s = map_state cells.byte s
 
-  step-same : (s : State C) (entry : PlainEntry) → Step plain (forgotten s) entry (after plain (forgotten s) entry) → Step cells s entry (after cells s entry)
-  step-same s (Called caller asked answer) step = record {
-    allowed = sym (refusals-forget cells.byte s caller asked) ∙ step.allowed;
-    answered = sym (ap (λ t. t.answer) (call-forgets cells are caller asked s)) ∙ step.answered;
+  step-same : (K : Behaviour) (s : State C) (entry : PlainEntry) → Step K plain (forgotten s) entry (after K plain (forgotten s) entry) → Step K cells s entry (after K cells s entry)
+  step-same K s (Called caller asked answer) step = record {
+    allowed = sym (refusals-forget cells.byte K s caller asked) ∙ step.allowed;
+    answered = sym (ap (λ t. t.answer) (call-forgets cells are K caller asked s)) ∙ step.answered;
     leads = refl;
   }
-  step-same s (Turned name turn) step = record {
+  step-same K s (Turned name turn) step = record {
     enabled = step.enabled;
     in_range = step.in_range;
-    answered = sym (ap (λ t. t.turn) (turn-forgets cells are name turn s)) ∙ step.answered;
+    answered = sym (ap (λ t. t.turn) (turn-forgets cells are K name turn s)) ∙ step.answered;
     leads = refl;
   }
 
-  step-back : (s : State C) (entry : PlainEntry) → Step cells s entry (after cells s entry) → Step plain (forgotten s) entry (after plain (forgotten s) entry)
-  step-back s (Called caller asked answer) step = record {
-    allowed = refusals-forget cells.byte s caller asked ∙ step.allowed;
-    answered = ap (λ t. t.answer) (call-forgets cells are caller asked s) ∙ step.answered;
+  step-back : (K : Behaviour) (s : State C) (entry : PlainEntry) → Step K cells s entry (after K cells s entry) → Step K plain (forgotten s) entry (after K plain (forgotten s) entry)
+  step-back K s (Called caller asked answer) step = record {
+    allowed = refusals-forget cells.byte K s caller asked ∙ step.allowed;
+    answered = ap (λ t. t.answer) (call-forgets cells are K caller asked s) ∙ step.answered;
     leads = refl;
   }
-  step-back s (Turned name turn) step = record {
+  step-back K s (Turned name turn) step = record {
     enabled = step.enabled;
     in_range = step.in_range;
-    answered = ap (λ t. t.turn) (turn-forgets cells are name turn s) ∙ step.answered;
+    answered = ap (λ t. t.turn) (turn-forgets cells are K name turn s) ∙ step.answered;
     leads = refl;
   }
 
-  pub legal-with-origins : (s : State C) (entries : List PlainEntry) → IsLegal plain (forgotten s) entries → IsLegal cells s entries
-  legal-with-origins s [] legal = tt
-  legal-with-origins s (entry ∷ entries) legal =
-      (step-same s entry legal.0, legal-with-origins (after cells s entry) entries (subst (λ t. IsLegal plain t entries) (after-forgets cells are s entry) legal.1))
+  pub legal-with-origins : (K : Behaviour) (s : State C) (entries : List PlainEntry) → IsLegal K plain (forgotten s) entries
+      → IsLegal K cells s entries
+  legal-with-origins K s [] legal = tt
+  legal-with-origins K s (entry ∷ entries) legal =
+      (step-same K s entry legal.0, legal-with-origins K (after K cells s entry) entries (subst (λ t. IsLegal K plain t entries) (after-forgets cells are K s entry) legal.1))
 
-  pub legal-without : (s : State C) (entries : List PlainEntry) → IsLegal cells s entries → IsLegal plain (forgotten s) entries
-  legal-without s [] legal = tt
-  legal-without s (entry ∷ entries) legal =
-      (step-back s entry legal.0, subst (λ t. IsLegal plain t entries) (sym (after-forgets cells are s entry)) (legal-without (after cells s entry) entries legal.1))
+  pub legal-without : (K : Behaviour) (s : State C) (entries : List PlainEntry) → IsLegal K cells s entries → IsLegal K plain (forgotten s) entries
+  legal-without K s [] legal = tt
+  legal-without K s (entry ∷ entries) legal =
+      (step-back K s entry legal.0, subst (λ t. IsLegal K plain t entries) (sym (after-forgets cells are K s entry)) (legal-without K (after K cells s entry) entries legal.1))
 
 -- so a journal that is legal from a base is so with the origins of the base
-pub legal-from : (base : State ℕ) (entries : List PlainEntry) → AreIdle base → IsLegal plain base entries → IsLegal tagged (based base) entries
-legal-from base entries idle legal = legal-with-origins tagged tagged-cells (based base) entries (subst (λ s. IsLegal plain s entries) (sym (based-forgets base idle)) legal)
+pub legal-from : (K : Behaviour) (base : State ℕ) (entries : List PlainEntry) → AreIdle base → IsLegal K plain base entries
+    → IsLegal K tagged (based base) entries
+legal-from K base entries idle legal = legal-with-origins tagged tagged-cells K (based base) entries (subst (λ s. IsLegal K plain s entries) (sym (based-forgets base idle)) legal)

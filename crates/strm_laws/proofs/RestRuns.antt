@@ -8,6 +8,7 @@ use Rattle.std.specs.Prelude.{slice_get}
 use Rattle.strm_types.specs.declared.limits.TheConstants.{TURN_BLOCKS}
 use Rattle.strm_types.specs.declared.names.Place.TheVariants.{Head}
 use Rattle.strm_types.specs.declared.names.Place.TheVariants as places
+use Rattle.strm_laws.specs.Behaviours.{Behaviour}
 use Rattle.strm_laws.specs.Pair.{PairState, RanTurns, next_refused, refused_of}
 use Rattle.strm_laws.specs.Refusals.{Free, enough, has_room, in_range}
 use Rattle.strm_laws.specs.Rest.{EchoesOnce, NoLdterm, work}
@@ -28,25 +29,25 @@ none-took old new same = (ap (λ (p : PairState). stands_of p.state) same, (let 
 one-took : (n : ℕ) (old mid new : PairState) → Took n old mid → (stands_of new.state ≡ stands_of mid.state) × (work new.state < work mid.state) → Took (suc n) old new
 one-took n old mid new took turn = (turn.0 ∙ took.0, (let before = took.1 in let less = turn.1 in omega (arith, before, less)))
 
-pub plain-runs : (n : ℕ) (old new : PairState) → RanTurns n old new → NoLdterm (stands_of old.state) → Took n old new
-plain-runs zero old new same none = none-took old new same
-plain-runs (suc n) old new ran none =
+pub plain-runs : (K : Behaviour) (n : ℕ) (old new : PairState) → RanTurns K n old new → NoLdterm (stands_of old.state) → Took n old new
+plain-runs K zero old new same none = none-took old new same
+plain-runs K (suc n) old new ran none =
     let mid = ran.0 in
-    let took = plain-runs n old mid ran.1.0 none in
+    let took = plain-runs K n old mid ran.1.0 none in
     let step = ran.1.1.adds.step in
-    let less = plain-turn plain ran.1.1.name ran.1.1.turn mid.state (subst (λ (all : Stands). NoLdterm all) (sym took.0) none) step.enabled in
+    let less = plain-turn K plain ran.1.1.name ran.1.1.turn mid.state (subst (λ (all : Stands). NoLdterm all) (sym took.0) none) step.enabled in
     one-took n old mid new took (subst (λ (t : State ℕ). (stands_of t ≡ stands_of mid.state) × (work t < work mid.state)) step.leads less)
 
 -- where an image may hold the pair, each of its lines is short, and so it stays
-pub echoed-runs : (n : ℕ) (old new : PairState) → RanTurns n old new → EchoesOnce (stands_of old.state) → Restorable old.state → Took n old new × Restorable new.state
-echoed-runs zero old new same once good = (none-took old new same, subst (λ (p : PairState). Restorable p.state) (sym same) good)
-echoed-runs (suc n) old new ran once good =
+pub echoed-runs : (K : Behaviour) (n : ℕ) (old new : PairState) → RanTurns K n old new → EchoesOnce (stands_of old.state) → Restorable old.state → Took n old new × Restorable new.state
+echoed-runs K zero old new same once good = (none-took old new same, subst (λ (p : PairState). Restorable p.state) (sym same) good)
+echoed-runs K (suc n) old new ran once good =
     let mid = ran.0 in
-    let before = echoed-runs n old mid ran.1.0 once good in
+    let before = echoed-runs K n old mid ran.1.0 once good in
     let was = before.1 in
     let step = ran.1.1.adds.step in
-    let turn = echoed-turn plain mid.state new.state ran.1.1.name ran.1.1.turn (subst (λ (all : Stands). EchoesOnce all) (sym before.0.0) once) (was.streams, was.numbered, was.last) step in
-    (one-took n old mid new before.0 turn, step-restorable plain mid.state new.state (Turned ran.1.1.name ran.1.1.turn) tt was step)
+    let turn = echoed-turn K plain mid.state new.state ran.1.1.name ran.1.1.turn (subst (λ (all : Stands). EchoesOnce all) (sym before.0.0) once) (was.streams, was.numbered, was.last) step in
+    (one-took n old mid new before.0 turn, step-restorable K plain mid.state new.state (Turned ran.1.1.name ran.1.1.turn) tt was step)
 
 -- each takes one entry of the journal, and no bytes
 pub record Recorded (n : ℕ) (old new : PairState) : Type 0 where
@@ -54,15 +55,15 @@ pub record Recorded (n : ℕ) (old new : PairState) : Type 0 where
   pub bytes : room_used new.journal ≡ room_used old.journal
   pub limits : new.limits ≡ old.limits
 
-recorded : (n : ℕ) (old new : PairState) → RanTurns n old new → Recorded n old new
-recorded zero old new same = record {
+recorded : (K : Behaviour) (n : ℕ) (old new : PairState) → RanTurns K n old new → Recorded n old new
+recorded K zero old new same = record {
   entries = (let long = ap (λ (p : PairState). length p.journal) same in omega (arith, long));
   bytes = ap (λ (p : PairState). room_used p.journal) same;
   limits = ap (λ (p : PairState). p.limits) same;
 }
-recorded (suc n) old new ran =
+recorded K (suc n) old new ran =
     let mid = ran.0 in
-    let before = recorded n old mid ran.1.0 in
+    let before = recorded K n old mid ran.1.0 in
     let adds = ran.1.1.adds in
     let entry : PlainEntry = Turned ran.1.1.name ran.1.1.turn in
     record {
@@ -81,10 +82,10 @@ not-full true true false true is = λ e. cc
 not-full true true true true is = λ e. cc
 
 -- as many turns as there was work leave none, so a queue that is enabled still has room for its turn
-has-room : (n : ℕ) (old new : PairState) → RanTurns n old new → n + work new.state ≤ work old.state → length old.journal + work old.state ≤ old.limits.journal_events → room_used old.journal ≤ old.limits.journal_bytes
+has-room : (K : Behaviour) (n : ℕ) (old new : PairState) → RanTurns K n old new → n + work new.state ≤ work old.state → length old.journal + work old.state ≤ old.limits.journal_events → room_used old.journal ≤ old.limits.journal_bytes
     → 1 ≤ work new.state → has_room new.journal new.limits 0 ≡ true
-has-room n old new ran less events bytes some =
-    let told = recorded n old new ran in
+has-room K n old new ran less events bytes some =
+    let told = recorded K n old new ran in
     let same_events = ap (λ (c : Config). c.journal_events) told.limits in
     let same_bytes = ap (λ (c : Config). c.journal_bytes) told.limits in
     let long = told.entries in
@@ -95,16 +96,16 @@ has-room n old new ran less events bytes some =
     let two : nat_le (room_used new.journal + 0) new.limits.journal_bytes ≡ true = grind (arith, nat_tests) in
     ap (λ b. b && nat_le (room_used new.journal + 0) new.limits.journal_bytes) one ∙ two
 
-pub room-left : (n : ℕ) (old new : PairState) → RanTurns n old new → n + work new.state ≤ work old.state → length old.journal + work old.state ≤ old.limits.journal_events → room_used old.journal ≤ old.limits.journal_bytes
+pub room-left : (K : Behaviour) (n : ℕ) (old new : PairState) → RanTurns K n old new → n + work new.state ≤ work old.state → length old.journal + work old.state ≤ old.limits.journal_events → room_used old.journal ≤ old.limits.journal_bytes
     → next_refused new ≢ Some JournalFull
-room-left n old new ran less events bytes = at (slice_get new.state.enabled 0)
+room-left K n old new ran less events bytes = at (slice_get new.state.enabled 0)
   where
     works : (name : QueueName) → is_enabled name new.state.enabled ≡ true → 1 ≤ work new.state
     works name on = let one = taken-off name new.state.enabled on in omega (arith, one)
 
     at : (o : Option QueueName) → refused_of new o ≢ Some JournalFull
     at None = λ e. cc
-    at (Some name) = not-full (is_enabled name new.state.enabled) (in_range new.state) (enough (turn_blocks name.place) new.free) (has_room new.journal new.limits 0) (λ on. has-room n old new ran less events bytes (works name on))
+    at (Some name) = not-full (is_enabled name new.state.enabled) (in_range new.state) (enough (turn_blocks name.place) new.free) (has_room new.journal new.limits 0) (λ on. has-room K n old new ran less events bytes (works name on))
 
 -- and where blocks enough are free and no book is full, it isn't refused at all
 same-itself : (name : QueueName) → same_queue name name ≡ true
@@ -153,13 +154,13 @@ not-refused true false blocks room one two three four = absurd (cc)
 not-refused true true false room one two three four = absurd (cc)
 not-refused true true true false one two three four = absurd (cc)
 
-pub next-goes : (n : ℕ) (old new : PairState) → RanTurns n old new → n + work new.state ≤ work old.state → length old.journal + work old.state ≤ old.limits.journal_events → room_used old.journal ≤ old.limits.journal_bytes
+pub next-goes : (K : Behaviour) (n : ℕ) (old new : PairState) → RanTurns K n old new → n + work new.state ≤ work old.state → length old.journal + work old.state ≤ old.limits.journal_events → room_used old.journal ≤ old.limits.journal_bytes
     → in_range new.state ≡ true → enough STOP_BLOCKS new.free ≡ true → next_refused new ≡ None
-next-goes n old new ran less events bytes range blocks = at (slice_get new.state.enabled 0) refl
+next-goes K n old new ran less events bytes range blocks = at (slice_get new.state.enabled 0) refl
   where
     at : (o : Option QueueName) → slice_get new.state.enabled 0 ≡ o → refused_of new o ≡ None
     at None is = refl
     at (Some name) is =
         let on = first-enabled new.state.enabled name is in
         not-refused (is_enabled name new.state.enabled) (in_range new.state) (enough (turn_blocks name.place) new.free) (has_room new.journal new.limits 0)
-        on range (has-room n old new ran less events bytes (let one = taken-off name new.state.enabled on in omega (arith, one))) (enough-blocks name.place new.free blocks)
+        on range (has-room K n old new ran less events bytes (let one = taken-off name new.state.enabled on in omega (arith, one))) (enough-blocks name.place new.free blocks)

@@ -6,14 +6,16 @@ use Rattle.strm_laws.specs.Prelude.{MsgKind, Flush, HOPS, MODULES, ModuleName, S
 use Rattle.strm_laws.specs.Prelude.{Goes, Parcel, Took, carried, in_turn, driver_put, is_bare_flush, is_flush, head_put, Message, cells_of, has_parts}
 use Rattle.strm_laws.specs.Prelude.{put_among, is_open, other, stood, disciplined}
 use Rattle.strm_types.specs.declared.names.ModuleName.TheVariants as names
+use Rattle.strm_laws.specs.Behaviours.{Behaviour}
 use Rattle.strm_laws.specs.Earlier.{driver_place, modules_on}
 use Rattle.strm_laws.specs.Puts.{across_of, booked, delivered, made_above, module_acted, passed_up, put_at_driver, put_at_head, put_at_module, put_behind, put_below, put_in}
 use Rattle.strm_laws.specs.Rest.{echoes, module_moves, moves, moves_above, moves_across, stream_moves}
 use Rattle.strm_laws.specs.StackCosts.{Stands, stands_of, stands_on}
-use Rattle.strm_laws.specs.Stacked.{Standing, OfLdterm, OfPtem, OfPckt, module_name, module_puts, kind_name, Module}
+use Rattle.strm_laws.specs.Stacked.{Standing, OfLdterm, OfOwn, OfPtem, OfPckt, module_name, module_puts, kind_name, Module}
 use Rattle.strm_laws.specs.State.{State, Stream, stream, with_stream}
 use Rattle.strm_laws.proofs.RestCosts.{PutPays, above-more, at_or_above, at_or_below, carried-pays, in_turn-pays, sinks_by, toll, toll_at, up-falls}
 use Rattle.strm_laws.proofs.RestLdterms.{ldterm-pays}
+use Rattle.strm_laws.proofs.RestOwns.{own-few}
 use Rattle.strm_laws.proofs.RestPuts.{came-across, came-down, head-few, pckt-few, ptem-few, tolls}
 use Rattle.strm_laws.proofs.StackStays.{Stand, puts-stand}
 
@@ -22,6 +24,7 @@ abbrev pub FitsName : Bool → Bool → ℕ → ℕ → ModuleName → Type 0
 FitsName echoed across post at names.Ldterm = (echoed ≡ true) × (across ≡ false) × (post ≡ at)
 FitsName echoed across post at names.Ptem = Unit {0}
 FitsName echoed across post at names.Pckt = at_or_above echoed post (at - 1) ≡ false
+FitsName echoed across post at (names.Own n) = Unit {0}
 
 abbrev pub FitNames : Bool → Bool → ℕ → ℕ → List ModuleName → Type 0
 FitNames echoed across post at [] = Unit {0}
@@ -109,27 +112,28 @@ module _ {C : Type 0} (all : Stands) where
         (λ is. omega (arith, up-pays here.side here m s (no-parts (is_flush m.kind) (has_parts m) (here.at == suc MODULES) is)))
         (λ is. omega (arith, up-falls all posts here.side (modules_on here.side s) here.at m low))
 
-    module _ (cells : Cells C) (made : ℕ) where
+    module _ (K : Behaviour) (cells : Cells C) (made : ℕ) where
       module-pays : (here : Spot) (m : Message C) (q : Standing C) → 0 < here.at → FitsName (echoes all here.side) (echoes all (other here.side)) (posts here.side) here.at (module_name q)
-          → let t = module_puts cells made here m q in module_moves t.state + tolls all posts t.sent ≤ module_moves q + toll all posts here m
+          → let t = module_puts K cells made here m q in module_moves t.state + tolls all posts t.sent ≤ module_moves q + toll all posts here m
       module-pays here m x some fits = by x.part fits
         where
           by : (q : Module C) → FitsName (echoes all here.side) (echoes all (other here.side)) (posts here.side) here.at (kind_name q)
-              → let t = module_puts cells made here m (stood q x.queues) in module_moves t.state + tolls all posts t.sent ≤ module_moves (stood q x.queues) + toll all posts here m
+              → let t = module_puts K cells made here m (stood q x.queues) in module_moves t.state + tolls all posts t.sent ≤ module_moves (stood q x.queues) + toll all posts here m
           by (OfLdterm l) fits = ldterm-pays all posts here some fits.0 fits.1 fits.2 m (disciplined l x.queues)
           by (OfPtem q) fits = omega (arith, ptem-few all posts here m q)
           by (OfPckt q) fits = omega (arith, pckt-few all posts cells made here m fits)
+          by (OfOwn o) fits = omega (arith, own-few all posts K cells here m o)
 
       among-pays : (i at : ℕ) (here : Spot) (m : Message C) (ps : List (Standing C)) → 0 < here.at → at + i ≡ here.at → FitNames (echoes all here.side) (echoes all (other here.side)) (posts here.side) at (map module_name ps)
-          → let t = put_among (module_puts cells made) i here m ps in sum_by module_moves t.state + tolls all posts t.sent ≤ sum_by module_moves ps + toll all posts here m
+          → let t = put_among (module_puts K cells made) i here m ps in sum_by module_moves t.state + tolls all posts t.sent ≤ sum_by module_moves ps + toll all posts here m
       among-pays i at here m [] some is fits = omega arith
       among-pays zero at here m (q ∷ qs) some is fits =
           let same : at ≡ here.at = omega (arith, is) in
-          let t = module_puts cells made here m q in
+          let t = module_puts K cells made here m q in
           let fit = subst (λ n. FitsName (echoes all here.side) (echoes all (other here.side)) (posts here.side) n (module_name q)) same fits.0 in
           omega (arith, module-pays here m q some fit, sum_by-cons module_moves q qs, sum_by-cons module_moves t.state qs)
       among-pays (suc i) at here m (q ∷ qs) some is fits =
-          let t = put_among (module_puts cells made) i here m qs in
+          let t = put_among (module_puts K cells made) i here m qs in
           omega (arith, among-pays i (suc at) here m qs some (omega (arith, is)) fits.1, sum_by-cons module_moves q qs, sum_by-cons module_moves q t.state)
 
     module _ (fit : Fit all posts) where
@@ -137,17 +141,17 @@ module _ {C : Type 0} (all : Stands) where
       fits-on side s is = subst (λ ns. FitNames (echoes all side) (echoes all (other side)) (posts side) 1 ns) (sym (names-on side s is)) (fit side)
 
       module _ (cells : Cells C) where
-        stack-pays : (here : Spot) (m : Message C) (s : State C) → 0 < here.at → stands_of s ≡ all → Pays (put_at_module cells here m s) (moves all s + toll all posts here m)
-        stack-pays here m s some is =
+        stack-pays : (K : Behaviour) (here : Spot) (m : Message C) (s : State C) → 0 < here.at → stands_of s ≡ all → Pays (put_at_module K cells here m s) (moves all s + toll all posts here m)
+        stack-pays K here m s some is =
             let ps = (stream here.side s).modules in
             let made = made_above here.side s in
-            omega (arith, among-pays cells made (here.at - 1) 1 here m ps some (omega (arith, some)) (fits-on here.side s is), acted-moves here (put_among (module_puts cells made) (here.at - 1) here m ps) s)
+            omega (arith, among-pays K cells made (here.at - 1) 1 here m ps some (omega (arith, some)) (fits-on here.side s is), acted-moves here (put_among (module_puts K cells made) (here.at - 1) here m ps) s)
 
-        below-pays : (way : Way) (here : Spot) (m : Message C) (s : State C) → 0 < here.at → stands_of s ≡ all → Pays (put_below cells way (record here { way = way }) m s) (moves all s + toll_at all posts way here.side here.at m)
-        below-pays way here m s some is =
+        below-pays : (K : Behaviour) (way : Way) (here : Spot) (m : Message C) (s : State C) → 0 < here.at → stands_of s ≡ all → Pays (put_below K cells way (record here { way = way }) m s) (moves all s + toll_at all posts way here.side here.at m)
+        below-pays K way here m s some is =
             let to : Spot = record here { way = way } in
-            either-pays _ (nat_le here.at (modules_on here.side s)) (put_at_module cells to m s) (put_behind way to m s)
-            (λ stands. stack-pays to m s some is)
+            either-pays _ (nat_le here.at (modules_on here.side s)) (put_at_module K cells to m s) (put_behind way to m s)
+            (λ stands. stack-pays K to m s some is)
             (λ stands. behind-pays way here m s (past here.at (modules_on here.side s) stands))
 
         top-pays : (way : Way) (side : Side) (at : ℕ) (m : Message C) → moves_above m.kind false (length (cells_of m)) ≤ toll_at all posts way side at m
@@ -167,16 +171,16 @@ module _ {C : Type 0} (all : Stands) where
                 let same = ap (λ (b : Bool). cond b 0 (moves_across (echoes all (other side)) m)) is in
                 omega (arith, same, above-more m.kind (length (cells_of m)) false (echoes all (other side)) (λ is. absurd (cc)))
 
-        pub puts-pay : PutPays (Stand all) (moves all) (toll all posts) (put_in cells)
-        puts-pay to m s is = either-pays _ (to.at == 0) _ _
+        pub puts-pay : (K : Behaviour) → PutPays (Stand all) (moves all) (toll all posts) (put_in K cells)
+        puts-pay K to m s is = either-pays _ (to.at == 0) _ _
             (λ top. omega (arith, head-pays to.side to m s, top-pays to.way to.side to.at m))
-            (λ top. below-pays to.way to m s (not-head to.at top) is)
+            (λ top. below-pays K to.way to m s (not-head to.at top) is)
 
         -- what is delivered, and several parcels one after the other
-        pub sent-pays : (ps : List (Parcel C)) (s : State C) → stands_of s ≡ all → moves all (in_turn (carried (put_in cells) HOPS) ps s).state ≤ moves all s + tolls all posts ps
-        sent-pays ps s is =
-            in_turn-pays (Stand all) (moves all) (toll all posts) (carried (put_in cells) HOPS) (carried-holds (Stand all) (put_in cells) (puts-stand all cells) HOPS)
-            (carried-pays (Stand all) (moves all) (toll all posts) (put_in cells) (puts-stand all cells) puts-pay HOPS) ps s is
+        pub sent-pays : (K : Behaviour) (ps : List (Parcel C)) (s : State C) → stands_of s ≡ all → moves all (in_turn (carried (put_in K cells) HOPS) ps s).state ≤ moves all s + tolls all posts ps
+        sent-pays K ps s is =
+            in_turn-pays (Stand all) (moves all) (toll all posts) (carried (put_in K cells) HOPS) (carried-holds (Stand all) (put_in K cells) (puts-stand all K cells) HOPS)
+            (carried-pays (Stand all) (moves all) (toll all posts) (put_in K cells) (puts-stand all K cells) (puts-pay K) HOPS) ps s is
 
-        pub delivered-pays : (to : Spot) (m : Message C) (s : State C) → stands_of s ≡ all → moves all (delivered cells to m s).state ≤ moves all s + toll all posts to m
-        delivered-pays to m s is = carried-pays (Stand all) (moves all) (toll all posts) (put_in cells) (puts-stand all cells) puts-pay HOPS (record { to = to; message = m }) s is
+        pub delivered-pays : (K : Behaviour) (to : Spot) (m : Message C) (s : State C) → stands_of s ≡ all → moves all (delivered K cells to m s).state ≤ moves all s + toll all posts to m
+        delivered-pays K to m s is = carried-pays (Stand all) (moves all) (toll all posts) (put_in K cells) (puts-stand all K cells) (puts-pay K) HOPS (record { to = to; message = m }) s is

@@ -10,6 +10,7 @@ use Rattle.strm_laws.specs.Prelude.{left_with, relieved, turn_ended}
 use Rattle.std.specs.List.{AllByRecursion}
 use Rattle.strm_types.specs.declared.spots.Asks.TheVariants as asked
 use Rattle.strm_types.specs.Ldterms.{Ldterm}
+use Rattle.strm_laws.specs.Behaviours.{Behaviour}
 use Rattle.strm_laws.specs.Earlier.{driver_place, modules_on}
 use Rattle.strm_laws.specs.LdtermTurns.{ldterm_rests}
 use Rattle.strm_laws.specs.ModuleTurns.{Calls, again_at, asked_turn, bytes_at, call_at, calls, made_below, module_called, module_turn_ended, moved_on, moved_within, queue_ended, stayed_at, turned_there, waits_there}
@@ -30,7 +31,8 @@ use Rattle.strm_laws.proofs.RestCosts.{up-most}
 use Rattle.strm_laws.proofs.RestPuts.{tolls}
 use Rattle.strm_laws.proofs.RestServes.{Goes, first-fewer, later-less}
 use Rattle.strm_laws.proofs.RestStates.{Fit, FitNames, FitsName, acted-moves, delivered-pays, fits-on, same-moves, sent-pays, with-moves}
-use Rattle.strm_laws.proofs.StackStays.{Stand, puts-stand, queue-names, same-names, serve-names}
+use Rattle.strm_laws.proofs.SameNames.{queue-names, serve-names}
+use Rattle.strm_laws.proofs.StackStays.{Stand, puts-stand, same-names}
 use Rattle.strm_laws.proofs.StandingLdterms.{stands-at}
 use Rattle.strm_laws.proofs.TurnHolds.{any-holds}
 
@@ -134,13 +136,13 @@ module _ {C : Type 0} (all : Stands) where
 
   module _ (cells : Cells C) (posts : Side → ℕ) (fit : Fit all posts) where
     -- a driver's turn
-    moved-leaves : (side : Side) (m : Message C) (rest : List (Message C)) (s : State C) → stands_of s ≡ all → (stream side s).driver.queue.messages ≡ m ∷ rest
-        → Leaves (moves all s) s.enabled (moved_across cells side m rest s).state
-    moved-leaves side m rest s is first =
+    moved-leaves : (K : Behaviour) (side : Side) (m : Message C) (rest : List (Message C)) (s : State C) → stands_of s ≡ all → (stream side s).driver.queue.messages ≡ m ∷ rest
+        → Leaves (moves all s) s.enabled (moved_across K cells side m rest s).state
+    moved-leaves K side m rest s is first =
         let from = with_driver side (left_with rest (stream side s).driver.queue) s in
-        let t = (delivered cells (up_across side from) m from).state in
+        let t = (delivered K cells (up_across side from) m from).state in
         let from-stands = stream-stands side (with_driver_queue (left_with rest (stream side s).driver.queue) (stream side s)) s refl is in
-        let went = carried-holds (Stand all) (put_in cells) (puts-stand all cells) HOPS (record { to = up_across side from; message = m }) from from-stands in
+        let went = carried-holds (Stand all) (put_in K cells) (puts-stand all K cells) HOPS (record { to = up_across side from; message = m }) from from-stands in
         let q = turned_queue (stream side t).driver.queue in
         let goes = not (size_of m == 0) in
         let crossing = moves_across {C = C} (echoes all (other side)) in
@@ -152,18 +154,18 @@ module _ {C : Type 0} (all : Stands) where
             arith,
             with-moves all side (with_driver_queue (left_with rest (stream side s).driver.queue) (stream side s)) s,
             taken,
-            delivered-pays all posts fit cells (up_across side from) m from from-stands,
+            delivered-pays all posts fit cells K (up_across side from) m from from-stands,
             up-most all posts (other side) (modules_on (other side) from) m,
             with-moves all side last t,
             same,
           )),
         )
 
-    pub driver-leaves : (side : Side) (ms : List (Message C)) (s : State C) → stands_of s ≡ all → (stream side s).driver.queue.messages ≡ ms → Leaves (moves all s) s.enabled (driver_serves cells side ms s).state
-    driver-leaves side [] s is first =
+    pub driver-leaves : (K : Behaviour) (side : Side) (ms : List (Message C)) (s : State C) → stands_of s ≡ all → (stream side s).driver.queue.messages ≡ ms → Leaves (moves all s) s.enabled (driver_serves K cells side ms s).state
+    driver-leaves K side [] s is first =
         let on = with_driver_queue (record (stream side s).driver.queue { want_read = true }) (stream side s) in
         (stream-stands side on s refl is, inr (omega (arith, same-moves all side on s refl), refl))
-    driver-leaves side (m ∷ rest) s is first =
+    driver-leaves K side (m ∷ rest) s is first =
         let on = with_driver_queue (held_back (stream side s).driver.queue) (stream side s) in
         let kept = with_driver side (held_back (stream side s).driver.queue) s in
         let kept-stands = stream-stands side on s refl is in
@@ -171,7 +173,7 @@ module _ {C : Type 0} (all : Stands) where
         any-holds (λ t. Leaves (moves all s) s.enabled t.state) (is_open (stream (other side) s).opened) (is_stopped_across side m s) _ _ _
         (kept-stands, inr (omega (arith, kept-same), refl))
         (waits-stand (other side) Up (driver_place (other side) kept) (band_of m) kept kept-stands, inr (omega (arith, kept-same, waits-same (other side) Up (driver_place (other side) kept) (band_of m) kept), refl))
-        (moved-leaves side m rest s is first)
+        (moved-leaves K side m rest s is first)
 
     module _ (here : Spot) (some : 0 < here.at) where
       abbrev acts : Bool → ℕ → ℕ → Standing C → Acted C (Standing C)
@@ -244,16 +246,16 @@ module _ {C : Type 0} (all : Stands) where
           acted-holds (Stand all) (λ names s adds is. is) (λ dir n s is. is) here t s
           (stream-stands here.side (record (stream here.side s) { modules = t.state }) s (serve-names cells here (made_below here.side s) again (Some left) (here.at - 1) ps) is)
 
-      abbrev sent_on : Bool → ℕ → State C → State C
-      sent_on again left s = let t = module_called cells here again left s in (in_turn (carried (put_in cells) HOPS) t.sent t.state).state
+      abbrev sent_on : Behaviour → Bool → ℕ → State C → State C
+      sent_on K again left s = let t = module_called cells here again left s in (in_turn (carried (put_in K cells) HOPS) t.sent t.state).state
 
-      on-stands : (again : Bool) (left : ℕ) (s : State C) → stands_of s ≡ all → stands_of (sent_on again left s) ≡ all
-      on-stands again left s is =
+      on-stands : (K : Behaviour) (again : Bool) (left : ℕ) (s : State C) → stands_of s ≡ all → stands_of (sent_on K again left s) ≡ all
+      on-stands K again left s is =
           let t = module_called cells here again left s in
-          in_turn-holds (Stand all) (carried (put_in cells) HOPS) (carried-holds (Stand all) (put_in cells) (puts-stand all cells) HOPS) t.sent t.state (called-stands again left s is)
+          in_turn-holds (Stand all) (carried (put_in K cells) HOPS) (carried-holds (Stand all) (put_in K cells) (puts-stand all K cells) HOPS) t.sent t.state (called-stands again left s is)
 
-      on-first : (left : ℕ) (s : State C) → stands_of s ≡ all → AreStreams s → At (Ready left) (here.at - 1) (stream here.side s).modules → suc (moves all (sent_on false left s)) ≤ moves all s
-      on-first left s is good ready =
+      on-first : (K : Behaviour) (left : ℕ) (s : State C) → stands_of s ≡ all → AreStreams s → At (Ready left) (here.at - 1) (stream here.side s).modules → suc (moves all (sent_on K false left s)) ≤ moves all s
+      on-first K left s is good ready =
           let ps = (stream here.side s).modules in
           let made = made_below here.side s in
           let t = module_called cells here false left s in
@@ -261,11 +263,12 @@ module _ {C : Type 0} (all : Stands) where
             arith,
             among-first made left (here.at - 1) 1 ps (omega (arith, some)) (fits-on all posts fit here.side s is) (good.0 here.side).modules.each ready,
             acted-moves all here (call_at cells here made false left ps) s,
-            sent-pays all posts fit cells t.sent t.state (called-stands false left s is),
+            sent-pays all posts fit cells K t.sent t.state (called-stands false left s is),
           )
 
-      on-later : (left : ℕ) (s : State C) → stands_of s ≡ all → AreStreams s → here.way ≡ Up → moves all (sent_on true left s) ≤ moves all s
-      on-later left s is good up =
+      on-later : (K : Behaviour) (left : ℕ) (s : State C) → stands_of s ≡ all → AreStreams s → here.way ≡ Up → moves all (sent_on K true left s)
+          ≤ moves all s
+      on-later K left s is good up =
           let ps = (stream here.side s).modules in
           let made = made_below here.side s in
           let t = module_called cells here true left s in
@@ -273,7 +276,7 @@ module _ {C : Type 0} (all : Stands) where
             arith,
             among-later made left (here.at - 1) 1 ps (omega (arith, some)) (fits-on all posts fit here.side s is) (good.0 here.side).modules.each up,
             acted-moves all here (call_at cells here made true left ps) s,
-            sent-pays all posts fit cells t.sent t.state (called-stands true left s is),
+            sent-pays all posts fit cells K t.sent t.state (called-stands true left s is),
           )
 
       -- on the write queue one call is a turn
@@ -294,21 +297,22 @@ module _ {C : Type 0} (all : Stands) where
               by way part down = refl
       down-once made left (suc i) again (q ∷ qs) down = down-once made left i again qs down
 
-      calls-later : (n left : ℕ) (s : State C) → stands_of s ≡ all → AreStreams s → here.way ≡ Up → let v = calls cells here n true left s in (stands_of v.state ≡ all) × (moves all v.state ≤ moves all s)
-      calls-later zero left s is good up = (is, omega arith)
-      calls-later (suc more) left s is good up =
+      calls-later : (K : Behaviour) (n left : ℕ) (s : State C) → stands_of s ≡ all → AreStreams s → here.way ≡ Up → let v = calls K cells here n true left s in (stands_of v.state ≡ all) × (moves all v.state ≤ moves all s)
+      calls-later K zero left s is good up = (is, omega arith)
+      calls-later K (suc more) left s is good up =
           let ps = (stream here.side s).modules in
-          let u = sent_on true left s in
+          let u = sent_on K true left s in
           let less = left - bytes_at cells here (made_below here.side s) true left ps in
-          let behind = calls-later more less u (on-stands true left s is) (call-good cells here true left s good) up in
-          let this = on-later left s is good up in
+          let behind = calls-later K more less u (on-stands K true left s is) (call-good cells K here true left s good) up in
+          let this = on-later K left s is good up in
           either (λ (v : Calls C). (stands_of v.state ≡ all) × (moves all v.state ≤ moves all s)) (again_at cells here (made_below here.side s) true left ps) _ _
-          (behind.0, omega (arith, behind.1, this)) (on-stands true left s is, this)
+          (behind.0, omega (arith, behind.1, this)) (on-stands K true left s is, this)
 
-      calls-fewer : (n left : ℕ) (s : State C) → 0 < n → stands_of s ≡ all → AreStreams s → At (Ready left) (here.at - 1) (stream here.side s).modules
-          → let v = calls cells here n false left s in (stands_of v.state ≡ all) × (suc (moves all v.state) ≤ moves all s)
-      calls-fewer zero left s goes is good ready = absurd (omega (arith, goes))
-      calls-fewer (suc more) left s goes is good ready = at (again_at cells here (made_below here.side s) false left ps) refl here.way refl (on-first left s is good ready)
+      calls-fewer : (K : Behaviour) (n left : ℕ) (s : State C) → 0 < n → stands_of s ≡ all → AreStreams s
+          → At (Ready left) (here.at - 1) (stream here.side s).modules
+          → let v = calls K cells here n false left s in (stands_of v.state ≡ all) × (suc (moves all v.state) ≤ moves all s)
+      calls-fewer K zero left s goes is good ready = absurd (omega (arith, goes))
+      calls-fewer K (suc more) left s goes is good ready = at (again_at cells here (made_below here.side s) false left ps) refl here.way refl (on-first K left s is good ready)
         where
           ps : List (Standing C)
           ps = (stream here.side s).modules
@@ -316,24 +320,24 @@ module _ {C : Type 0} (all : Stands) where
           less_left : ℕ
           less_left = left - bytes_at cells here (made_below here.side s) false left ps
 
-          at : (again : Bool) → again_at cells here (made_below here.side s) false left ps ≡ again → (way : Way) → here.way ≡ way → suc (moves all (sent_on false left s)) ≤ moves all s
+          at : (again : Bool) → again_at cells here (made_below here.side s) false left ps ≡ again → (way : Way) → here.way ≡ way → suc (moves all (sent_on K false left s)) ≤ moves all s
               → (let t = module_called cells here false left s in
-              let u = in_turn (carried (put_in cells) HOPS) t.sent t.state in
+              let u = in_turn (carried (put_in K cells) HOPS) t.sent t.state in
               let bytes = bytes_at cells here (made_below here.side s) false left ps in
-              let v = calls cells here more true (left - bytes) u.state in
+              let v = calls K cells here more true (left - bytes) u.state in
               let w : Calls C = cond again (record { state = v.state; gone = t.gone ++ u.gone ++ v.gone; bytes = bytes + v.bytes; ended = v.ended }) (record { state = u.state; gone = t.gone ++ u.gone; bytes = bytes; ended = true }) in
               (stands_of w.state ≡ all) × (suc (moves all w.state) ≤ moves all s))
-          at false is-it way is-way this = (on-stands false left s is, this)
+          at false is-it way is-way this = (on-stands K false left s is, this)
           at true is-it Down is-way this = absurd (cc (is-it, down-once (made_below here.side s) left (here.at - 1) false ps is-way))
           at true is-it Up is-way this =
-              let behind = calls-later more less_left (sent_on false left s) (on-stands false left s is) (call-good cells here false left s good) is-way in
+              let behind = calls-later K more less_left (sent_on K false left s) (on-stands K false left s is) (call-good cells K here false left s good) is-way in
               (behind.0, omega (arith, behind.1, this))
 
       -- a turn that treats so many bytes of the first message
-      pub moved-leaves-here : (name : QueueName) (bytes : ℕ) (s : State C) → stands_of s ≡ all → AreStreams s → At (Ready bytes) (here.at - 1) (stream here.side s).modules → Leaves (moves all s) s.enabled (moved_on cells here name bytes s).state
-      moved-leaves-here name bytes s is good ready =
-          let t = calls cells here (3 * bytes + 1) false bytes s in
-          let behind = calls-fewer (3 * bytes + 1) bytes s (omega arith) is good ready in
+      pub moved-leaves-here : (K : Behaviour) (name : QueueName) (bytes : ℕ) (s : State C) → stands_of s ≡ all → AreStreams s → At (Ready bytes) (here.at - 1) (stream here.side s).modules → Leaves (moves all s) s.enabled (moved_on K cells here name bytes s).state
+      moved-leaves-here K name bytes s is good ready =
+          let t = calls K cells here (3 * bytes + 1) false bytes s in
+          let behind = calls-fewer K (3 * bytes + 1) bytes s (omega arith) is good ready in
           let took = not (t.bytes == 0) in
           either-leaves (moves all s) s.enabled t.ended _ (stayed_put Blocked s)
           (ended-stands here took t.state behind.0, inl (omega (arith, behind.1, ended-same here took t.state)))
@@ -370,12 +374,12 @@ module _ {C : Type 0} (all : Stands) where
       Answers Blocked t = t.turn ≡ Blocked
       Answers Idle t = t.turn ≡ Idle
 
-      within-leaves : (name : QueueName) (turn : Turn) (s : State C) → stands_of s ≡ all → AreStreams s → at_place module_rests false here.at (stream here.side s).modules ≡ true
-          → is_waiting (at_place (module_asks here.way) asked.Empty here.at (stream here.side s).modules) ≡ true → Answers turn (moved_within cells here name turn s) → Leaves (moves all s) s.enabled (moved_within cells here name turn s).state
-      within-leaves name (Moved bytes) s is good rests waits answers =
+      within-leaves : (K : Behaviour) (name : QueueName) (turn : Turn) (s : State C) → stands_of s ≡ all → AreStreams s → at_place module_rests false here.at (stream here.side s).modules ≡ true
+          → is_waiting (at_place (module_asks here.way) asked.Empty here.at (stream here.side s).modules) ≡ true → Answers turn (moved_within K cells here name turn s) → Leaves (moves all s) s.enabled (moved_within K cells here name turn s).state
+      within-leaves K name (Moved bytes) s is good rests waits answers =
           let most = min (max 1 bytes) (first_there s) in
-          moved-leaves-here name most s is good (one-ready most (here.at - 1) (stream here.side s).modules rests waits (goes-far bytes (first_there s)))
-      within-leaves name Blocked s is good rests waits answers = blocked (calls cells here (3 * min 0 (first_there s) + 1) false (min 0 (first_there s)) s) answers
+          moved-leaves-here K name most s is good (one-ready most (here.at - 1) (stream here.side s).modules rests waits (goes-far bytes (first_there s)))
+      within-leaves K name Blocked s is good rests waits answers = blocked (calls K cells here (3 * min 0 (first_there s) + 1) false (min 0 (first_there s)) s) answers
         where
           blocked : (t : Calls C) → let u : TurnOutcome C = cond t.ended (record { turn = Moved t.bytes; state = module_turn_ended name here (not (t.bytes == 0)) t.state; gone = t.gone }) (stayed_put Blocked s) in u.turn ≡ Blocked → Leaves (moves all s) s.enabled u.state
           blocked t answers = at t.ended answers
@@ -383,7 +387,7 @@ module _ {C : Type 0} (all : Stands) where
               at : (ended : Bool) → let u : TurnOutcome C = cond ended (record { turn = Moved t.bytes; state = module_turn_ended name here (not (t.bytes == 0)) t.state; gone = t.gone }) (stayed_put Blocked s) in u.turn ≡ Blocked → Leaves (moves all s) s.enabled u.state
               at true answers = absurd (cc)
               at false answers = (is, inr (omega arith, refl))
-      within-leaves name Idle s is good rests waits answers = never (calls cells here (3 * min 0 (first_there s) + 1) false (min 0 (first_there s)) s) answers
+      within-leaves K name Idle s is good rests waits answers = never (calls K cells here (3 * min 0 (first_there s) + 1) false (min 0 (first_there s)) s) answers
         where
           never : (t : Calls C) → let u : TurnOutcome C = cond t.ended (record { turn = Moved t.bytes; state = module_turn_ended name here (not (t.bytes == 0)) t.state; gone = t.gone }) (stayed_put Blocked s) in u.turn ≡ Idle → Leaves (moves all s) s.enabled u.state
           never t answers = at t.ended answers
@@ -392,19 +396,19 @@ module _ {C : Type 0} (all : Stands) where
               at true answers = absurd (cc)
               at false answers = (is, inr (omega arith, refl))
 
-      asked-leaves : (asks : Asks) (name : QueueName) (turn : Turn) (s : State C) → stands_of s ≡ all → AreStreams s → at_place module_rests false here.at (stream here.side s).modules ≡ true
-          → at_place (module_asks here.way) asked.Empty here.at (stream here.side s).modules ≡ asks → Answers turn (asked_turn cells here asks name turn s) → Leaves (moves all s) s.enabled (asked_turn cells here asks name turn s).state
-      asked-leaves asked.Empty name turn s is good rests asks answers = stayed-leaves Idle s is
-      asked-leaves asked.Held name turn s is good rests asks answers = stayed-leaves Blocked s is
-      asked-leaves asked.Free name turn s is good rests asks answers = within-leaves name turn s is good rests (ap is_waiting asks) answers
-      asked-leaves (asked.Room band) name turn s is good rests asks answers = at (has_room_past here.side here.way here.at band.0 s) answers
+      asked-leaves : (K : Behaviour) (asks : Asks) (name : QueueName) (turn : Turn) (s : State C) → stands_of s ≡ all → AreStreams s → at_place module_rests false here.at (stream here.side s).modules ≡ true
+          → at_place (module_asks here.way) asked.Empty here.at (stream here.side s).modules ≡ asks → Answers turn (asked_turn K cells here asks name turn s) → Leaves (moves all s) s.enabled (asked_turn K cells here asks name turn s).state
+      asked-leaves K asked.Empty name turn s is good rests asks answers = stayed-leaves Idle s is
+      asked-leaves K asked.Held name turn s is good rests asks answers = stayed-leaves Blocked s is
+      asked-leaves K asked.Free name turn s is good rests asks answers = within-leaves K name turn s is good rests (ap is_waiting asks) answers
+      asked-leaves K (asked.Room band) name turn s is good rests asks answers = at (has_room_past here.side here.way here.at band.0 s) answers
         where
-          at : (room : Bool) → Answers turn (cond room (moved_within cells here name turn s) (waits_there band.0 here s)) → Leaves (moves all s) s.enabled (cond room (moved_within cells here name turn s) (waits_there band.0 here s)).state
-          at true answers = within-leaves name turn s is good rests (ap is_waiting asks) answers
+          at : (room : Bool) → Answers turn (cond room (moved_within K cells here name turn s) (waits_there band.0 here s)) → Leaves (moves all s) s.enabled (cond room (moved_within K cells here name turn s) (waits_there band.0 here s)).state
+          at true answers = within-leaves K name turn s is good rests (ap is_waiting asks) answers
           at false answers = waits-leaves band.0 s is
 
-      pub there-leaves : (name : QueueName) (turn : Turn) (s : State C) → stands_of s ≡ all → AreStreams s → Answers turn (turned_there cells here name turn s) → Leaves (moves all s) s.enabled (turned_there cells here name turn s).state
-      there-leaves name turn s is good answers = at (at_place module_rests false here.at ps) refl answers
+      pub there-leaves : (K : Behaviour) (name : QueueName) (turn : Turn) (s : State C) → stands_of s ≡ all → AreStreams s → Answers turn (turned_there K cells here name turn s) → Leaves (moves all s) s.enabled (turned_there K cells here name turn s).state
+      there-leaves K name turn s is good answers = at (at_place module_rests false here.at ps) refl answers
         where
           ps : List (Standing C)
           ps = (stream here.side s).modules
@@ -412,7 +416,7 @@ module _ {C : Type 0} (all : Stands) where
           asks : Asks
           asks = at_place (module_asks here.way) asked.Empty here.at ps
 
-          at : (rests : Bool) → at_place module_rests false here.at ps ≡ rests → Answers turn (cond rests (asked_turn cells here asks name turn s) (stayed_put Blocked s))
-              → Leaves (moves all s) s.enabled (cond rests (asked_turn cells here asks name turn s) (stayed_put Blocked s)).state
-          at true rests answers = asked-leaves asks name turn s is good rests refl answers
+          at : (rests : Bool) → at_place module_rests false here.at ps ≡ rests → Answers turn (cond rests (asked_turn K cells here asks name turn s) (stayed_put Blocked s))
+              → Leaves (moves all s) s.enabled (cond rests (asked_turn K cells here asks name turn s) (stayed_put Blocked s)).state
+          at true rests answers = asked-leaves K asks name turn s is good rests refl answers
           at false rests answers = (is, inr (omega arith, refl))

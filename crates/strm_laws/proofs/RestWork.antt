@@ -10,6 +10,7 @@ use Rattle.std.proofs.lemmas.List.Sums.{count_by-le-length}
 use Rattle.strm_types.specs.declared.names.ModuleName.TheVariants as names
 use Rattle.strm_types.specs.declared.names.Place.TheVariants.{Head}
 use Rattle.strm_types.specs.declared.names.Place.TheVariants as places
+use Rattle.strm_laws.specs.Behaviours.{Behaviour}
 use Rattle.strm_laws.specs.Earlier.{driver_place, places_of}
 use Rattle.strm_laws.specs.ModuleTurns.{module_turned, named_from, place_named, turned_named, turned_there}
 use Rattle.strm_laws.specs.Puts.{across_of, earlier_at, noted}
@@ -126,6 +127,7 @@ fits-none (names.Ldterm ∷ ns) echoed across post at none free = absurd (cc)
 fits-none (names.Ptem ∷ ns) echoed across post at none free = (tt, fits-none ns echoed across post (suc at) none free)
 fits-none (names.Pckt ∷ ns) echoed across post at none (inl bare) = (ap (λ b. b && nat_le post (at - 1)) bare, fits-none ns echoed across post (suc at) none (inl bare))
 fits-none (names.Pckt ∷ ns) echoed across post at none (inr free) = absurd (cc)
+fits-none (names.Own n ∷ ns) echoed across post at none free = (tt, fits-none ns echoed across post (suc at) none free)
 
 none-counted : (ns : List ModuleName) → count_by is_ldterm ns ≤ 0 → list_any is_ldterm ns ≡ false
 none-counted [] none = refl
@@ -151,6 +153,9 @@ fits-one (names.Ldterm ∷ ns) echoed across at some here there stands one free 
     ((here, there, refl), fits-none ns echoed across at (suc at) (none-counted ns (omega (arith, one, sum_by-cons (λ n. cond (is_ldterm n) 1 0) names.Ldterm ns))) (inr free))
 fits-one (names.Ptem ∷ ns) echoed across at some here there stands one free =
     (tt, fits-one ns echoed across (suc at) (omega arith) here there stands (omega (arith, one, sum_by-cons (λ n. cond (is_ldterm n) 1 0) names.Ptem ns)) free)
+fits-one (names.Own n ∷ ns) echoed across at some here there stands one free =
+    let less = sum_by-cons (λ n. cond (is_ldterm n) 1 0) (names.Own n) ns in
+    (tt, fits-one ns echoed across (suc at) (omega arith) here there stands (omega (arith, one, less)) free)
 fits-one (names.Pckt ∷ ns) echoed across at some here there stands one free = (
   not-above echoed (ldterm_from (suc at) ns) at some (let behind = ldterm-from ns (suc at) stands in omega (arith, behind)),
   fits-one ns echoed across (suc at) (omega arith) here there stands (omega (arith, one, sum_by-cons (λ n. cond (is_ldterm n) 1 0) names.Pckt ns)) free,
@@ -209,44 +214,44 @@ module _ {C : Type 0} where
           at true none = absurd (cc)
           at false none = rest none
 
-  module _ (cells : Cells C) (name : QueueName) (turn : Turn) where
+  module _ (K : Behaviour) (cells : Cells C) (name : QueueName) (turn : Turn) where
     -- a turn of a module's queue
-    module-leaves : (all : Stands) (owner : ModuleName) (s : State C) → EchoesOnce all → stands_of s ≡ all → AreStreams s → (module_turned cells (record name { place = places.Module owner }) turn s).turn ≡ turn
-        → Leaves all (moves all s) s.enabled (module_turned cells (record name { place = places.Module owner }) turn s).state
+    module-leaves : (all : Stands) (owner : ModuleName) (s : State C) → EchoesOnce all → stands_of s ≡ all → AreStreams s → (module_turned K cells (record name { place = places.Module owner }) turn s).turn ≡ turn
+        → Leaves all (moves all s) s.enabled (module_turned K cells (record name { place = places.Module owner }) turn s).state
     module-leaves all owner s once is good answered = named (place_named (places.Module owner) (stream name.side s).modules) refl answered
       where
         called : QueueName
         called = record name { place = places.Module owner }
 
-        named : (o : Option ℕ) → place_named (places.Module owner) (stream name.side s).modules ≡ o → (turned_named cells called turn s o).turn ≡ turn → Leaves all (moves all s) s.enabled (turned_named cells called turn s o).state
+        named : (o : Option ℕ) → place_named (places.Module owner) (stream name.side s).modules ≡ o → (turned_named K cells called turn s o).turn ≡ turn → Leaves all (moves all s) s.enabled (turned_named K cells called turn s o).state
         named None none answered = (is, inr (omega arith, refl))
         named (Some at) there answered =
             let here : Spot = record { side = name.side; at = at; way = name.way } in
-            there-leaves all cells (posts_of all) (fits-once all once) here (named-least (places.Module owner) 1 (places_of (take MODULES (stream name.side s).modules)) at there) called turn s is good (answers turn answered)
+            there-leaves all cells (posts_of all) (fits-once all once) here (named-least (places.Module owner) 1 (places_of (take MODULES (stream name.side s).modules)) at there) K called turn s is good (answers turn answered)
           where
-            answers : (turn : Turn) → (turned_there cells (record { side = name.side; at = at; way = name.way }) called turn s).turn ≡ turn
-                → Answers all cells (posts_of all) (fits-once all once) (record { side = name.side; at = at; way = name.way }) (named-least (places.Module owner) 1 (places_of (take MODULES (stream name.side s).modules)) at there) turn (turned_there cells (record { side = name.side; at = at; way = name.way }) called turn s)
+            answers : (turn : Turn) → (turned_there K cells (record { side = name.side; at = at; way = name.way }) called turn s).turn ≡ turn
+                → Answers all cells (posts_of all) (fits-once all once) (record { side = name.side; at = at; way = name.way }) (named-least (places.Module owner) 1 (places_of (take MODULES (stream name.side s).modules)) at there) turn (turned_there K cells (record { side = name.side; at = at; way = name.way }) called turn s)
             answers (Moved bytes) answered = tt
             answers Blocked answered = answered
             answers Idle answered = answered
 
     turned-leaves : (all : Stands) (place : Place) (s : State C) → EchoesOnce all → stands_of s ≡ all → AreStreams s → let called = record name { place = place } in
-        (turned_at cells place called turn s).turn ≡ turn → Leaves all (moves all s) s.enabled (turned_at cells place called turn s).state
+        (turned_at K cells place called turn s).turn ≡ turn → Leaves all (moves all s) s.enabled (turned_at K cells place called turn s).state
     turned-leaves all Head s once is good answered = (is, inr (omega arith, refl))
-    turned-leaves all Driver s once is good answered = driver-leaves all cells (posts_of all) (fits-once all once) name.side (stream name.side s).driver.queue.messages s is refl
+    turned-leaves all Driver s once is good answered = driver-leaves all cells (posts_of all) (fits-once all once) K name.side (stream name.side s).driver.queue.messages s is refl
     turned-leaves all (places.Module owner) s once is good answered = module-leaves all owner s once is good answered
 
     -- where no ldterm stands each turn is a driver's, or does nothing
     plain-leaves : (all : Stands) (place : Place) (s : State C) → EchoesOnce all → NoLdterm all → stands_of s ≡ all → let called = record name { place = place } in
-        Leaves all (moves all s) s.enabled (turned_at cells place called turn s).state
+        Leaves all (moves all s) s.enabled (turned_at K cells place called turn s).state
     plain-leaves all Head s once none is = (is, inr (omega arith, refl))
-    plain-leaves all Driver s once none is = driver-leaves all cells (posts_of all) (fits-once all once) name.side (stream name.side s).driver.queue.messages s is refl
+    plain-leaves all Driver s once none is = driver-leaves all cells (posts_of all) (fits-once all once) K name.side (stream name.side s).driver.queue.messages s is refl
     plain-leaves all (places.Module owner) s once none is = named (place_named (places.Module owner) (stream name.side s).modules) nowhere
       where
         nowhere : place_named (places.Module owner) (stream name.side s).modules ≡ None
         nowhere = named-none (places.Module owner) MODULES 1 (stream name.side s).modules (ap (λ (ns : List ModuleName). list_any is_ldterm ns) (names-on all name.side s is) ∙ none name.side)
 
-        named : (o : Option ℕ) → o ≡ None → Leaves all (moves all s) s.enabled (turned_named cells (record name { place = places.Module owner }) turn s o).state
+        named : (o : Option ℕ) → o ≡ None → Leaves all (moves all s) s.enabled (turned_named K cells (record name { place = places.Module owner }) turn s o).state
         named None nothing = (is, inr (omega arith, refl))
         named (Some at) nothing = absurd (cc)
 
@@ -255,7 +260,7 @@ module _ {C : Type 0} where
   others-stay n = record {
     head = λ side here m s few. at-head side here m s (is_open (stream side s).opened) few;
     driver = λ side here m s few. omega (arith, few, noted-adds side (Some Driver) (earlier_at side (driver_place side s) s) (driver_put side (across_of side s) (record here { at = driver_place side s }) m (stream side s).driver.queue).notes s.enabled);
-    modules = λ side ps s few. few;
+    modules = λ side ps s same few. few;
     names = λ names s adds few. omega (arith, adds, few);
     books = λ dir n s few. few;
     waits = λ side way band s few. few;
@@ -268,10 +273,10 @@ module _ {C : Type 0} where
       at-head side here m s true few = omega (arith, few, noted-adds side (Some Head) (earlier_at side 0 s) (head_put here m (stream side s).head).notes s.enabled)
       at-head side here m s false few = few
 
-  turn-others : (cells : Cells C) (name : QueueName) (turn : Turn) (s : State C) → count_others (turned cells name turn s).state.enabled ≤ count_others s.enabled
-  turn-others cells name turn s =
+  turn-others : (K : Behaviour) (cells : Cells C) (name : QueueName) (turn : Turn) (s : State C) → count_others (turned K cells name turn s).state.enabled ≤ count_others s.enabled
+  turn-others K cells name turn s =
       let n = count_others s.enabled in
-      turn-holds (λ t. count_others t.enabled ≤ n) (turns-stay (λ t. count_others t.enabled ≤ n) (λ side q s few. few) (others-stay n)) cells name turn s (omega arith)
+      turn-holds K (λ t. count_others t.enabled ≤ n) (turns-stay K (λ t. count_others t.enabled ≤ n) (λ side q s few. few) (others-stay n)) cells name turn s (omega arith)
 
   -- fewer moves, or a queue less enabled, are less work
   work-less : (name : QueueName) (s t : State C) → is_enabled name s.enabled ≡ true → count_others t.enabled ≤ count_others s.enabled
@@ -284,21 +289,22 @@ module _ {C : Type 0} where
       same : moves (stands_of t) t ≡ moves (stands_of s) t
       same = ap (λ (all : Stands). moves all t) leaves.0
 
-  plain-behind : (cells : Cells C) (name : QueueName) (turn : Turn) (s : State C) → NoLdterm (stands_of s) → Leaves (stands_of s) (moves (stands_of s) s) (without name s.enabled) (turned cells name turn s).state
-  plain-behind cells name turn s none = plain-leaves cells name turn (stands_of s) name.place (record s { enabled = without name s.enabled }) (plain-once (stands_of s) none) none refl
+  plain-behind : (K : Behaviour) (cells : Cells C) (name : QueueName) (turn : Turn) (s : State C) → NoLdterm (stands_of s) → Leaves (stands_of s) (moves (stands_of s) s) (without name s.enabled) (turned K cells name turn s).state
+  plain-behind K cells name turn s none = plain-leaves K cells name turn (stands_of s) name.place (record s { enabled = without name s.enabled }) (plain-once (stands_of s) none) none refl
 
-  pub plain-turn : (cells : Cells C) (name : QueueName) (turn : Turn) (s : State C) → NoLdterm (stands_of s) → is_enabled name s.enabled ≡ true
-      → (stands_of (turned cells name turn s).state ≡ stands_of s) × (work (turned cells name turn s).state < work s)
-  plain-turn cells name turn s none enabled =
-      let behind = plain-behind cells name turn s none in
-      (behind.0, work-less name s (turned cells name turn s).state enabled (turn-others cells name turn s) behind)
+  pub plain-turn : (K : Behaviour) (cells : Cells C) (name : QueueName) (turn : Turn) (s : State C) → NoLdterm (stands_of s)
+      → is_enabled name s.enabled ≡ true
+      → (stands_of (turned K cells name turn s).state ≡ stands_of s) × (work (turned K cells name turn s).state < work s)
+  plain-turn K cells name turn s none enabled =
+      let behind = plain-behind K cells name turn s none in
+      (behind.0, work-less name s (turned K cells name turn s).state enabled (turn-others K cells name turn s) behind)
 
-  echoed-behind : (cells : Cells C) (name : QueueName) (turn : Turn) (s : State C) → EchoesOnce (stands_of s) → AreStreams s → (turned cells name turn s).turn ≡ turn
-      → Leaves (stands_of s) (moves (stands_of s) s) (without name s.enabled) (turned cells name turn s).state
-  echoed-behind cells name turn s once good answered = turned-leaves cells name turn (stands_of s) name.place (record s { enabled = without name s.enabled }) once refl good answered
+  echoed-behind : (K : Behaviour) (cells : Cells C) (name : QueueName) (turn : Turn) (s : State C) → EchoesOnce (stands_of s) → AreStreams s → (turned K cells name turn s).turn ≡ turn
+      → Leaves (stands_of s) (moves (stands_of s) s) (without name s.enabled) (turned K cells name turn s).state
+  echoed-behind K cells name turn s once good answered = turned-leaves K cells name turn (stands_of s) name.place (record s { enabled = without name s.enabled }) once refl good answered
 
-  pub echoed-turn : (cells : Cells C) (old new : State C) (name : QueueName) (turn : Turn) → EchoesOnce (stands_of old) → AreStreams old → IsTurn cells old name turn new
+  pub echoed-turn : (K : Behaviour) (cells : Cells C) (old new : State C) (name : QueueName) (turn : Turn) → EchoesOnce (stands_of old) → AreStreams old → IsTurn K cells old name turn new
       → (stands_of new ≡ stands_of old) × (work new < work old)
-  echoed-turn cells old new name turn once good step =
-      let behind = echoed-behind cells name turn old once good step.answered in
-      subst (λ (t : State C). (stands_of t ≡ stands_of old) × (work t < work old)) step.leads (behind.0, work-less name old (turned cells name turn old).state step.enabled (turn-others cells name turn old) behind)
+  echoed-turn K cells old new name turn once good step =
+      let behind = echoed-behind K cells name turn old once good step.answered in
+      subst (λ (t : State C). (stands_of t ≡ stands_of old) × (work t < work old)) step.leads (behind.0, work-less name old (turned K cells name turn old).state step.enabled (turn-others K cells name turn old) behind)

@@ -5,6 +5,7 @@ use Rattle.strm_laws.specs.Prelude.{Book, Caller, MODULES, Dir, MasterToSlave, S
 use Rattle.strm_laws.specs.Prelude.{Acted, Comes, Fate, Goes, made_of, Message, shape_of, at_place, put_among, is_bare_flush, Both}
 use Rattle.std.specs.Prelude.{◌*◌}
 use Rattle.std.specs.Bool.{OnTrue}
+use Rattle.strm_laws.specs.Behaviours.{Behaviour}
 use Rattle.strm_laws.specs.Calls.{called, delivers}
 use Rattle.strm_laws.specs.Puts.{booked, made_above, module_acted, passed_up, put_at_driver, put_at_head, put_at_module, put_behind}
 use Rattle.strm_laws.specs.Refusals.{in_range}
@@ -14,7 +15,7 @@ use Rattle.strm_laws.specs.State.{State, book, stream, with_book}
 use Rattle.strm_laws.proofs.Balances.{range-low, still-same}
 use Rattle.strm_types.proofs.PcktWithin.{makes-one}
 use Rattle.strm_laws.proofs.PutsBook.{SameBooks, head-same}
-use Rattle.strm_laws.proofs.LawfulKinds.{lawful}
+use Rattle.strm_laws.proofs.LawfulKinds.{puts-lawfully}
 
 -- a packet takes one unit at most
 spare-falls : (made more : ℕ) → more ≤ packet_most → spare_behind made ≤ spare_behind (made + more) + 1
@@ -83,10 +84,10 @@ module _ {C : Type 0} where
     units-one : (q : Standing C) → module_packs here m q ≤ 1
     units-one q = makes-one (module_name q) here.way (shape_of m)
 
-    pub among-makes : (i : ℕ) (ps : List (Standing C)) → made_of (put_among (module_puts cells made) i here m ps).gone ≤ slice_index_or (map (module_packs here m) ps) i 0 * packet_most
-    among-makes i [] = omega arith
-    among-makes zero (q ∷ ps) = ((lawful q).put cells made here m).makes small
-    among-makes (suc i) (q ∷ ps) = among-makes i ps
+    pub among-makes : (K : Behaviour) (i : ℕ) (ps : List (Standing C)) → made_of (put_among (module_puts K cells made) i here m ps).gone ≤ slice_index_or (map (module_packs here m) ps) i 0 * packet_most
+    among-makes K i [] = omega arith
+    among-makes K zero (q ∷ ps) = (puts-lawfully K q cells made here m).makes small
+    among-makes K (suc i) (q ∷ ps) = among-makes K i ps
 
     pub among-one : (i : ℕ) (ps : List (Standing C)) → slice_index_or (map (module_packs here m) ps) i 0 ≤ 1
     among-one i [] = omega arith
@@ -101,12 +102,12 @@ module _ {C : Type 0} where
   pub acted-falls : (here : Spot) (t : Acted C (List (Standing C))) (s : State C) (units : ℕ) → made_of t.gone ≤ units * packet_most → spare s ≤ spare (module_acted here t s).state + units
   acted-falls here t s units makes = booked-falls t.gone (module_acted here (record t { gone = [] }) s).state units makes
 
-  pub stack-falls : (cells : Cells C) (here : Spot) (m : Message C) (s : State C) → length m.plain ≤ 16777216
-      → spare s ≤ spare (put_at_module cells here m s).state + at_place (module_packs here m) 0 here.at (stream here.side s).modules
-  stack-falls cells here m s small =
+  pub stack-falls : (K : Behaviour) (cells : Cells C) (here : Spot) (m : Message C) (s : State C) → length m.plain ≤ 16777216
+      → spare s ≤ spare (put_at_module K cells here m s).state + at_place (module_packs here m) 0 here.at (stream here.side s).modules
+  stack-falls K cells here m s small =
       let ps = (stream here.side s).modules in
-      acted-falls here (put_among (module_puts cells (made_above here.side s)) (here.at - 1) here m ps) s (at_place (module_packs here m) 0 here.at ps)
-      (among-makes cells (made_above here.side s) here m small (here.at - 1) ps)
+      acted-falls here (put_among (module_puts K cells (made_above here.side s)) (here.at - 1) here m ps) s (at_place (module_packs here m) 0 here.at ps)
+      (among-makes cells (made_above here.side s) here m small K (here.at - 1) ps)
 
   pub head-spare : (side : Side) (here : Spot) (m : Message C) (s : State C) → spare (put_at_head side here m s).state ≡ spare s
   head-spare side here m s = same-spare s (put_at_head side here m s).state (head-same side here m s)
@@ -123,12 +124,12 @@ module _ {C : Type 0} where
       at false = refl
 
   -- behind a call of which is known what its deliveries take, little was made
-  pub call-low : (cells : Cells C) (caller : Caller) (asked : Request) (s : State C) → in_range s ≡ true → OnTrue (delivers asked) (spare s ≤ spare (called cells caller asked s).state + 30) → (dir : Dir) → (book dir (called cells caller asked s).state).made < 2 ^ 63
-  call-low cells caller asked s room falls = by (delivers asked) refl falls
+  pub call-low : (K : Behaviour) (cells : Cells C) (caller : Caller) (asked : Request) (s : State C) → in_range s ≡ true → OnTrue (delivers asked) (spare s ≤ spare (called K cells caller asked s).state + 30) → (dir : Dir) → (book dir (called K cells caller asked s).state).made < 2 ^ 63
+  call-low K cells caller asked s room falls = by (delivers asked) refl falls
     where
       behind : State C
-      behind = (called cells caller asked s).state
+      behind = (called K cells caller asked s).state
 
       by : (sends : Bool) → delivers asked ≡ sends → OnTrue sends (spare s ≤ spare behind + 30) → (dir : Dir) → (book dir behind).made < 2 ^ 63
       by true is falls = spare-low behind (omega (arith, range-spare s room, falls))
-      by false is falls = spare-low behind (omega (arith, range-spare s room, same-spare s behind (still-same cells caller asked s is)))
+      by false is falls = spare-low behind (omega (arith, range-spare s room, same-spare s behind (still-same cells K caller asked s is)))

@@ -53,25 +53,48 @@ shape-has FlushMixed = inr (inr (inr (inr (inr (inr (inl refl))))))
 shape-has Packed = inr (inr (inr (inr (inr (inr (inr (inl refl)))))))
 shape-has Passing = inr (inr (inr (inr (inr (inr (inr (inr (inl refl))))))))
 
--- what is tested of all stacks of so many is so of each
-by-name : (test : List ModuleName → Bool) (on : List ModuleName) (x : ModuleName) → test (names.Ldterm ∷ on) ≡ true → test (names.Ptem ∷ on) ≡ true → test (names.Pckt ∷ on) ≡ true → test (x ∷ on) ≡ true
-by-name test on names.Ldterm ldterm ptem pckt = ldterm
-by-name test on names.Ptem ldterm ptem pckt = ptem
-by-name test on names.Pckt ldterm ptem pckt = pckt
+-- what is tested of all stacks of so many, whatever numbers a user's own modules have, is so of each
+noughts : ℕ → List ℕ
+noughts zero = []
+noughts (suc k) = 0 ∷ noughts k
 
-stack-has : (n : ℕ) (test : List ModuleName → Bool) (on : List ModuleName) → all_stacks n test ≡ true → length on ≤ n → test on ≡ true
-stack-has zero test [] all low = all
+many-noughts : (k : ℕ) → length (noughts k) ≡ k
+unfolding noughts
+many-noughts zero = refl
+many-noughts (suc k) = ap suc (many-noughts k)
+
+abbrev AllFit : ℕ → (List ModuleName → Bool) → Type 0
+AllFit k test = (ns : List ℕ) → length ns ≡ k → all_stacks ns test ≡ true
+
+abbrev above : (List ModuleName → Bool) → ModuleName → List ModuleName → Bool
+above test x on = test (x ∷ on)
+
+-- those with this module on top
+abbrev fits : (List ModuleName → Bool) → List ℕ → ModuleName → Bool
+fits test ns x = all_stacks ns (above test x)
+
+abbrev Fits : (List ModuleName → Bool) → List ℕ → ModuleName → Type 0
+Fits test ns x = fits test ns x ≡ true
+
+stack-has : (k : ℕ) (test : List ModuleName → Bool) (on : List ModuleName) → AllFit k test → length on ≤ k → test on ≡ true
+stack-has zero test [] all low = all [] refl
 stack-has zero test (x ∷ on) all low = absurd (omega (arith, low))
-stack-has (suc n) test [] all low = (and_parts (test []) _ all).0
-stack-has (suc n) test (x ∷ on) all low =
-    let few : length on ≤ n = omega (arith, low) in
-    let ldterm = λ (ns : List ModuleName). test (names.Ldterm ∷ ns) in
-    let ptem = λ (ns : List ModuleName). test (names.Ptem ∷ ns) in
-    let pckt = λ (ns : List ModuleName). test (names.Pckt ∷ ns) in
-    let rest = (and_parts (test []) _ all).1 in
-    let last = (and_parts (all_stacks n ldterm) _ rest).1 in
-    by-name test on x (stack-has n ldterm on (and_parts (all_stacks n ldterm) _ rest).0 few) (stack-has n ptem on (and_parts (all_stacks n ptem) _ last).0 few)
-    (stack-has n pckt on (and_parts (all_stacks n ptem) _ last).1 few)
+stack-has (suc k) test [] all low = (and_parts (test []) _ (all (0 ∷ noughts k) (ap suc (many-noughts k)))).0
+stack-has (suc k) test (x ∷ on) all low = at x (λ y each. stack-has k (above test y) on each (omega (arith, low)))
+  where
+    parts : (n : ℕ) (ns : List ℕ) → length ns ≡ k
+        → Fits test ns names.Ldterm × Fits test ns names.Ptem × Fits test ns names.Pckt × Fits test ns (names.Own n)
+    parts n ns is =
+        let ldterm = and_parts (fits test ns names.Ldterm) _ (and_parts (test []) _ (all (n ∷ ns) (ap suc is))).1 in
+        let ptem = and_parts (fits test ns names.Ptem) _ ldterm.1 in
+        let last = and_parts (fits test ns names.Pckt) _ ptem.1 in
+        (ldterm.0, ptem.0, last.0, last.1)
+
+    at : (x : ModuleName) → ((y : ModuleName) → AllFit k (above test y) → test (y ∷ on) ≡ true) → test (x ∷ on) ≡ true
+    at names.Ldterm has = has names.Ldterm (λ ns is. (parts 0 ns is).0)
+    at names.Ptem has = has names.Ptem (λ ns is. (parts 0 ns is).1)
+    at names.Pckt has = has names.Pckt (λ ns is. (parts 0 ns is).2)
+    at (names.Own n) has = has (names.Own n) (λ ns is. (parts n ns is).3)
 
 low-of : (n k : ℕ) → nat_le n k ≡ true → n ≤ k
 low-of n k is = let r : n ≤ k = grind (arith, nat_tests) in r
@@ -157,7 +180,10 @@ fits-of true on stand is = sym (ap (λ b. (true && not b) || (crossings_fit true
 fits-of false on stand is = is
 
 -- the stacks that stand
-module _ (all : Stands) (once : Bool) (fit : all_stacks MODULES (stack_fits once) ≡ true) (stand : (side : Side) → once ≡ true → are_once (front_on side all) ≡ true) where
+abbrev StandsAs : Bool → Stands → Type 0
+StandsAs once all = (side : Side) → once ≡ true → are_once (front_on side all) ≡ true
+
+module _ (all : Stands) (once : Bool) (fit : AllFit MODULES (stack_fits once)) (stand : StandsAs once all) where
   few-front : (side : Side) → length (front_on side all) ≤ MODULES
   few-front side = omega (arith, length-take MODULES (stands_on side all))
 

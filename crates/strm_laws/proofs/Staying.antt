@@ -6,14 +6,19 @@ use Rattle.strm_laws.specs.Prelude.{toward, crosses, driver_put, put_across, put
 use Rattle.strm_laws.specs.Prelude.{waits_for_readers, Message, has_parts, is_held, act_among, is_closed, is_open, same_side, same_way, Queue, Within}
 use Rattle.strm_laws.specs.Prelude.{next_at, cost_of, name_does, Shape, Held, shape_by, ModuleName}
 use Rattle.strm_types.specs.declared.names.ModuleName.TheVariants as names
+use Rattle.strm_types.specs.Tables.{name_holds}
+use Rattle.strm_laws.specs.Behaviours.{Behaviour}
 use Rattle.strm_laws.specs.Earlier.{driver_place, modules_on}
-use Rattle.strm_laws.specs.Pair.{IsKeptAhead}
+use Rattle.std.specs.List.{list_all}
+use Rattle.strm_laws.specs.Pair.{IsKeptAhead, IsOpenAhead}
 use Rattle.strm_laws.specs.Puts.{SameButMade, across_of, made_above, passed_up, put_at_driver, put_at_head, put_at_module, put_behind, put_below, put_in}
+use Rattle.strm_laws.specs.StackCosts.{stands_of, stands_on}
 use Rattle.strm_laws.specs.Stacked.{Standing, module_puts, module_name}
 use Rattle.strm_laws.specs.State.{State, stream}
 use Rattle.strm_laws.proofs.PutParts.{puts-hold}
 use Rattle.strm_laws.proofs.PutsKeep.{same-itself, same-stays}
-use Rattle.strm_laws.proofs.LawfulKinds.{lawful}
+use Rattle.strm_laws.proofs.StackStays.{puts-stand}
+use Rattle.strm_laws.proofs.LawfulKinds.{puts-lawfully}
 
 -- What is sent on from a spot is nothing, or one M_DATA or M_PROTO on the same way of the same side, below the head where it goes down.
 abbrev pub SentOn : Spot → List (Parcel ℕ) → Type 0
@@ -21,13 +26,25 @@ SentOn to [] = Unit {0}
 SentOn to (x ∷ []) = (is_held x.message.kind ≡ true) × (x.to.side ≡ to.side) × (x.to.way ≡ to.way) × (x.to.way ≡ Down → 0 < x.to.at)
 SentOn to (x ∷ y ∷ more) = ⊥
 
--- what is ahead is open where it was
-pub kept-ahead : (way : Way) (side : Side) (s t : State ℕ) → ((sd : Side) → (stream sd t).opened ≡ (stream sd s).opened) → IsKeptAhead way side s → IsKeptAhead way side t
-kept-ahead Up side s t same kept = ap is_open (same side) ∙ kept
-kept-ahead Down side s t same kept = ap is_closed (same Master) ∙ kept
+-- what is ahead is kept where it was
+open-ahead : (way : Way) (side : Side) (s t : State ℕ) → ((sd : Side) → (stream sd t).opened ≡ (stream sd s).opened) → IsOpenAhead way side s
+    → IsOpenAhead way side t
+open-ahead Up side s t same kept = ap is_open (same side) ∙ kept
+open-ahead Down side s t same kept = ap is_closed (same Master) ∙ kept
 
-pub puts-same : (to : Spot) (m : Message ℕ) (s : State ℕ) (side : Side) → (stream side (put_in plain to m s).state).opened ≡ (stream side s).opened
-puts-same to m s side = (puts-hold (SameButMade s) (same-stays s) plain to m s (same-itself s)).opened side
+pub kept-ahead : (way : Way) (side : Side) (s t : State ℕ) → ((sd : Side) → (stream sd t).opened ≡ (stream sd s).opened) → stands_of t ≡ stands_of s
+    → IsKeptAhead way side s → IsKeptAhead way side t
+kept-ahead way side s t same stand ahead = record {
+  opened = open-ahead way side s t same ahead.opened;
+  kept = ap (λ all. list_all name_holds (stands_on side all)) stand ∙ ahead.kept;
+}
+
+pub puts-same : (K : Behaviour) (to : Spot) (m : Message ℕ) (s : State ℕ) (side : Side) → (stream side (put_in K plain to m s).state).opened
+    ≡ (stream side s).opened
+puts-same K to m s side = (puts-hold (SameButMade s) K (same-stays s) plain to m s (same-itself s)).opened side
+
+pub puts-stand-there : (K : Behaviour) (to : Spot) (m : Message ℕ) (s : State ℕ) → stands_of (put_in K plain to m s).state ≡ stands_of s
+puts-stand-there K to m s = puts-stand (stands_of s) K plain to m s refl
 
 -- what the kind of such a message says
 module _ where
@@ -66,6 +83,8 @@ held-goes names.Ptem Up = refl
 held-goes names.Ptem Down = refl
 held-goes names.Pckt Up = refl
 held-goes names.Pckt Down = refl
+held-goes (names.Own n) Up = refl
+held-goes (names.Own n) Down = refl
 
 -- What costs nothing where another side costs is of the same side; and so with ways and with shapes.
 side-same : (here there : Side) → cond (same_side there here) 0 1 ≤ cond (same_side here here) 0 1 → there ≡ here
@@ -139,19 +158,19 @@ module _ (to : Spot) (m : Message ℕ) (held : is_held m.kind ≡ true) where
   at-driver s = driver-none to.way to.side (across_of to.side s) (driver_place to.side s) (stream to.side s).driver.queue
 
   -- at a module
-  at-module : (made : ℕ) (p : Standing ℕ) → SentOn to (module_puts plain made to m p).sent
-  at-module made p =
-      let within = ((lawful p).put plain made to m).within in
-      sent-on to to.way refl (module_puts plain made to m p).sent
-      (subst (λ d. Within (module_puts plain made to m p).sent (map (next_at to) d))
+  at-module : (K : Behaviour) (made : ℕ) (p : Standing ℕ) → SentOn to (module_puts K plain made to m p).sent
+  at-module K made p =
+      let within = (puts-lawfully K p plain made to m).within in
+      sent-on to to.way refl (module_puts K plain made to m p).sent
+      (subst (λ d. Within (module_puts K plain made to m p).sent (map (next_at to) d))
       (ap (λ shape. (name_does (module_name p) to.way shape).emits) (held-shape (has_parts m) m.kind m.plain held)
       ∙ held-goes (module_name p) to.way)
       within)
 
-  at-modules : (made i : ℕ) (ps : List (Standing ℕ)) → SentOn to (act_among (module_puts plain made to m) i ps).sent
-  at-modules made i [] = tt
-  at-modules made zero (p ∷ ps) = at-module made p
-  at-modules made (suc i) (p ∷ ps) = at-modules made i ps
+  at-modules : (K : Behaviour) (made i : ℕ) (ps : List (Standing ℕ)) → SentOn to (act_among (module_puts K plain made to m) i ps).sent
+  at-modules K made i [] = tt
+  at-modules K made zero (p ∷ ps) = at-module K made p
+  at-modules K made (suc i) (p ∷ ps) = at-modules K made i ps
 
   -- behind the modules
   behind : (way : Way) → to.way ≡ way → (s : State ℕ) → SentOn to (put_behind way to m s).sent
@@ -160,16 +179,16 @@ module _ (to : Spot) (m : Message ℕ) (held : is_held m.kind ≡ true) where
       let other = ap (λ b. (b && not (has_parts m)) && to.at == suc MODULES) (no-flush m.kind held) in
       subst (λ b. SentOn to (cond b (put_at_driver to.side to m s) (passed_up to m s)).sent) (sym other) (held, refl, refl, λ down. absurd (let w = sym is ∙ down in cc))
 
-  below : (s : State ℕ) → SentOn to (put_below plain to.way to m s).sent
-  below s = at (nat_le to.at (modules_on to.side s))
+  below : (K : Behaviour) (s : State ℕ) → SentOn to (put_below K plain to.way to m s).sent
+  below K s = at (nat_le to.at (modules_on to.side s))
     where
-      at : (stands : Bool) → SentOn to (cond stands (put_at_module plain to m s) (put_behind to.way to m s)).sent
-      at true = at-modules (made_above to.side s) (to.at - 1) (stream to.side s).modules
+      at : (stands : Bool) → SentOn to (cond stands (put_at_module K plain to m s) (put_behind to.way to m s)).sent
+      at true = at-modules K (made_above to.side s) (to.at - 1) (stream to.side s).modules
       at false = behind to.way refl s
 
-  pub puts-go : (s : State ℕ) → SentOn to (put_in plain to m s).sent
-  puts-go s = at (to.at == 0)
+  pub puts-go : (K : Behaviour) (s : State ℕ) → SentOn to (put_in K plain to m s).sent
+  puts-go K s = at (to.at == 0)
     where
-      at : (top : Bool) → SentOn to (cond top (put_at_head to.side to m s) (put_below plain to.way to m s)).sent
+      at : (top : Bool) → SentOn to (cond top (put_at_head to.side to m s) (put_below K plain to.way to m s)).sent
       at true = subst (λ ps. SentOn to ps) (sym (head-none s)) tt
-      at false = below s
+      at false = below K s

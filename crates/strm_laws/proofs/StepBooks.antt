@@ -5,6 +5,7 @@ use Rattle.strm_laws.specs.Prelude.{Message, size_of, at_place, act_among, is_op
 use Rattle.strm_types.specs.declared.names.Place.TheVariants.{Head}
 use Rattle.strm_types.specs.declared.names.Place.TheVariants as places
 use Rattle.strm_types.specs.declared.spots.Asks.TheVariants as asked
+use Rattle.strm_laws.specs.Behaviours.{Behaviour}
 use Rattle.strm_laws.specs.ModuleTurns.{Calls, again_at, asked_turn, bytes_at, call_at, calls, made_below, module_called, module_turn_ended, module_turned, moved_on, moved_within, place_named, stayed_at, turned_named, turned_there, waits_there}
 use Rattle.strm_laws.specs.Past.{has_room_past, writer_waits}
 use Rattle.strm_laws.specs.Puts.{delivered, put_in}
@@ -38,17 +39,18 @@ module _ {C : Type 0} (cells : Cells C) where
         let made = made_below here.side s in
         acted-books cells here.side here (call_at cells here made again left ps) s (acts-order made again left (here.at - 1) ps)
 
-    calls-books : (n : ℕ) (again : Bool) (left : ℕ) (s : State C) → let v = calls cells here n again left s in Books s v.gone v.state
-    calls-books zero again left s = nothing-booked cells s s refl
-    calls-books (suc more) again left s =
+    calls-books : (K : Behaviour) (n : ℕ) (again : Bool) (left : ℕ) (s : State C)
+        → let v = calls K cells here n again left s in Books s v.gone v.state
+    calls-books K zero again left s = nothing-booked cells s s refl
+    calls-books K (suc more) again left s =
         let ps = (stream here.side s).modules in
         let made = made_below here.side s in
         let t = module_called cells here again left s in
-        let u = in_turn (carried (put_in cells) HOPS) t.sent t.state in
+        let u = in_turn (carried (put_in K cells) HOPS) t.sent t.state in
         let less = left - bytes_at cells here made again left ps in
-        let v = calls cells here more true less u.state in
-        let out = books-both cells s t.state u.state t.gone u.gone (called-books again left s) (sent-books cells t.sent t.state) in
-        either-calls (again_at cells here made again left ps) _ _ (books-both cells s u.state v.state (t.gone ++ u.gone) v.gone out (calls-books more true less u.state)) out
+        let v = calls K cells here more true less u.state in
+        let out = books-both cells s t.state u.state t.gone u.gone (called-books again left s) (sent-books cells K t.sent t.state) in
+        either-calls (again_at cells here made again left ps) _ _ (books-both cells s u.state v.state (t.gone ++ u.gone) v.gone out (calls-books K more true less u.state)) out
       where
         either-calls : (b : Bool) (one another : Calls C) → Books s one.gone one.state → Books s another.gone another.state → Books s (cond b one another).gone (cond b one another).state
         either-calls true one another first second = first
@@ -71,34 +73,36 @@ module _ {C : Type 0} (cells : Cells C) where
     pub ended-books : (name : QueueName) (took : Bool) (s : State C) → SameBooks s (module_turn_ended name here took s)
     ended-books name took s = refl
 
-    moved-books : (name : QueueName) (bytes : ℕ) (s : State C) → TurnBooks s (moved_on cells here name bytes s)
-    moved-books name bytes s =
-        let t = calls cells here (3 * bytes + 1) false bytes s in
+    moved-books : (K : Behaviour) (name : QueueName) (bytes : ℕ) (s : State C) → TurnBooks s (moved_on K cells here name bytes s)
+    moved-books K name bytes s =
+        let t = calls K cells here (3 * bytes + 1) false bytes s in
         either-turns s t.ended _ (stayed_put Blocked s)
-        (booked-behind cells s t.state (module_turn_ended name here (not (t.bytes == 0)) t.state) t.gone (calls-books (3 * bytes + 1) false bytes s) (ended-books name (not (t.bytes == 0)) t.state))
+        (booked-behind cells s t.state (module_turn_ended name here (not (t.bytes == 0)) t.state) t.gone (calls-books K (3 * bytes + 1) false bytes s) (ended-books name (not (t.bytes == 0)) t.state))
         (stays-books Blocked s)
 
-    asked-books : (asks : Asks) (name : QueueName) (turn : Turn) (s : State C) → TurnBooks s (asked_turn cells here asks name turn s)
-    asked-books asked.Empty name turn s = stayed-books Idle s
-    asked-books asked.Held name turn s = stayed-books Blocked s
-    asked-books asked.Free name turn s = moved-books name _ s
-    asked-books (asked.Room band) name turn s =
+    asked-books : (K : Behaviour) (asks : Asks) (name : QueueName) (turn : Turn) (s : State C)
+        → TurnBooks s (asked_turn K cells here asks name turn s)
+    asked-books K asked.Empty name turn s = stayed-books Idle s
+    asked-books K asked.Held name turn s = stayed-books Blocked s
+    asked-books K asked.Free name turn s = moved-books K name _ s
+    asked-books K (asked.Room band) name turn s =
         let waits = writer_waits here.side here.way here.at band.0 s in
-        either-turns s (has_room_past here.side here.way here.at band.0 s) (moved_within cells here name turn s) (waits_there band.0 here s) (moved-books name _ s)
+        either-turns s (has_room_past here.side here.way here.at band.0 s) (moved_within K cells here name turn s) (waits_there band.0 here s) (moved-books K name _ s)
         (booked-before cells s waits _ [] (waits-books here.side here.way here.at band.0 s) (stayed-books Blocked waits))
 
-    there-books : (name : QueueName) (turn : Turn) (s : State C) → TurnBooks s (turned_there cells here name turn s)
-    there-books name turn s =
+    there-books : (K : Behaviour) (name : QueueName) (turn : Turn) (s : State C) → TurnBooks s (turned_there K cells here name turn s)
+    there-books K name turn s =
         let ps = (stream here.side s).modules in
         let asks = at_place (module_asks here.way) asked.Empty here.at ps in
-        either-turns s (at_place module_rests false here.at ps) (asked_turn cells here asks name turn s) (stayed_put Blocked s) (asked-books asks name turn s) (stays-books Blocked s)
+        either-turns s (at_place module_rests false here.at ps) (asked_turn K cells here asks name turn s) (stayed_put Blocked s) (asked-books K asks name turn s) (stays-books Blocked s)
 
-  pub module-books : (name : QueueName) (turn : Turn) (s : State C) → let t = module_turned cells name turn s in Books s t.gone t.state
-  module-books name turn s = named (place_named name.place (stream name.side s).modules)
+  pub module-books : (K : Behaviour) (name : QueueName) (turn : Turn) (s : State C)
+      → let t = module_turned K cells name turn s in Books s t.gone t.state
+  module-books K name turn s = named (place_named name.place (stream name.side s).modules)
     where
-      named : (o : Option ℕ) → let t = turned_named cells name turn s o in Books s t.gone t.state
+      named : (o : Option ℕ) → let t = turned_named K cells name turn s o in Books s t.gone t.state
       named None = nothing-booked cells s s refl
-      named (Some at) = there-books (record { side = name.side; at = at; way = name.way }) name turn s
+      named (Some at) = there-books (record { side = name.side; at = at; way = name.way }) K name turn s
 
   -- a driver's turn
   pub driver-books : (side : Side) (q : Queue C) (s : State C) → SameBooks s (with_driver side q s)
@@ -107,26 +111,27 @@ module _ {C : Type 0} (cells : Cells C) where
   pub end-books : (side : Side) (size : ℕ) (s : State C) → SameBooks s (turn_ended side size s)
   end-books side size s = refl
 
-  across-books : (side : Side) (m : Message C) (rest : List (Message C)) (s : State C) → let t = moved_across cells side m rest s in Books s t.gone t.state
-  across-books side m rest s =
+  across-books : (K : Behaviour) (side : Side) (m : Message C) (rest : List (Message C)) (s : State C) → let t = moved_across K cells side m rest s in Books s t.gone t.state
+  across-books K side m rest s =
       let from = with_driver side (left_with rest (stream side s).driver.queue) s in
-      let t = delivered cells (up_across side from) m from in
+      let t = delivered K cells (up_across side from) m from in
       booked-before cells s from _ t.gone (driver-books side (left_with rest (stream side s).driver.queue) s)
-      (booked-behind cells from t.state (turn_ended side (size_of m) t.state) t.gone (delivered-books cells (up_across side from) m from) (end-books side (size_of m) t.state))
+      (booked-behind cells from t.state (turn_ended side (size_of m) t.state) t.gone (delivered-books cells K (up_across side from) m from) (end-books side (size_of m) t.state))
 
-  pub serves-books : (side : Side) (ms : List (Message C)) (s : State C) → let t = driver_serves cells side ms s in Books s t.gone t.state
-  serves-books side [] s = nothing-booked cells s _ (driver-books side (record (stream side s).driver.queue { want_read = true }) s)
-  serves-books side (m ∷ rest) s =
+  pub serves-books : (K : Behaviour) (side : Side) (ms : List (Message C)) (s : State C)
+      → let t = driver_serves K cells side ms s in Books s t.gone t.state
+  serves-books K side [] s = nothing-booked cells s _ (driver-books side (record (stream side s).driver.queue { want_read = true }) s)
+  serves-books K side (m ∷ rest) s =
       let kept = with_driver side (held_back (stream side s).driver.queue) s in
       any-holds (λ t. Books s t.gone t.state) (is_open (stream (other side) s).opened) (is_stopped_across side m s) _ _ _
       (nothing-booked cells s kept refl)
       (nothing-booked cells s (blocked_across side m kept) refl)
-      (across-books side m rest s)
+      (across-books K side m rest s)
 
-  pub turn-books : (name : QueueName) (turn : Turn) (s : State C) → let t = turned cells name turn s in Books s t.gone t.state
-  turn-books name turn s = at name.place (record s { enabled = without name s.enabled }) refl
+  pub turn-books : (K : Behaviour) (name : QueueName) (turn : Turn) (s : State C) → let t = turned K cells name turn s in Books s t.gone t.state
+  turn-books K name turn s = at name.place (record s { enabled = without name s.enabled }) refl
     where
-      at : (place : Place) (t : State C) → SameBooks s t → let u = turned_at cells place name turn t in Books s u.gone u.state
-      at Driver t same = booked-before cells s t _ _ same (serves-books name.side (stream name.side t).driver.queue.messages t)
+      at : (place : Place) (t : State C) → SameBooks s t → let u = turned_at K cells place name turn t in Books s u.gone u.state
+      at Driver t same = booked-before cells s t _ _ same (serves-books K name.side (stream name.side t).driver.queue.messages t)
       at Head t same = nothing-booked cells s t same
-      at (places.Module owner) t same = booked-before cells s t _ _ same (module-books name turn t)
+      at (places.Module owner) t same = booked-before cells s t _ _ same (module-books K name turn t)

@@ -4,25 +4,26 @@ use Rattle.strm_laws.specs.Prelude.{Caller, Verdict, Side, Master, Slave, Refusa
 use Rattle.strm_laws.specs.Prelude.{stop_in, needs, or_else}
 use Rattle.strm_types.specs.declared.answers.Answer.TheVariants.{Stop}
 use Rattle.strm_types.specs.declared.job_control.Verdict.TheVariants as verdicts
+use Rattle.strm_laws.specs.Behaviours.{Behaviour}
 use Rattle.strm_laws.specs.Calls.{Outcome, called, or_stopped, performed, tells}
 use Rattle.strm_laws.specs.Refusals.{hold, refused_at_once, refused_by_state, stop_of, unfit}
 use Rattle.strm_laws.specs.State.{State, map_state, stream}
 
-module _ {C : Type 0} (cells : Cells C) (caller : Caller) (asked : Request) (s : State C) (P : Outcome C → Type 0) (stopped : (signal : StopSignal) → P (tells (Stop signal) s)) where
-  pub of-called : P (performed cells caller asked s) → P (called cells caller asked s)
+module _ {C : Type 0} (K : Behaviour) (cells : Cells C) (caller : Caller) (asked : Request) (s : State C) (P : Outcome C → Type 0) (stopped : (signal : StopSignal) → P (tells (Stop signal) s)) where
+  pub of-called : P (performed K cells caller asked s) → P (called K cells caller asked s)
   of-called carried = at (stop_of s caller asked)
     where
-      at : (stop : Option StopSignal) → P (or_stopped stop s (performed cells caller asked s))
+      at : (stop : Option StopSignal) → P (or_stopped stop s (performed K cells caller asked s))
       at None = carried
       at (Some signal) = stopped signal
 
   -- where nothing refuses it, what is carried out fits what is there
-  pub of-allowed : or_else (refused_at_once s caller asked) (refused_by_state s caller asked) ≡ None
-      → (or_else (refused_at_once s caller asked) (unfit s caller asked) ≡ None → P (performed cells caller asked s)) → P (called cells caller asked s)
+  pub of-allowed : or_else (refused_at_once s caller asked) (refused_by_state K s caller asked) ≡ None
+      → (or_else (refused_at_once s caller asked) (unfit K s caller asked) ≡ None → P (performed K cells caller asked s)) → P (called K cells caller asked s)
   of-allowed allowed carried = at (refused_at_once s caller asked) (hold s caller asked) allowed carried
     where
-      at : (first : Option Refusal) (verdict : Verdict) → or_else first (refusal_behind verdict (unfit s caller asked)) ≡ None
-          → (or_else first (unfit s caller asked) ≡ None → P (performed cells caller asked s)) → P (or_stopped (stop_in verdict) s (performed cells caller asked s))
+      at : (first : Option Refusal) (verdict : Verdict) → or_else first (refusal_behind verdict (unfit K s caller asked)) ≡ None
+          → (or_else first (unfit K s caller asked) ≡ None → P (performed K cells caller asked s)) → P (or_stopped (stop_in verdict) s (performed K cells caller asked s))
       at first verdicts.Allowed allowed carried = carried allowed
       at first (verdicts.Stopped signal) allowed carried = stopped signal
       at None (verdicts.Refused refusal) allowed carried = absurd (cc)

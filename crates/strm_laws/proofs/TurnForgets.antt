@@ -3,6 +3,7 @@ use Rattle.strm_laws.proofs.Prelude.{ℕ, ◌≡◌, Bool, true, false, cond, Li
 use Rattle.strm_laws.specs.Prelude.{Moved, Blocked, MsgKind, QueueName, Side, Master, Slave, Spot, Up, AreCells, Cells, plain, Carried, Message}
 use Rattle.strm_laws.specs.Prelude.{size_of, band_of, is_held, map_message, driver_of, enable_if, enable_some, is_open, other, map_carried, Queue}
 use Rattle.strm_laws.specs.Prelude.{is_none_left, left_with, relieved, relieves, map_messages, map_queue}
+use Rattle.strm_laws.specs.Behaviours.{Behaviour}
 use Rattle.strm_laws.specs.Earlier.{before_driver, driver_place}
 use Rattle.strm_laws.specs.Puts.{delivered}
 use Rattle.strm_laws.specs.State.{State, stream, map_state}
@@ -106,40 +107,41 @@ module _ {C : Type 0} (cells : Cells C) (are : AreCells cells) where
   abbrev f : C → ℕ
   f = cells.byte
 
-  moved-forgets : (side : Side) (m : Message C) (rest : List (Message C)) (s : State C) → moved_across plain side (map_message f m) (map_messages f rest) (map_state f s) ≡ map_turn_outcome f (moved_across cells side m rest s)
-  moved-forgets side m rest s =
+  moved-forgets : (K : Behaviour) (side : Side) (m : Message C) (rest : List (Message C)) (s : State C) → moved_across K plain side (map_message f m) (map_messages f rest) (map_state f s) ≡ map_turn_outcome f (moved_across K cells side m rest s)
+  moved-forgets K side m rest s =
       let from = with_driver side (left_with rest (stream side s).driver.queue) s in
-      ap (λ (x : State ℕ). moved_made side (size_of (map_message f m)) (delivered plain (up_across side x) (map_message f m) x)) (taken-forgets f side rest s)
-      ∙ ap (λ (to : Spot). moved_made side (size_of (map_message f m)) (delivered plain to (map_message f m) (map_state f from))) (across-forgets f side from)
-      ∙ ap (λ (size : ℕ). moved_made side size (delivered plain (up_across side from) (map_message f m) (map_state f from))) (size-forgets f m)
-      ∙ ap (λ (t : Carried ℕ (State ℕ)). moved_made side (size_of m) t) (delivered-forgets cells are (up_across side from) m from)
-      ∙ moved_made-forgets f side (size_of m) (delivered cells (up_across side from) m from)
+      ap (λ (x : State ℕ). moved_made side (size_of (map_message f m)) (delivered K plain (up_across side x) (map_message f m) x)) (taken-forgets f side rest s)
+      ∙ ap (λ (to : Spot). moved_made side (size_of (map_message f m)) (delivered K plain to (map_message f m) (map_state f from))) (across-forgets f side from)
+      ∙ ap (λ (size : ℕ). moved_made side size (delivered K plain (up_across side from) (map_message f m) (map_state f from))) (size-forgets f m)
+      ∙ ap (λ (t : Carried ℕ (State ℕ)). moved_made side (size_of m) t) (delivered-forgets cells are K (up_across side from) m from)
+      ∙ moved_made-forgets f side (size_of m) (delivered K cells (up_across side from) m from)
 
-  serves-some : (side : Side) (m : Message C) (rest : List (Message C)) (s : State C) → driver_serves plain side (map_message f m ∷ map_messages f rest) (map_state f s) ≡ map_turn_outcome f (driver_serves cells side (m ∷ rest) s)
-  serves-some side m rest s =
+  serves-some : (K : Behaviour) (side : Side) (m : Message C) (rest : List (Message C)) (s : State C) → driver_serves K plain side (map_message f m ∷ map_messages f rest) (map_state f s) ≡ map_turn_outcome f (driver_serves K cells side (m ∷ rest) s)
+  serves-some K side m rest s =
       let above = stream (other side) s in
       let held = held_back (stream side (map_state f s)).driver.queue in
       let waits = with_driver side held (map_state f s) in
       let kept = with_driver side (held_back (stream side s).driver.queue) s in
-      let moves = moved_across plain side (map_message f m) (map_messages f rest) (map_state f s) in
+      let moves = moved_across K plain side (map_message f m) (map_messages f rest) (map_state f s) in
       let shut = stayed_put Blocked waits in
       let blocked = stayed_put Blocked (blocked_across side (map_message f m) waits) in
       ap (λ t. served (is_open t.opened) (is_stopped_across side (map_message f m) (map_state f s)) shut blocked moves) (stream-forgets f (other side) s)
       ∙ ap (λ (stopped : Bool). served (is_open above.opened) stopped shut blocked moves) (stopped-forgets f side m s)
-      ∙ served-forgets f (is_open above.opened) (is_stopped_across side m s) (stayed_put Blocked kept) (stayed_put Blocked (blocked_across side m kept)) (moved_across cells side m rest s) shut blocked moves
+      ∙ served-forgets f (is_open above.opened) (is_stopped_across side m s) (stayed_put Blocked kept) (stayed_put Blocked (blocked_across side m kept)) (moved_across K cells side m rest s) shut blocked moves
       (ap (λ (x : State ℕ). stayed_put Blocked x) (held-forgets f side s))
       (ap (λ (x : State ℕ). stayed_put Blocked (blocked_across side (map_message f m) x)) (held-forgets f side s) ∙ ap (λ (x : State ℕ). stayed_put Blocked x) (blocked-forgets f side m kept))
-      (moved-forgets side m rest s)
+      (moved-forgets K side m rest s)
 
-  pub driver_turned-forgets : (side : Side) (s : State C) → driver_turned plain side (map_state f s) ≡ map_turn_outcome f (driver_turned cells side s)
-  driver_turned-forgets side s = over side
+  pub driver_turned-forgets : (K : Behaviour) (side : Side) (s : State C) → driver_turned K plain side (map_state f s)
+      ≡ map_turn_outcome f (driver_turned K cells side s)
+  driver_turned-forgets K side s = over side
     where
-      from : (side : Side) (ms : List (Message C)) → driver_serves plain side (map_messages f ms) (map_state f s) ≡ map_turn_outcome f (driver_serves cells side ms s)
+      from : (side : Side) (ms : List (Message C)) → driver_serves K plain side (map_messages f ms) (map_state f s) ≡ map_turn_outcome f (driver_serves K cells side ms s)
       from Master [] = refl
       from Slave [] = refl
-      from Master (m ∷ rest) = serves-some Master m rest s
-      from Slave (m ∷ rest) = serves-some Slave m rest s
+      from Master (m ∷ rest) = serves-some K Master m rest s
+      from Slave (m ∷ rest) = serves-some K Slave m rest s
 
-      over : (side : Side) → driver_turned plain side (map_state f s) ≡ map_turn_outcome f (driver_turned cells side s)
+      over : (side : Side) → driver_turned K plain side (map_state f s) ≡ map_turn_outcome f (driver_turned K cells side s)
       over Master = from Master s.ends.master.driver.queue.messages
       over Slave = from Slave s.ends.slave.driver.queue.messages

@@ -5,6 +5,7 @@ use Rattle.strm_laws.specs.Prelude.{Turn, Place, Driver, QueueName, Side, Way, U
 use Rattle.strm_laws.specs.Prelude.{without, Queue, driver_of, enable_if, enable_some, is_none_left, left_with, relieves, size_of}
 use Rattle.strm_types.specs.declared.names.Place.TheVariants.{Head}
 use Rattle.strm_types.specs.declared.names.Place.TheVariants as places
+use Rattle.strm_laws.specs.Behaviours.{Behaviour}
 use Rattle.strm_laws.specs.Earlier.{before_driver, driver_place}
 use Rattle.strm_laws.specs.ModuleTurns.{module_turned}
 use Rattle.strm_laws.specs.Past.{writer_waits}
@@ -16,21 +17,21 @@ use Rattle.strm_laws.proofs.ModuleTurnEnds.{module_turned-holds, past-holds}
 use Rattle.strm_laws.proofs.NamesAdded.{AddsNone, if-adds, some-adds, without-adds}
 use Rattle.strm_laws.proofs.PutParts.{Stays, delivered-holds}
 
-pub record Turns {C : Type 0} (P : State C → Type 0) : Type 0 where
+pub record Turns {C : Type 0} (K : Behaviour) (P : State C → Type 0) : Type 0 where
   pub drivers : (side : Side) (q : Queue C) (s : State C) → P s → P (with_driver side q s)
   pub named : (names : List QueueName) (s : State C) → AddsNone s.enabled names → P s → P (record s { enabled = names })
-  pub given : (cells : Cells C) (to : Spot) (m : Message C) (s : State C) → P s → P (delivered cells to m s).state
+  pub given : (cells : Cells C) (to : Spot) (m : Message C) (s : State C) → P s → P (delivered K cells to m s).state
   pub waits : (side : Side) (way : Way) (at band : ℕ) (s : State C) → P s → P (writer_waits side way at band s)
-  pub modules : (cells : Cells C) (name : QueueName) (turn : Turn) (s : State C) → P s → P (module_turned cells name turn s).state
+  pub modules : (cells : Cells C) (name : QueueName) (turn : Turn) (s : State C) → P s → P (module_turned K cells name turn s).state
 
 -- what stays so whatever stands on the drivers
-pub turns-stay : {C : Type 0} (P : State C → Type 0) → ((side : Side) (q : Queue C) (s : State C) → P s → P (with_driver side q s)) → Stays P → Turns P
-turns-stay P drivers stays = record {
+pub turns-stay : {C : Type 0} (K : Behaviour) (P : State C → Type 0) → ((side : Side) (q : Queue C) (s : State C) → P s → P (with_driver side q s)) → Stays P → Turns K P
+turns-stay K P drivers stays = record {
   drivers = drivers;
   named = stays.names;
-  given = delivered-holds P stays;
+  given = delivered-holds P K stays;
   waits = λ side way at band s holds. past-holds P stays side way band (place_past way at (stream side s).modules) s holds;
-  modules = λ cells name turn s holds. module_turned-holds P stays cells name turn s holds;
+  modules = λ cells name turn s holds. module_turned-holds P stays K cells name turn s holds;
 }
 
 module _ {C : Type 0} where
@@ -39,11 +40,11 @@ module _ {C : Type 0} where
   any-holds Holds true true shut waits moves one two three = two
   any-holds Holds true false shut waits moves one two three = three
 
-module _ {C : Type 0} (P : State C → Type 0) (turns : Turns P) where
-  moved-holds : (cells : Cells C) (side : Side) (m : Message C) (rest : List (Message C)) (s : State C) → P s → P (moved_across cells side m rest s).state
+module _ {C : Type 0} (K : Behaviour) (P : State C → Type 0) (turns : Turns K P) where
+  moved-holds : (cells : Cells C) (side : Side) (m : Message C) (rest : List (Message C)) (s : State C) → P s → P (moved_across K cells side m rest s).state
   moved-holds cells side m rest s holds =
       let from = with_driver side (left_with rest (stream side s).driver.queue) s in
-      let went = (delivered cells (up_across side from) m from).state in
+      let went = (delivered K cells (up_across side from) m from).state in
       let q = turned_queue (stream side went).driver.queue in
       let lets_go = not (size_of m == 0) && relieves q in
       let adds : AddsNone went.enabled (enable_if (not (is_none_left q.messages)) (driver_of side) (enable_some lets_go (before_driver side went) went.enabled)) =
@@ -54,7 +55,7 @@ module _ {C : Type 0} (P : State C → Type 0) (turns : Turns P) where
       ) in
       turns.named _ _ adds (turns.drivers side _ went (turns.given cells (up_across side from) m from (turns.drivers side (left_with rest (stream side s).driver.queue) s holds)))
 
-  serves-hold : (cells : Cells C) (side : Side) (ms : List (Message C)) (s : State C) → P s → P (driver_serves cells side ms s).state
+  serves-hold : (cells : Cells C) (side : Side) (ms : List (Message C)) (s : State C) → P s → P (driver_serves K cells side ms s).state
   serves-hold cells side [] s holds = turns.drivers side (record (stream side s).driver.queue { want_read = true }) s holds
   serves-hold cells side (m ∷ rest) s holds =
       let kept = with_driver side (held_back (stream side s).driver.queue) s in
@@ -62,10 +63,10 @@ module _ {C : Type 0} (P : State C → Type 0) (turns : Turns P) where
       any-holds (λ t. P t.state) (is_open (stream (other side) s).opened) (is_stopped_across side m s) _ _ _
       waits (turns.waits (other side) Up (driver_place (other side) kept) (band_of m) kept waits) (moved-holds cells side m rest s holds)
 
-  pub turn-holds : (cells : Cells C) (name : QueueName) (turn : Turn) (s : State C) → P s → P (turned cells name turn s).state
+  pub turn-holds : (cells : Cells C) (name : QueueName) (turn : Turn) (s : State C) → P s → P (turned K cells name turn s).state
   turn-holds cells name turn s holds = at name.place (record s { enabled = without name s.enabled }) (turns.named (without name s.enabled) s (without-adds name s.enabled) holds)
     where
-      at : (place : Place) (s : State C) → P s → P (turned_at cells place name turn s).state
+      at : (place : Place) (s : State C) → P s → P (turned_at K cells place name turn s).state
       at Driver s holds = serves-hold cells name.side (stream name.side s).driver.queue.messages s holds
       at Head s holds = holds
       at (places.Module owner) s holds = turns.modules cells name turn s holds

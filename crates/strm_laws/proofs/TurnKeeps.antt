@@ -4,6 +4,7 @@ use Rattle.strm_laws.specs.Prelude.{Turn, Side, Master, Slave, Place, Driver, Qu
 use Rattle.strm_laws.specs.Prelude.{is_open, other, without, direction_at, direction_from, Queue, left_with, relieved, weight, Up, Down}
 use Rattle.strm_types.specs.declared.names.Place.TheVariants.{Head}
 use Rattle.strm_types.specs.declared.names.Place.TheVariants as places
+use Rattle.strm_laws.specs.Behaviours.{Behaviour, MayTestOwn}
 use Rattle.strm_laws.proofs.LdtermKeeps.{way-up}
 use Rattle.strm_laws.specs.Kept.{AreIdle, state_weight, tests_at}
 use Rattle.strm_laws.specs.Places.{weight_gone, weight_made, direction_to}
@@ -29,9 +30,9 @@ module _ {C : Type 0} (s : State C) where
   with-same : (side : Side) (q : Queue C) (t : State C) → SameButMade s t → SameButMade s (with_driver side q t)
   with-same side q t same = same-with s side (with_driver_queue q (stream side t)) t refl same
 
-  pub turn-same : (cells : Cells C) (name : QueueName) (turn : Turn) → SameButMade s (turned cells name turn s).state
-  turn-same cells name turn =
-      turn-holds (SameButMade s) (turns-stay (SameButMade s) with-same (same-stays s)) cells name turn s
+  pub turn-same : (K : Behaviour) (cells : Cells C) (name : QueueName) (turn : Turn) → SameButMade s (turned K cells name turn s).state
+  turn-same K cells name turn =
+      turn-holds K (SameButMade s) (turns-stay K (SameButMade s) with-same (same-stays s)) cells name turn s
       (same-itself s)
 
 module _ {C : Type 0} (p : Dir → C → Bool) where
@@ -58,10 +59,11 @@ module _ {C : Type 0} (p : Dir → C → Bool) where
   across-weighs Master m at = ap (λ way. weight_of (p (direction_at way Slave)) m) (way-up at)
   across-weighs Slave m at = ap (λ way. weight_of (p (direction_at way Master)) m) (way-up at)
 
-  moved-keeps : (cells : Cells C) (side : Side) (m : Message C) (rest : List (Message C)) (s : State C) → (stream side s).driver.queue.messages ≡ m ∷ rest → Keeps (moved_across cells side m rest s) (state_weight p s)
-  moved-keeps cells side m rest s is =
+  moved-keeps : (K : Behaviour) (cells : Cells C) → MayTestOwn K cells p → (side : Side) (m : Message C) (rest : List (Message C)) (s : State C)
+      → (stream side s).driver.queue.messages ≡ m ∷ rest → Keeps (moved_across K cells side m rest s) (state_weight p s)
+  moved-keeps K cells tests side m rest s is =
       let from = with_driver side (left_with rest (stream side s).driver.queue) s in
-      omega (arith, ended-keeps side (size_of m) (delivered cells (up_across side from) m from).state, delivered-keeps cells p (up_across side from) m from, taken-keeps side m rest s is, across-weighs side m (modules_on (other side) from))
+      omega (arith, ended-keeps side (size_of m) (delivered K cells (up_across side from) m from).state, delivered-keeps K cells p tests (up_across side from) m from, taken-keeps side m rest s is, across-weighs side m (modules_on (other side) from))
 
   blocked-keeps : (side : Side) (m : Message C) (s : State C) → state_weight p (blocked_across side m s) ≡ state_weight p s
   blocked-keeps side m s = waits-keeps p (other side) Up (driver_place (other side) s) (band_of m) s
@@ -69,18 +71,19 @@ module _ {C : Type 0} (p : Dir → C → Bool) where
   held-keeps : (side : Side) (s : State C) (want : Bool) → state_weight p (with_driver side (record (stream side s).driver.queue { want_read = want }) s) ≡ state_weight p s
   held-keeps side s want = same-weighs p side (with_driver_queue (record (stream side s).driver.queue { want_read = want }) (stream side s)) s refl
 
-  serves-keeps : (cells : Cells C) (side : Side) (ms : List (Message C)) (s : State C) → (stream side s).driver.queue.messages ≡ ms → Keeps (driver_serves cells side ms s) (state_weight p s)
-  serves-keeps cells side [] s is = omega (arith, held-keeps side s true)
-  serves-keeps cells side (m ∷ rest) s is =
+  serves-keeps : (K : Behaviour) (cells : Cells C) → MayTestOwn K cells p → (side : Side) (ms : List (Message C)) (s : State C)
+      → (stream side s).driver.queue.messages ≡ ms → Keeps (driver_serves K cells side ms s) (state_weight p s)
+  serves-keeps K cells tests side [] s is = omega (arith, held-keeps side s true)
+  serves-keeps K cells tests side (m ∷ rest) s is =
       any-holds (λ t. Keeps t (state_weight p s)) (is_open (stream (other side) s).opened) (is_stopped_across side m s) _ _ _
       (omega (arith, held-keeps side s false))
       (omega (arith, held-keeps side s false, blocked-keeps side m (with_driver side (held_back (stream side s).driver.queue) s)))
-      (moved-keeps cells side m rest s is)
+      (moved-keeps K cells tests side m rest s is)
 
-  pub turn-keeps : (cells : Cells C) (name : QueueName) → tests_at cells p name.place → (turn : Turn) (s : State C) → AreIdle s → Keeps (turned cells name turn s) (state_weight p s)
-  turn-keeps cells name tests turn s idle = at name.place tests (record s { enabled = without name s.enabled }) idle
+  pub turn-keeps : (K : Behaviour) (cells : Cells C) (name : QueueName) → tests_at K cells p name.place → (turn : Turn) (s : State C) → AreIdle s → Keeps (turned K cells name turn s) (state_weight p s)
+  turn-keeps K cells name tests turn s idle = at name.place tests (record s { enabled = without name s.enabled }) idle
     where
-      at : (place : Place) → tests_at cells p place → (s : State C) → AreIdle s → Keeps (turned_at cells place name turn s) (state_weight p s)
-      at Driver tests s idle = serves-keeps cells name.side (stream name.side s).driver.queue.messages s refl
+      at : (place : Place) → tests_at K cells p place → (s : State C) → AreIdle s → Keeps (turned_at K cells place name turn s) (state_weight p s)
+      at Driver tests s idle = serves-keeps K cells tests name.side (stream name.side s).driver.queue.messages s refl
       at Head tests s idle = omega arith
-      at (places.Module owner) ignores s idle = module_turned-keeps p cells ignores name turn s idle
+      at (places.Module owner) ignores s idle = module_turned-keeps p K cells ignores name turn s idle

@@ -4,7 +4,7 @@ use Rattle.std.specs.Prelude.{ℕ, suc, ◌+◌, true, List, [], ◌∷◌, leng
 use Rattle.strm_laws.specs.Prelude.{Dir, Side, Master, Slave, Way, Up, Down, Base, Tagged, Head, Between, Message, part, weight_of, direction_at}
 use Rattle.strm_laws.specs.Prelude.{Queue, weight, QueuePair, messages_at}
 use Rattle.strm_types.specs.Ldterms.{Ldterm}
-use Rattle.strm_laws.specs.Stacked.{Module, OfLdterm, OfPtem, OfPckt, Standing, module_line}
+use Rattle.strm_laws.specs.Stacked.{Module, OfLdterm, OfOwn, OfPtem, OfPckt, Standing, module_line}
 use Rattle.strm_laws.specs.State.{State, Stream}
 
 module _ {C : Type 0} where
@@ -65,6 +65,7 @@ module _ (side : Side) where
   number_kind up (OfLdterm l) = OfLdterm (number_ldterm up l)
   number_kind up (OfPtem p) = OfPtem p
   number_kind up (OfPckt p) = OfPckt p
+  number_kind up (OfOwn o) = OfOwn o
 
   abbrev pub number_pair : ℕ → ℕ → QueuePair ℕ → QueuePair Tagged
   number_pair up down pair = record {

@@ -10,6 +10,7 @@ use Rattle.strm_types.specs.declared.answers.Answer.TheVariants.{Name, Signals, 
 use Rattle.strm_types.specs.declared.events.Event.TheVariants.{Flush, Ioctl}
 use Rattle.strm_types.specs.declared.events.Event.TheVariants as events
 use Rattle.strm_types.specs.declared.modes.Mode as modes
+use Rattle.strm_laws.specs.Behaviours.{Behaviour}
 use Rattle.strm_laws.specs.Earlier.{before_head}
 use Rattle.strm_laws.specs.State.{State, stream, with_stream, with_head_queue, with_ioctl, with_signals, book, with_book, map_state}
 use Rattle.strm_types.specs.Heads.{with_mode}
@@ -66,16 +67,16 @@ module _ {C : Type 0} where
   }
 
   -- what a write of these bytes on a side's stream sends down
-  abbrev pub write_sent : Cells C → Side → List ℕ → State C → Wrote C
-  write_sent cells side bytes s =
+  abbrev pub write_sent : Behaviour → Cells C → Side → List ℕ → State C → Wrote C
+  write_sent K cells side bytes s =
       let dir = direction_from side in
-      cells_sent cells side (cells_written cells dir (book dir s).written bytes) s
+      cells_sent K cells side (cells_written cells dir (book dir s).written bytes) s
 
   -- a write of these bytes: those that go down are booked as written
-  abbrev pub wrote : Cells C → Side → List ℕ → State C → Outcome C
-  wrote cells side bytes s =
+  abbrev pub wrote : Behaviour → Cells C → Side → List ℕ → State C → Outcome C
+  wrote K cells side bytes s =
       let dir = direction_from side in
-      let t = write_sent cells side bytes s in
+      let t = write_sent K cells side bytes s in
       record {
         answer = Count t.taken;
         state = with_book dir (with_written t.taken (book dir t.state)) t.state;
@@ -124,11 +125,11 @@ module _ {C : Type 0} where
 
   -- A putmsg of these parts on a side's stream: its message goes down from the head, and its bytes are booked as written. Without
   -- a part nothing is sent.
-  abbrev pub put_at : Cells C → Side → Prio → Option (List ℕ) → Option (List ℕ) → State C → Carried C (State C)
-  put_at cells side prio control body s =
+  abbrev pub put_at : Behaviour → Cells C → Side → Prio → Option (List ℕ) → Option (List ℕ) → State C → Carried C (State C)
+  put_at K cells side prio control body s =
       if no_parts control body then record { state = s; gone = [] }
       else (let dir = direction_from side in
-      let t = delivered cells (record { side = side; at = 1; way = Down }) (message_put cells side prio control body s) s in
+      let t = delivered K cells (record { side = side; at = 1; way = Down }) (message_put cells side prio control body s) s in
       record { state = with_book dir (with_written (length (part control) + length (part body)) (book dir t.state)) t.state; gone = t.gone })
 
   -- a mode of a side's head is set
@@ -144,9 +145,9 @@ module _ {C : Type 0} where
   ioctl_begun side command s = record (with_ioctl side (Waiting s.next_ioctl command) s) { next_ioctl = suc s.next_ioctl }
 
   -- its M_IOCTL goes down from the head
-  abbrev pub ioctl_sent : Cells C → Side → ℕ → List ℕ → State C → Carried C (State C)
-  ioctl_sent cells side command body s =
-      delivered cells (record { side = side; at = 1; way = Down }) (ioctl_message (asking command s.next_ioctl) body) (ioctl_begun side command s)
+  abbrev pub ioctl_sent : Behaviour → Cells C → Side → ℕ → List ℕ → State C → Carried C (State C)
+  ioctl_sent K cells side command body s =
+      delivered K cells (record { side = side; at = 1; way = Down }) (ioctl_message (asking command s.next_ioctl) body) (ioctl_begun side command s)
 
   -- the caller is told what became of the ioctl under way
   abbrev pub ioctl_told : Side → State C → Outcome C
@@ -155,9 +156,9 @@ module _ {C : Type 0} where
       tells (told_of slot) (with_ioctl side (slot_behind slot) s)
 
   -- an ioctl, whose M_IOCTL goes down, and whose caller is told what became of it so far
-  abbrev pub ioctl_at : Cells C → Side → ℕ → List ℕ → State C → Outcome C
-  ioctl_at cells side command body s =
-      let t = ioctl_sent cells side command body s in
+  abbrev pub ioctl_at : Behaviour → Cells C → Side → ℕ → List ℕ → State C → Outcome C
+  ioctl_at K cells side command body s =
+      let t = ioctl_sent K cells side command body s in
       record (ioctl_told side t.state) { gone = t.gone }
 
   -- one that the head answers itself: it takes a number, and tells or sets the foreground process group; none is under way behind it
@@ -169,8 +170,8 @@ module _ {C : Type 0} where
       (record (with_stream side (record above { head = record h { group = group_behind command body h.group; ioctl = Free } }) s) { next_ioctl = suc s.next_ioctl })
 
   -- the slave's head answers what asks for its group, and all else is sent down
-  abbrev pub ioctl_called : Cells C → Side → ℕ → List ℕ → State C → Outcome C
-  ioctl_called cells side command body s = if asks_group side command then group_at side command body s else ioctl_at cells side command body s
+  abbrev pub ioctl_called : Behaviour → Cells C → Side → ℕ → List ℕ → State C → Outcome C
+  ioctl_called K cells side command body s = if asks_group side command then group_at side command body s else ioctl_at K cells side command body s
 
   -- the signals that wait at a side's head are handed out
   abbrev pub signals_told : Side → State C → Outcome C
@@ -180,24 +181,24 @@ module _ {C : Type 0} where
   looked side s = tells (name_told (top_on side s)) s
 
   -- what a call leads to that is carried out
-  abbrev pub performed : Cells C → Caller → Request → State C → Outcome C
-  performed cells caller OpenMaster s = done (opened_master s)
-  performed cells caller Unlock s = done (record s { locked = false })
-  performed cells caller OpenSlave s = done (opened_slave s)
-  performed cells caller Shut s = takes (closed_at caller.side s)
-  performed cells caller (Push name) s = takes (pushed_named caller.side (named_by name) s)
-  performed cells caller Pop s = takes (popped caller.side s)
-  performed cells caller Look s = looked caller.side s
-  performed cells caller (Flush what band) s = takes (flushed_on cells band caller.side what s)
-  performed cells caller (Write bytes) s = wrote cells caller.side bytes s
-  performed cells caller (Read n) s = read_at cells caller.side n s
-  performed cells caller (Put prio control body) s = record (takes (put_at cells caller.side prio control body s)) { came = cells_of (message_put cells caller.side prio control body s) }
-  performed cells caller (Get wanted cmax dmax) s = get_at cells caller.side wanted cmax dmax s
-  performed cells caller (Mode mode) s = done (mode_set caller.side mode s)
-  performed cells caller Nread s = sizes_at caller.side s
-  performed cells caller (Ioctl command body) s = ioctl_called cells caller.side command body s
-  performed cells caller (IoctlResult number) s = ioctl_told caller.side s
-  performed cells caller events.Signals s = signals_told caller.side s
+  abbrev pub performed : Behaviour → Cells C → Caller → Request → State C → Outcome C
+  performed K cells caller OpenMaster s = done (opened_master s)
+  performed K cells caller Unlock s = done (record s { locked = false })
+  performed K cells caller OpenSlave s = done (opened_slave s)
+  performed K cells caller Shut s = takes (closed_at caller.side s)
+  performed K cells caller (Push name) s = takes (pushed_named caller.side (named_by K name) s)
+  performed K cells caller Pop s = takes (popped caller.side s)
+  performed K cells caller Look s = looked caller.side s
+  performed K cells caller (Flush what band) s = takes (flushed_on K cells band caller.side what s)
+  performed K cells caller (Write bytes) s = wrote K cells caller.side bytes s
+  performed K cells caller (Read n) s = read_at cells caller.side n s
+  performed K cells caller (Put prio control body) s = record (takes (put_at K cells caller.side prio control body s)) { came = cells_of (message_put cells caller.side prio control body s) }
+  performed K cells caller (Get wanted cmax dmax) s = get_at cells caller.side wanted cmax dmax s
+  performed K cells caller (Mode mode) s = done (mode_set caller.side mode s)
+  performed K cells caller Nread s = sizes_at caller.side s
+  performed K cells caller (Ioctl command body) s = ioctl_called K cells caller.side command body s
+  performed K cells caller (IoctlResult number) s = ioctl_told caller.side s
+  performed K cells caller events.Signals s = signals_told caller.side s
 
   -- the caller is stopped by a signal, and nothing changes
   abbrev pub or_stopped : Option StopSignal → State C → Outcome C → Outcome C
@@ -205,5 +206,5 @@ module _ {C : Type 0} where
   or_stopped (Some signal) s outcome = tells (Stop signal) s
 
   -- what a call leads to where nothing refuses it: its caller is stopped, or it is carried out
-  abbrev pub called : Cells C → Caller → Request → State C → Outcome C
-  called cells caller asked s = or_stopped (stop_of s caller asked) s (performed cells caller asked s)
+  abbrev pub called : Behaviour → Cells C → Caller → Request → State C → Outcome C
+  called K cells caller asked s = or_stopped (stop_of s caller asked) s (performed K cells caller asked s)

@@ -5,6 +5,7 @@ use Rattle.strm_laws.specs.Prelude.{Dir, MasterToSlave, SlaveToMaster, Up, Down,
 use Rattle.strm_laws.specs.Prelude.{tagged, Fate, PlainEntry, messages_at, other, side_from, fates_of}
 use Rattle.strm_types.specs.declared.ledger.Ledger.{Ledger}
 use Rattle.strm_laws.specs.Based.{based, cells_in}
+use Rattle.strm_laws.specs.Behaviours.{Behaviour}
 use Rattle.strm_laws.specs.Kept.{gone, state_weight}
 use Rattle.strm_laws.specs.Places.{weight_gone}
 use Rattle.strm_laws.specs.Stacked.{module_line}
@@ -55,9 +56,9 @@ pub record Balanced (dir : Dir) (s : State ℕ) (fates : Fates) : Type 0 where
   pub agree : let l = ledger_of dir s fates in l.written + l.made ≡ l.queued + (l.inline + sum_by (λ n. n) l.fates)
 
 -- what entries let go from a state on, one after the other, and make
-abbrev pub all_gone : {C : Type 0} → Cells C → State C → List PlainEntry → List (Fate C)
-all_gone cells s [] = []
-all_gone cells s (entry ∷ entries) = gone cells s entry ++ all_gone cells (after cells s entry) entries
+abbrev pub all_gone : {C : Type 0} → Behaviour → Cells C → State C → List PlainEntry → List (Fate C)
+all_gone K cells s [] = []
+all_gone K cells s (entry ∷ entries) = gone K cells s entry ++ all_gone K cells (after K cells s entry) entries
 
 -- two origins are the same
 abbrev pub same_origin : Origin → Origin → Bool
@@ -79,16 +80,16 @@ is_booked (Made dir n) base s = nat_le (book dir base).made n && nat_lt n (book 
 is_booked (Base dir n) base s = nat_lt n (base_count dir base)
 
 -- in how many places the byte of an origin is behind a journal from a base: on queues, in lines, and among what has gone
-abbrev pub places_of : Origin → State ℕ → List PlainEntry → ℕ
-places_of origin base entries =
+abbrev pub places_of : Behaviour → Origin → State ℕ → List PlainEntry → ℕ
+places_of K origin base entries =
     let test = λ (direction : Dir) (c : Tagged). same_origin c.origin origin in
-    state_weight test (replay tagged (based base) entries) + weight_gone test (all_gone tagged (based base) entries)
+    state_weight test (replay K tagged (based base) entries) + weight_gone test (all_gone K tagged (based base) entries)
 
 -- in how many of the direction in which it was booked
-abbrev pub own_places_of : Origin → State ℕ → List PlainEntry → ℕ
-own_places_of origin base entries =
+abbrev pub own_places_of : Behaviour → Origin → State ℕ → List PlainEntry → ℕ
+own_places_of K origin base entries =
     let test = λ (direction : Dir) (c : Tagged). same_dir direction (direction_in origin) && same_origin c.origin origin in
-    state_weight test (replay tagged (based base) entries) + weight_gone test (all_gone tagged (based base) entries)
+    state_weight test (replay K tagged (based base) entries) + weight_gone test (all_gone K tagged (based base) entries)
 
 -- Fewer than 2^63 bytes were written in each direction, and fewer than 2^63 made, so that no count of a ledger goes round: what may add to a
 -- book wants that it isn't full.

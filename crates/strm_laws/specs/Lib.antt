@@ -17,6 +17,8 @@ pub mod Step
 pub mod Kept
 pub mod Pair
 pub mod Within
+pub mod GoodMessages
+pub mod Behaviours
 pub mod Restorable
 pub mod Standing
 pub mod LdtermWeights
@@ -27,6 +29,7 @@ pub mod ModuleTurns
 pub mod TurnCalls
 pub mod Earlier
 pub mod Pushes
+pub mod Known
 pub mod Past
 pub mod Based
 pub mod Ledgers

@@ -5,6 +5,7 @@ use Rattle.strm_laws.specs.Prelude.{Turn, Moved, Blocked, Idle, MODULES, HOPS, P
 use Rattle.strm_laws.specs.Prelude.{Took, carried, in_turn, at_place, messages_at, queue_changed, act_among, change_among, direction_at, enable_if}
 use Rattle.strm_laws.specs.Prelude.{enable_some, same_place, end_relieves, has_more, turn_ended, first_size}
 use Rattle.strm_types.specs.declared.spots.Asks.TheVariants as asked
+use Rattle.strm_laws.specs.Behaviours.{Behaviour}
 use Rattle.strm_laws.specs.Earlier.{places_of}
 use Rattle.strm_laws.specs.Puts.{earlier_at, module_acted, put_in}
 use Rattle.strm_laws.specs.Stacked.{Standing, module_asks, module_rests, module_serves}
@@ -79,6 +80,7 @@ module _ {C : Type 0} where
     abbrev pub module_called : Bool → ℕ → State C → Took C (State C)
     module_called again left s = module_acted here (call_at (made_below here.side s) again left (stream here.side s).modules) s
 
+  module _ (K : Behaviour) (cells : Cells C) (here : Spot) where
     -- Calls one after the other, so many at most, until the turn's bytes are treated: what each has sent is delivered before the next
     -- one.
     abbrev pub calls : ℕ → Bool → ℕ → State C → Calls C
@@ -86,11 +88,11 @@ module _ {C : Type 0} where
     calls (suc more) again left s =
         let ps = (stream here.side s).modules in
         let made = made_below here.side s in
-        let t = module_called again left s in
-        let u = in_turn (carried (put_in cells) HOPS) t.sent t.state in
-        let bytes = bytes_at made again left ps in
+        let t = module_called cells here again left s in
+        let u = in_turn (carried (put_in K cells) HOPS) t.sent t.state in
+        let bytes = bytes_at cells here made again left ps in
         let v = calls more true (left - bytes) u.state in
-        if again_at made again left ps
+        if again_at cells here made again left ps
         then record { state = v.state; gone = t.gone ++ u.gone ++ v.gone; bytes = bytes + v.bytes; ended = v.ended }
         else record { state = u.state; gone = t.gone ++ u.gone; bytes = bytes; ended = true }
 
@@ -125,12 +127,12 @@ module _ {C : Type 0} where
         else stayed_put Blocked s
 
   -- A turn of a module's queue, taken off the enabled list, which is answered so. Without such a module it is idle.
-  abbrev pub turned_named : Cells C → QueueName → Turn → State C → Option ℕ → TurnOutcome C
-  turned_named cells name turn s None = stayed_put Idle s
-  turned_named cells name turn s (Some at) = turned_there cells (record { side = name.side; at = at; way = name.way }) name turn s
+  abbrev pub turned_named : Behaviour → Cells C → QueueName → Turn → State C → Option ℕ → TurnOutcome C
+  turned_named K cells name turn s None = stayed_put Idle s
+  turned_named K cells name turn s (Some at) = turned_there K cells (record { side = name.side; at = at; way = name.way }) name turn s
 
-  abbrev pub module_turned : Cells C → QueueName → Turn → State C → TurnOutcome C
-  module_turned cells name turn s = turned_named cells name turn s (place_named name.place (stream name.side s).modules)
+  abbrev pub module_turned : Behaviour → Cells C → QueueName → Turn → State C → TurnOutcome C
+  module_turned K cells name turn s = turned_named K cells name turn s (place_named name.place (stream name.side s).modules)
 
   -- the answer of a turn that treats the first message of such a queue whole
   abbrev pub whole_module : Place → Way → Stream C → Turn

@@ -8,11 +8,12 @@ use Rattle.strm_laws.specs.Prelude.{messages_at, new_pair}
 use Rattle.strm_types.specs.declared.names.ModuleName.TheVariants as names
 use Rattle.strm_types.specs.declared.names.Place.TheVariants.{Head}
 use Rattle.strm_types.specs.declared.names.Place.TheVariants as places
+use Rattle.strm_laws.specs.Behaviours.{Behaviour, fresh_own}
 use Rattle.strm_laws.specs.Earlier.{before_at}
 use Rattle.strm_types.specs.Pckts.{new_pckt}
 use Rattle.strm_types.specs.Ptems.{new_ptem}
 use Rattle.strm_laws.specs.Puts.{earlier_at, noted, put_at_head}
-use Rattle.strm_laws.specs.Stacked.{Module, Standing, OfLdterm, OfPtem, OfPckt, module_name, without_kind_line, kind_line}
+use Rattle.strm_laws.specs.Stacked.{Module, Standing, OfLdterm, OfOwn, OfPtem, OfPckt, module_name, without_kind_line, kind_line}
 use Rattle.strm_laws.specs.State.{State, Stream, stream, with_ioctl, with_stream}
 
 -- the read mode that a head is given where a module is pushed below it, and where one is taken off: ldterm makes lines
@@ -20,11 +21,13 @@ abbrev pub mode_on_push : ModuleName → Option ReadMode
 mode_on_push names.Ldterm = Some MessageKeep
 mode_on_push names.Ptem = None
 mode_on_push names.Pckt = None
+mode_on_push (names.Own n) = None
 
 abbrev pub mode_on_pop : ModuleName → Option ReadMode
 mode_on_pop names.Ldterm = Some ByteStream
 mode_on_pop names.Ptem = None
 mode_on_pop names.Pckt = None
+mode_on_pop (names.Own n) = None
 
 -- the same where a module of this name stands on top, if one stands there
 abbrev pub mode_behind : Option ModuleName → Option ReadMode
@@ -35,22 +38,29 @@ mode_behind (Some name) = mode_on_pop name
 abbrev pub head_above : Side → Spot
 head_above side = record { side = side; at = 0; way = Up }
 
+-- whether there are modules of a name: of those of a user's own there are some of the numbers that the behaviour knows
+abbrev pub is_known : Behaviour → ModuleName → Bool
+is_known K (names.Own n) = K.knows n
+is_known K _ = true
+
 module _ {C : Type 0} where
   -- the module that a name makes, as it is pushed, with the queues that it is given then, where modules of its name have any
-  abbrev pub kind_named : ModuleName → Module C
-  kind_named names.Ldterm = OfLdterm new_ldterm
-  kind_named names.Ptem = OfPtem new_ptem
-  kind_named names.Pckt = OfPckt new_pckt
+  abbrev pub kind_named : Behaviour → ModuleName → Module C
+  kind_named K names.Ldterm = OfLdterm new_ldterm
+  kind_named K names.Ptem = OfPtem new_ptem
+  kind_named K names.Pckt = OfPckt new_pckt
+  kind_named K (names.Own n) = OfOwn (fresh_own K n)
 
   abbrev pub queues_named : ModuleName → Option (QueuePair C)
   queues_named name = if have_queues name then Some new_pair else None
 
-  abbrev pub module_named : ModuleName → Standing C
-  module_named name = record { part = kind_named name; queues = queues_named name }
+  abbrev pub module_named : Behaviour → ModuleName → Standing C
+  module_named K name = record { part = kind_named K name; queues = queues_named name }
 
-  abbrev pub named_by : Option ModuleName → Option (Standing C)
-  named_by None = None
-  named_by (Some name) = Some (module_named name)
+  -- none, where there are no modules of the name
+  abbrev pub named_by : Behaviour → Option ModuleName → Option (Standing C)
+  named_by K None = None
+  named_by K (Some name) = if is_known K name then Some (module_named K name) else None
 
   -- a module may be pushed on these: there is room, and none of its name stands there
   abbrev pub may_stand : Option (Standing C) → List (Standing C) → Bool

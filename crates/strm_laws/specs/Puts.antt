@@ -6,6 +6,7 @@ use Rattle.strm_laws.specs.Prelude.{Enable, Room, Spot, with_made, Cells, Acted,
 use Rattle.strm_laws.specs.Prelude.{flush_bytes, flush_message, is_bare_flush, head_put, Message, cells_of, put_among, other, is_open, is_closed}
 use Rattle.strm_laws.specs.Prelude.{direction_at, enable_found}
 use Rattle.strm_types.specs.declared.names.Place.TheVariants as places
+use Rattle.strm_laws.specs.Behaviours.{Behaviour}
 use Rattle.strm_laws.specs.Earlier.{before_at, driver_place, modules_on, places_of, queue_named}
 use Rattle.strm_laws.specs.Stacked.{Standing, module_puts}
 use Rattle.strm_laws.specs.State.{State, book, stream, with_book, with_stream, with_driver_queue}
@@ -60,9 +61,9 @@ module _ {C : Type 0} where
   made_above side s = (book (direction_at Up side) s).made
 
   -- a message that comes to a module of a side's stream, by its place
-  abbrev pub put_at_module : Cells C → Spot → Message C → State C → Took C (State C)
-  put_at_module cells here m s =
-      module_acted here (put_among (module_puts cells (made_above here.side s)) (here.at - 1) here m (stream here.side s).modules) s
+  abbrev pub put_at_module : Behaviour → Cells C → Spot → Message C → State C → Took C (State C)
+  put_at_module K cells here m s =
+      module_acted here (put_among (module_puts K cells (made_above here.side s)) (here.at - 1) here m (stream here.side s).modules) s
 
   -- a message that comes to the driver of a side's stream, which is the first place below the modules
   abbrev pub put_at_driver : Side → Spot → Message C → State C → Took C (State C)
@@ -86,20 +87,20 @@ module _ {C : Type 0} where
   put_behind Up here m s = if is_bare_flush m && here.at == suc MODULES then put_at_driver here.side here m s else passed_up here m s
 
   -- below the head
-  abbrev pub put_below : Cells C → Way → Spot → Message C → State C → Took C (State C)
-  put_below cells way here m s = if nat_le here.at (modules_on here.side s) then put_at_module cells here m s else put_behind way here m s
+  abbrev pub put_below : Behaviour → Cells C → Way → Spot → Message C → State C → Took C (State C)
+  put_below K cells way here m s = if nat_le here.at (modules_on here.side s) then put_at_module K cells here m s else put_behind way here m s
 
   -- a message that is put at a spot
-  abbrev pub put_in : Cells C → Spot → Message C → State C → Took C (State C)
-  put_in cells here m s = if here.at == 0 then put_at_head here.side here m s else put_below cells here.way here m s
+  abbrev pub put_in : Behaviour → Cells C → Spot → Message C → State C → Took C (State C)
+  put_in K cells here m s = if here.at == 0 then put_at_head here.side here m s else put_below K cells here.way here m s
 
   -- a message that is put at a spot, with all that it gives rise to
-  abbrev pub delivered : Cells C → Spot → Message C → State C → Carried C (State C)
-  delivered cells to m s = carried (put_in cells) HOPS (record { to = to; message = m }) s
+  abbrev pub delivered : Behaviour → Cells C → Spot → Message C → State C → Carried C (State C)
+  delivered K cells to m s = carried (put_in K cells) HOPS (record { to = to; message = m }) s
 
   -- a flush of a side's stream: an M_FLUSH goes down from its head
-  abbrev pub flushed_on : Cells C → Option Band → Side → FlushQueues → State C → Carried C (State C)
-  flushed_on cells band side what s = delivered cells (record { side = side; at = 1; way = Down }) (flush_message (flush_bytes (asked_of what band))) s
+  abbrev pub flushed_on : Behaviour → Cells C → Option Band → Side → FlushQueues → State C → Carried C (State C)
+  flushed_on K cells band side what s = delivered K cells (record { side = side; at = 1; way = Down }) (flush_message (flush_bytes (asked_of what band))) s
 
 -- Two states with the same ends: which sides are open, the lock, the number of the next ioctl, and what was written. Cells may have been
 -- made.

@@ -9,6 +9,7 @@ use Rattle.strm_laws.specs.Prelude.{PlainEntry, room_used, messages_at, Up, or_e
 use Rattle.strm_types.specs.declared.needs.Reach.TheVariants as reaches
 use Rattle.std.specs.List.{list_any}
 use Rattle.strm_types.specs.Names.{is_never}
+use Rattle.strm_laws.specs.Behaviours.{Behaviour}
 use Rattle.strm_laws.specs.Pushes.{may_stand, named_by, top_on}
 use Rattle.strm_laws.specs.State.{State, book, stream}
 use Rattle.strm_types.specs.PutMsg.{put_blocks}
@@ -100,39 +101,39 @@ module _ {C : Type 0} where
   hold s caller asked = let h = (stream caller.side s).head in held (needs asked).access h.tostop (foreground h.hung_up h.group) caller
 
   -- what a call that isn't held is refused for, as it doesn't fit what is there
-  abbrev pub unfit : State C → Caller → Request → Option Refusal
-  unfit s caller OpenMaster = unless (is_never (stream Master s).opened) Einval
-  unfit s caller OpenSlave =
+  abbrev pub unfit : Behaviour → State C → Caller → Request → Option Refusal
+  unfit K s caller OpenMaster = unless (is_never (stream Master s).opened) Einval
+  unfit K s caller OpenSlave =
       or_else (unless (not (is_open (stream Slave s).opened)) Einval) (unless (not s.locked) Eagain)
-  unfit s caller (Write bytes) = unless (not (is_full_below 0 caller.side s)) Eagain
-  unfit s caller (Read n) =
+  unfit K s caller (Write bytes) = unless (not (is_full_below 0 caller.side s)) Eagain
+  unfit K s caller (Read n) =
       let h = (stream caller.side s).head in
       read_refusal h.control_mode (at_end caller.side s) n h.queue.messages
-  unfit s caller (Put prio control body) = unless (not (put_waits prio control body (λ band. is_full_below band caller.side s))) Eagain
-  unfit s caller (Get wanted cmax dmax) = get_refusal wanted (at_end caller.side s) (stream caller.side s).head.queue.messages
-  unfit s caller (Ioctl command body) = unless (is_free (stream caller.side s).head.ioctl) Eagain
-  unfit s caller (IoctlResult number) = result_refusal number (stream caller.side s).head.ioctl
-  unfit s caller (Push name) = unless (may_stand (named_by name) (stream caller.side s).modules) Einval
-  unfit s caller Pop = unless (is_some (top_on caller.side s)) Einval
-  unfit s caller Look = unless (is_some (top_on caller.side s)) Einval
-  unfit s caller _ = None
+  unfit K s caller (Put prio control body) = unless (not (put_waits prio control body (λ band. is_full_below band caller.side s))) Eagain
+  unfit K s caller (Get wanted cmax dmax) = get_refusal wanted (at_end caller.side s) (stream caller.side s).head.queue.messages
+  unfit K s caller (Ioctl command body) = unless (is_free (stream caller.side s).head.ioctl) Eagain
+  unfit K s caller (IoctlResult number) = result_refusal number (stream caller.side s).head.ioctl
+  unfit K s caller (Push name) = unless (may_stand (named_by K name) (stream caller.side s).modules) Einval
+  unfit K s caller Pop = unless (is_some (top_on caller.side s)) Einval
+  unfit K s caller Look = unless (is_some (top_on caller.side s)) Einval
+  unfit K s caller _ = None
 
   -- What a call is refused for after all else: what the state says. Job control comes first, so that a caller in the background isn't told
   -- what waits.
-  abbrev pub refused_by_state : State C → Caller → Request → Option Refusal
-  refused_by_state s caller asked = refusal_behind (hold s caller asked) (unfit s caller asked)
+  abbrev pub refused_by_state : Behaviour → State C → Caller → Request → Option Refusal
+  refused_by_state K s caller asked = refusal_behind (hold s caller asked) (unfit K s caller asked)
 
   -- the signal by which a call stops its caller, where it isn't refused
   abbrev pub stop_of : State C → Caller → Request → Option StopSignal
   stop_of s caller asked = stop_in (hold s caller asked)
 
   -- the refusal of a call, if any, where the pool has enough blocks for it or not
-  abbrev pub refused : State C → List PlainEntry → Config → Bool → Caller → Request → Option Refusal
-  refused s entries limits has_blocks caller asked =
+  abbrev pub refused : Behaviour → State C → List PlainEntry → Config → Bool → Caller → Request → Option Refusal
+  refused K s entries limits has_blocks caller asked =
       or_else (refused_at_once s caller asked)
       (or_else (unless (has_room entries limits ((needs asked).brings + (needs asked).gives)) JournalFull)
       (or_else (unless has_blocks Enosr)
-      (refused_by_state s caller asked)))
+      (refused_by_state K s caller asked)))
 
   -- the refusal of a turn, if any, where the pool has enough blocks for it or not
   abbrev pub turn_refused : State C → List PlainEntry → Config → Bool → QueueName → Option Refusal

@@ -1,11 +1,11 @@
 -- What an image of a pair may hold. A checkpoint is refused for what no pair can have: each field here is one such reason turned round. What is
 -- said of the message in work and of options isn't stored: by it calls and turns keep the rest.
-use Rattle.std.specs.Prelude.{◌≡◌, ◌≤◌, ◌<◌, ◌+◌, ◌^◌, ◌&&◌, ◌||◌, Bool, true, false, List, [], map, length, Option, None, Some}
+use Rattle.std.specs.Prelude.{◌≡◌, ◌≤◌, ◌<◌, ◌^◌, ◌&&◌, ◌||◌, Bool, true, false, List, [], map, length, Option, None, Some}
 use Rattle.std.specs.List.{AllByRecursion, list_any}
-use Rattle.strm_laws.specs.Prelude.{Put, Called, Turned, MsgKind, Ioctl, Iocack, Iocnak, Setopts, BANDS, IOCTL_MAX, IOCTL_END, MODULES, LINE_MAX}
+use Rattle.strm_laws.specs.Prelude.{Put, Called, Turned, MsgKind, BANDS, IOCTL_END, MODULES, LINE_MAX}
 use Rattle.strm_laws.specs.Prelude.{COLUMN_MAX, Prio, High, ModuleName, Place, Driver, QueueName, Side, Way, Up, Down, Free, Termios}
-use Rattle.strm_laws.specs.Prelude.{AllSides, crosses, Request, Head as TheHead, is_data, PlainEntry, is_control_kind, is_body_kind, is_ioctl}
-use Rattle.strm_laws.specs.Prelude.{waits_there, Message, is_part, is_high_priority, is_master, is_open, have_queues, same_module, options_in, Flow}
+use Rattle.strm_laws.specs.Prelude.{AllSides, crosses, Request, Head as TheHead, is_data, PlainEntry, is_ioctl}
+use Rattle.strm_laws.specs.Prelude.{waits_there, Message, is_master, is_open, have_queues, same_module, Flow}
 use Rattle.strm_laws.specs.Prelude.{IsOrdered, Queue}
 use Rattle.strm_laws.specs.Prelude.{QueuePair, has_queues}
 use Rattle.strm_types.specs.declared.modes.Prio.TheVariants.{Band}
@@ -14,26 +14,13 @@ use Rattle.strm_types.specs.declared.names.Place.TheVariants.{Head}
 use Rattle.strm_types.specs.declared.names.Place.TheVariants as places
 use Rattle.strm_types.specs.Ldterms.{Ldterm as TheLdterm}
 use Rattle.strm_types.specs.Names.{IsOnce}
+use Rattle.strm_laws.specs.Behaviours.{GoodOwn}
+use Rattle.strm_laws.specs.GoodMessages.{GoodMessage, is_part_kind}
 use Rattle.strm_laws.specs.Kept.{AreIdle}
 use Rattle.strm_laws.specs.StackCosts.{EachOnce, Stands, stands_of, stands_on}
 use Rattle.strm_laws.specs.Within.{AreWithin}
-use Rattle.strm_laws.specs.Stacked.{Module, OfLdterm, OfPtem, OfPckt, Standing, module_name}
+use Rattle.strm_laws.specs.Stacked.{Module, OfLdterm, OfOwn, OfPtem, OfPckt, Standing, module_name}
 use Rattle.strm_laws.specs.State.{State, Stream}
-
--- the kinds that have parts: M_DATA, M_PROTO and M_PCPROTO (STREAMS Programming Guide, "Message Types")
-abbrev pub is_part_kind : MsgKind → Bool
-is_part_kind kind = is_control_kind kind || is_body_kind kind
-
--- the kinds that begin with the header of an ioctl: M_IOCTL, M_IOCACK and M_IOCNAK (streamio(7I): I_STR; sys/stream.h: struct iocblk)
-abbrev pub has_header : MsgKind → Bool
-has_header Ioctl = true
-has_header Iocack = true
-has_header Iocnak = true
-has_header _ = false
-
-abbrev pub sets_options : MsgKind → Bool
-sets_options Setopts = true
-sets_options _ = false
 
 -- the kinds that stand on ldterm's write queue: M_DATA, M_PROTO, and M_IOCTL behind them (ldterm(7M); termio(7I): TCSETSW)
 abbrev pub goes_out : MsgKind → Bool
@@ -42,19 +29,6 @@ goes_out kind = waits_there kind || is_ioctl kind
 -- the kinds that stand on a driver's queue: what crosses, and M_IOCTL (ptm(7D), pts(7D))
 abbrev pub stands_below : MsgKind → Bool
 stands_below kind = crosses kind || is_ioctl kind
-
--- A message that fits its kind: M_PROTO and M_PCPROTO have a control part and no other kind has one, M_DATA has a data part, and a kind without
--- parts has its bytes in neither; its band is one that queues have, 0 for high priority; an ioctl's header has 16 bytes, with 256 behind it at most.
--- No M_SETOPTS that is sent here sets marks, and none stands on a queue.
-pub record GoodMessage {C : Type 0} (m : Message C) : Type 0 where
-  pub control : is_part m.control ≡ is_control_kind m.kind
-  pub body : is_body_kind m.kind ≡ true → is_part m.body ≡ true
-  pub bare : is_part_kind m.kind ≡ false → is_part m.body ≡ false
-  pub plain : is_part_kind m.kind ≡ true → m.plain ≡ []
-  pub band : m.band < BANDS
-  pub high : is_high_priority m.kind ≡ true → m.band ≡ 0
-  pub header : has_header m.kind ≡ true → (16 ≤ length m.plain) × (length m.plain ≤ 16 + IOCTL_MAX)
-  pub options : sets_options m.kind ≡ true → (options_in m.plain).marks ≡ None
 
 -- one that stands on a queue is of a kind that stands there
 pub record StandsOn {C : Type 0} (stands : MsgKind → Bool) (m : Message C) : Type 0 where
@@ -108,11 +82,12 @@ module _ {C : Type 0} where
     pub line : length l.line ≤ LINE_MAX
     pub work : IsWork l.in_work
 
-  -- ptem has a termios too, and pckt nothing
+  -- ptem has a termios too, pckt nothing, and one of a user's own its number and settings
   abbrev pub GoodKind : Module C → Type 0
   GoodKind (OfLdterm l) = GoodLdterm l
   GoodKind (OfPtem p) = IsWhole p.termios
   GoodKind (OfPckt p) = Unit {0}
+  GoodKind (OfOwn o) = GoodOwn o
 
   -- what stands on the queues of a module
   abbrev pub GoodPair : Option (QueuePair C) → Type 0

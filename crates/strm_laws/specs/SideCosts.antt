@@ -144,7 +144,7 @@ spot_fits once on place way shape =
 abbrev pub places_fit : Bool → List ModuleName → Bool
 places_fit once on = list_all (λ place. list_all (λ way. list_all (λ shape. spot_fits once on place way shape) shapes) ways) (counted 0 6)
 
--- each name stands once at most
+-- each name of the three stands once at most
 abbrev pub is_once : ModuleName → List ModuleName → Bool
 is_once name on = nat_le (count_by (λ n. same_module n name) on) 1
 
@@ -154,9 +154,12 @@ are_once on = is_once names.Ldterm on && (is_once names.Ptem on && is_once names
 abbrev pub stack_fits : Bool → List ModuleName → Bool
 stack_fits once on = (once && not (are_once on)) || (crossings_fit once on && places_fit once on)
 
--- a test of all stacks of at most so many modules
-abbrev pub all_stacks : ℕ → (List ModuleName → Bool) → Bool
-all_stacks zero test = test []
-all_stacks (suc n) test =
+-- A test of all stacks of at most as many modules as these numbers, one for each place from the top, which is that of a user's own module that stands
+-- there. What a module costs doesn't depend on its number.
+abbrev pub all_stacks : List ℕ → (List ModuleName → Bool) → Bool
+all_stacks [] test = test []
+all_stacks (n ∷ ns) test =
     test []
-    && (all_stacks n (λ on. test (names.Ldterm ∷ on)) && (all_stacks n (λ on. test (names.Ptem ∷ on)) && all_stacks n (λ on. test (names.Pckt ∷ on))))
+    && (all_stacks ns (λ on. test (names.Ldterm ∷ on))
+    && (all_stacks ns (λ on. test (names.Ptem ∷ on))
+    && (all_stacks ns (λ on. test (names.Pckt ∷ on)) && all_stacks ns (λ on. test (names.Own n ∷ on)))))

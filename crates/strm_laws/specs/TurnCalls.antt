@@ -4,6 +4,7 @@ use Rattle.std.specs.Prelude.{ℕ, ◌≡◌, ◌-◌, Bool, false, List, ◌++�
 use Rattle.strm_laws.specs.Prelude.{HOPS, Spot, plain, Acted, Carried, carried, in_turn, Ends, disciplined, Discipline, new_ldterm, at_place}
 use Rattle.strm_laws.specs.Prelude.{act_among, new_pair}
 use Rattle.strm_types.specs.Ldterms.{Ldterm}
+use Rattle.strm_laws.specs.Behaviours.{Behaviour}
 use Rattle.strm_laws.specs.Puts.{module_acted, put_in}
 use Rattle.strm_laws.specs.Stacked.{Module, OfLdterm, Standing, module_serves}
 use Rattle.strm_laws.specs.State.{State, stream}
@@ -37,14 +38,14 @@ module _ (here : Spot) where
     abbrev pub asks_on : List (Standing ℕ) → Bool
     asks_on ps = at_place (λ p. (module_serves plain here 0 again stop p).again) false here.at ps
 
-    -- what it leads to, with what it sent
-    abbrev pub led : State ℕ → Carried ℕ (State ℕ)
-    led s =
-        let t = module_acted here (called (stream here.side s).modules) s in
-        let u = in_turn (carried (put_in plain) HOPS) t.sent t.state in
-        record { state = u.state; gone = t.gone ++ u.gone }
-
   -- Where a call stops, it did so at what it treated, and what had begun is among that.
   abbrev pub Stopped : Bool → State ℕ → Option ℕ → Type 0
   Stopped again s None = Unit {0}
   Stopped again s (Some bytes) = (bytes ≡ treated again (Some bytes) (stream here.side s).modules) × Ends here.way again (discipline_of (module_at s)) bytes
+
+-- what a call leads to, with what it sent
+abbrev pub led : Behaviour → Spot → Bool → Option ℕ → State ℕ → Carried ℕ (State ℕ)
+led K here again stop s =
+    let t = module_acted here (called here again stop (stream here.side s).modules) s in
+    let u = in_turn (carried (put_in K plain) HOPS) t.sent t.state in
+    record { state = u.state; gone = t.gone ++ u.gone }

@@ -5,6 +5,7 @@ use Rattle.strm_laws.specs.Prelude.{is_none_left, left_with, relieved, relieves,
 use Rattle.strm_laws.specs.Prelude.{enable_if, enable_some}
 use Rattle.strm_types.specs.declared.names.Place.TheVariants.{Head}
 use Rattle.strm_types.specs.declared.names.Place.TheVariants as places
+use Rattle.strm_laws.specs.Behaviours.{Behaviour}
 use Rattle.strm_laws.specs.Puts.{delivered}
 use Rattle.strm_laws.specs.Earlier.{before_driver, driver_place, modules_on}
 use Rattle.strm_laws.specs.ModuleTurns.{module_turned, whole_module}
@@ -41,10 +42,10 @@ module _ {C : Type 0} where
       }
 
   -- a message taken off the driver's queue of a side goes up the other side's stream, with all that it gives rise to
-  abbrev pub moved_across : Cells C → Side → Message C → List (Message C) → State C → TurnOutcome C
-  moved_across cells side m rest s =
+  abbrev pub moved_across : Behaviour → Cells C → Side → Message C → List (Message C) → State C → TurnOutcome C
+  moved_across K cells side m rest s =
       let from = with_driver side (left_with rest (stream side s).driver.queue) s in
-      let t = delivered cells (up_across side from) m from in
+      let t = delivered K cells (up_across side from) m from in
       record { turn = Moved (size_of m); state = turn_ended side (size_of m) t.state; gone = t.gone }
 
   -- the nearest queue past the driver on the way up the other side's stream has no room for the message
@@ -57,29 +58,29 @@ module _ {C : Type 0} where
 
   -- A driver sends its first message up the other side's stream, unless that isn't open, or the next queue there is full in the
   -- message's band.
-  abbrev pub driver_serves : Cells C → Side → List (Message C) → State C → TurnOutcome C
-  driver_serves cells side [] s = stayed_put Idle (with_driver side (record (stream side s).driver.queue { want_read = true }) s)
-  driver_serves cells side (m ∷ rest) s =
+  abbrev pub driver_serves : Behaviour → Cells C → Side → List (Message C) → State C → TurnOutcome C
+  driver_serves K cells side [] s = stayed_put Idle (with_driver side (record (stream side s).driver.queue { want_read = true }) s)
+  driver_serves K cells side (m ∷ rest) s =
       let above = stream (other side) s in
       let waits = with_driver side (held_back (stream side s).driver.queue) s in
       if not (is_open above.opened) then stayed_put Blocked waits
       else (if is_stopped_across side m s then stayed_put Blocked (blocked_across side m waits)
-      else moved_across cells side m rest s)
+      else moved_across K cells side m rest s)
 
   -- a turn of the driver of a side, taken off the enabled list
-  abbrev pub driver_turned : Cells C → Side → State C → TurnOutcome C
-  driver_turned cells side s = driver_serves cells side (stream side s).driver.queue.messages s
+  abbrev pub driver_turned : Behaviour → Cells C → Side → State C → TurnOutcome C
+  driver_turned K cells side s = driver_serves K cells side (stream side s).driver.queue.messages s
 
   -- by what the queue belongs to: heads have no service procedure
-  abbrev pub turned_at : Cells C → Place → QueueName → Turn → State C → TurnOutcome C
-  turned_at cells Driver name turn s = driver_turned cells name.side s
-  turned_at cells Head name turn s = stayed_put Idle s
-  turned_at cells (places.Module owner) name turn s = module_turned cells name turn s
+  abbrev pub turned_at : Behaviour → Cells C → Place → QueueName → Turn → State C → TurnOutcome C
+  turned_at K cells Driver name turn s = driver_turned K cells name.side s
+  turned_at K cells Head name turn s = stayed_put Idle s
+  turned_at K cells (places.Module owner) name turn s = module_turned K cells name turn s
 
   -- A turn of an enabled queue, which is answered so. Where a service procedure may stop within a message, the answer says
   -- how far it went.
-  abbrev pub turned : Cells C → QueueName → Turn → State C → TurnOutcome C
-  turned cells name turn s = turned_at cells name.place name turn (record s { enabled = without name s.enabled })
+  abbrev pub turned : Behaviour → Cells C → QueueName → Turn → State C → TurnOutcome C
+  turned K cells name turn s = turned_at K cells name.place name turn (record s { enabled = without name s.enabled })
 
   -- the answer of a turn that treats the first message of its queue whole
   abbrev pub whole_at : Place → Way → Stream C → Turn

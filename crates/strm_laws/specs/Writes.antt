@@ -2,6 +2,7 @@
 -- Programming Guide, "Flow Control").
 use Rattle.std.specs.Prelude.{ℕ, ◌+◌, if◌then◌else◌, List, [], ◌∷◌, ◌++◌, length, map, Bool, not}
 use Rattle.strm_laws.specs.Prelude.{Side, Down, Spot, Cells, Fate, data_message, map_fate, chunk_count, chunks_of}
+use Rattle.strm_laws.specs.Behaviours.{Behaviour}
 use Rattle.strm_laws.specs.Puts.{delivered}
 use Rattle.strm_laws.specs.State.{State, map_state}
 use Rattle.strm_laws.specs.Past.{has_room_past}
@@ -22,17 +23,17 @@ module _ {C : Type 0} where
   is_full_below band side s = not (has_room_past side Down 0 band s)
 
   -- Each chunk in turn goes down as an ordinary message, while band 0 of the first queue below isn't full.
-  abbrev pub chunks_sent : Cells C → Side → List (List C) → State C → Wrote C
-  chunks_sent cells side [] s = record { taken = 0; state = s; gone = [] }
-  chunks_sent cells side (chunk ∷ chunks) s =
+  abbrev pub chunks_sent : Behaviour → Cells C → Side → List (List C) → State C → Wrote C
+  chunks_sent K cells side [] s = record { taken = 0; state = s; gone = [] }
+  chunks_sent K cells side (chunk ∷ chunks) s =
       if is_full_below 0 side s then record { taken = 0; state = s; gone = [] }
-      else (let t = delivered cells (below_head side) (data_message chunk) s in
-      let more = chunks_sent cells side chunks t.state in
+      else (let t = delivered K cells (below_head side) (data_message chunk) s in
+      let more = chunks_sent K cells side chunks t.state in
       record { taken = length chunk + more.taken; state = more.state; gone = t.gone ++ more.gone })
 
   -- a write of these cells
-  abbrev pub cells_sent : Cells C → Side → List C → State C → Wrote C
-  cells_sent cells side xs s = chunks_sent cells side (chunks_of (chunk_count (length xs)) xs) s
+  abbrev pub cells_sent : Behaviour → Cells C → Side → List C → State C → Wrote C
+  cells_sent K cells side xs s = chunks_sent K cells side (chunks_of (chunk_count (length xs)) xs) s
 
 -- the same of other cells
 abbrev pub map_wrote : {C D : Type 0} → (C → D) → Wrote C → Wrote D

@@ -30,6 +30,8 @@ ghost use Rattle.strm_types.specs.Head.{head_read};
 ghost use Rattle.strm_types.specs.Reads.{head_draw, read_refusal, takes_none, stopped, map_drawn, OfOneMessage, IsData};
 ghost use Rattle.strm_types.specs.Gets.{head_get, get_refusal, got_none, map_got};
 
+use crate::behaviours::Behaves;
+
 /// Nothing is lost or made: whatever test on bytes is chosen, those that a read gives, discards and drops, and those that stay,
 /// are those that stood there. A read gives no more than was asked for. Bytes are discarded under RMSGD alone, and dropped
 /// under RPROTDIS alone.
@@ -89,28 +91,28 @@ pub fn gets_keep_cells<C>()
 
 /// What a stream head keeps for its caller is bounded: each signal waits once, so that no more than 31 wait, and the answer of
 /// an ioctl has at most 256 bytes. It is so in a new pair, behind each put at a head, and behind each step of a pair.
-pub fn heads_keep_little<C>()
+pub fn heads_keep_little<C, K: Behaves>()
     ensures opening { (s : State C) → s ≡ opening → AreWithin s }
     ensures put { (here : Spot) (m : Message C) (h : Head C) → IsWithin h → IsWithin (head_put here m h).state }
     ensures step { (cells : Cells C) (old new : State C) (entry : PlainEntry) → AreWithin old →
-        Step cells old entry new → AreWithin new }
+        Step K.does cells old entry new → AreWithin new }
     ensures signals { (ns : List ℕ) → AreSignals ns → length ns ≤ SIGNAL_LAST }
 {}
 
 /// The answer of an ioctl is given once. Behind a call for it that isn't refused, a call for the answer of any number is EINVAL,
 /// and another ioctl may begin. An ioctl that tells a number waits: a call for the answer of that number is EAGAIN. Any other one
 /// has given its answer itself.
-pub fn ioctls_are_answered_once<C>()
+pub fn ioctls_are_answered_once<C, K: Behaves>()
     ensures once { (cells : Cells C) (caller : Caller) (number asked : ℕ) (s : State C) →
-        refused_by_state s caller (IoctlResult number) ≡ None →
-        refused_by_state (called cells caller (IoctlResult number) s).state caller (IoctlResult asked) ≡ Some Einval }
+        refused_by_state K.does s caller (IoctlResult number) ≡ None →
+        refused_by_state K.does (called K.does cells caller (IoctlResult number) s).state caller (IoctlResult asked) ≡ Some Einval }
     ensures next { (cells : Cells C) (caller : Caller) (number command : ℕ) (body : List ℕ) (s : State C) →
-        refused_by_state s caller (IoctlResult number) ≡ None →
-        refused_by_state (called cells caller (IoctlResult number) s).state caller (Ioctl command body) ≡ None }
+        refused_by_state K.does s caller (IoctlResult number) ≡ None →
+        refused_by_state K.does (called K.does cells caller (IoctlResult number) s).state caller (Ioctl command body) ≡ None }
     ensures waits { (cells : Cells C) (caller : Caller) (command number : ℕ) (body : List ℕ) (s : State C) →
-        (called cells caller (Ioctl command body) s).answer ≡ Pending number →
-        refused_by_state (called cells caller (Ioctl command body) s).state caller (IoctlResult number) ≡ Some Eagain }
+        (called K.does cells caller (Ioctl command body) s).answer ≡ Pending number →
+        refused_by_state K.does (called K.does cells caller (Ioctl command body) s).state caller (IoctlResult number) ≡ Some Eagain }
     ensures at_once { (cells : Cells C) (caller : Caller) (command asked : ℕ) (body : List ℕ) (s : State C) →
-        (refused_by_state (called cells caller (Ioctl command body) s).state caller (IoctlResult asked) ≡ Some Einval)
-        ⊎ ((number : ℕ) × ((called cells caller (Ioctl command body) s).answer ≡ Pending number)) }
+        (refused_by_state K.does (called K.does cells caller (Ioctl command body) s).state caller (IoctlResult asked) ≡ Some Einval)
+        ⊎ ((number : ℕ) × ((called K.does cells caller (Ioctl command body) s).answer ≡ Pending number)) }
 {}

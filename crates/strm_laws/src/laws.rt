@@ -30,6 +30,8 @@ ghost use Rattle.strm_types.specs.Origins.{PutsAgree, CarriesAgree};
 ghost use Rattle.strm_types.specs.Journal.{PlainEntry, content_max, event_len, answer_len, request_in, reply_in, entry_in};
 ghost use Rattle.strm_laws.specs.Step.{Step, replay};
 
+use crate::behaviours::Behaves;
+
 /// putq(9F): in an ordered queue the lane of the message's rank has it at its end, no other lane changes, and the queue
 /// stays in order.
 pub fn put_joins_its_lane<C>()
@@ -90,16 +92,16 @@ pub fn entries_read_back()
 
 /// No answer has more bytes than the journal is asked to have room for, nor more than one buffer of answers takes. What a head
 /// keeps for its caller is bounded, which is so in a new pair and behind each step (`heads_keep_little`).
-pub fn answers_fit<C>()
+pub fn answers_fit<C, K: Behaves>()
     ensures content { (cells : Cells C) (caller : Caller) (asked : Request) (s : State C) →
-        AreWithin s → length (content_of (called cells caller asked s).answer) ≤ content_max asked }
+        AreWithin s → length (content_of (called K.does cells caller asked s).answer) ≤ content_max asked }
     ensures buffer { (asked : Request) → content_max asked ≤ CONTENT_MAX }
 {}
 
 /// A longer journal goes on from where the shorter one leads.
-pub fn replay_goes_on<C>()
+pub fn replay_goes_on<C, K: Behaves>()
     ensures { (cells : Cells C) (s : State C) (es fs : List PlainEntry) →
-        replay cells s (es ++ fs) ≡ replay cells (replay cells s es) fs }
+        replay K.does cells s (es ++ fs) ≡ replay K.does cells (replay K.does cells s es) fs }
 {}
 
 /// Forgetting the origins of bytes commutes with putq(9F), putbq(9F) and getq(9F).
@@ -115,13 +117,13 @@ pub fn forgetting_commutes<C, D>()
 /// Whatever stands for bytes, a call (open(2), unlockpt(3C), write(2), read(2), putmsg(2), getmsg(2)) and a turn of a service
 /// procedure (STREAMS Programming Guide, "Service Procedures") answer and do the same as on plain bytes, and let the same
 /// bytes go by the same rules on the way; and so do all entries of a journal.
-pub fn steps_forget_origins<C>()
+pub fn steps_forget_origins<C, K: Behaves>()
     ensures call { (cells : Cells C) (caller : Caller) (asked : Request) (s : State C) → AreCells cells →
-        called plain caller asked (map_state cells.byte s) ≡ map_outcome cells.byte (called cells caller asked s) }
+        called K.does plain caller asked (map_state cells.byte s) ≡ map_outcome cells.byte (called K.does cells caller asked s) }
     ensures turn { (cells : Cells C) (name : QueueName) (turn : Turn) (s : State C) → AreCells cells →
-        turned plain name turn (map_state cells.byte s) ≡ map_turn_outcome cells.byte (turned cells name turn s) }
+        turned K.does plain name turn (map_state cells.byte s) ≡ map_turn_outcome cells.byte (turned K.does cells name turn s) }
     ensures replay { (cells : Cells C) (s : State C) (es : List PlainEntry) → AreCells cells →
-        replay plain (map_state cells.byte s) es ≡ map_state cells.byte (replay cells s es) }
+        replay K.does plain (map_state cells.byte s) es ≡ map_state cells.byte (replay K.does cells s es) }
 {}
 
 /// Nothing is lost, and nothing is made but what is told: whatever test on bytes is chosen, as 'is this very byte', what stands
@@ -129,16 +131,16 @@ pub fn steps_forget_origins<C>()
 /// there before, what a write(2) took or a putmsg(2) sent, and what was made on the way, as an echo is. A head that is opened is as new, so this wants that a side that isn't open has nothing for its
 /// readers; and a module that is popped goes with what it has on its queues and in its line, so this wants that between two turns
 /// it has nothing of a turn under way. Both are so in a new pair and behind each step. A turn of a module's queue may map a byte to another
-/// one, as ldterm's does under ICRNL, so there the test says the same of the two. On a queue a put adds what the message has, and a take takes
-/// it away.
-pub fn bytes_are_kept<C>()
-    ensures step { (cells : Cells C) (p : Dir → C → Bool) (old new : State C) (entry : PlainEntry) → MayTest cells p entry →
-        NothingUnread old → AreIdle old → Step cells old entry new →
-        state_weight p new + weight_gone p (gone cells old entry)
-        ≡ state_weight p old + (count_came cells p old entry + weight_made p (gone cells old entry)) }
+/// one, as ldterm's does under ICRNL, and so may modules of a user's own, so there the test says the same of the two. On a queue a put adds what
+/// the message has, and a take takes it away.
+pub fn bytes_are_kept<C, K: Behaves>()
+    ensures step { (cells : Cells C) (p : Dir → C → Bool) (old new : State C) (entry : PlainEntry) → MayTest K.does cells p entry →
+        NothingUnread old → AreIdle old → Step K.does cells old entry new →
+        state_weight p new + weight_gone p (gone K.does cells old entry)
+        ≡ state_weight p old + (count_came K.does cells p old entry + weight_made p (gone K.does cells old entry)) }
     ensures unread { (cells : Cells C) (old new : State C) (entry : PlainEntry) → NothingUnread old →
-        Step cells old entry new → NothingUnread new }
-    ensures idle { (cells : Cells C) (old new : State C) (entry : PlainEntry) → AreIdle old → Step cells old entry new → AreIdle new }
+        Step K.does cells old entry new → NothingUnread new }
+    ensures idle { (cells : Cells C) (old new : State C) (entry : PlainEntry) → AreIdle old → Step K.does cells old entry new → AreIdle new }
     ensures opening { (s : State C) → s ≡ opening → NothingUnread s × AreIdle s }
     ensures put { (p : C → Bool) (m : Message C) (q : List (Message C)) →
         weight p (put m q) ≡ weight_of p m + weight p q }
@@ -149,8 +151,8 @@ pub fn bytes_are_kept<C>()
 {}
 
 /// No turn opens or closes a side, unlocks the slave, numbers an ioctl or books a byte as written.
-pub fn turns_leave_the_ends<C>()
-    ensures { (cells : Cells C) (name : QueueName) (turn : Turn) (s : State C) → SameButMade s (turned cells name turn s).state }
+pub fn turns_leave_the_ends<C, K: Behaves>()
+    ensures { (cells : Cells C) (name : QueueName) (turn : Turn) (s : State C) → SameButMade s (turned K.does cells name turn s).state }
 {}
 
 /// Where no put loses a cell, or makes one that it doesn't tell, and puts send on no more than tables say, no delivery does that has a

@@ -2,6 +2,7 @@
 //! that does nothing. `specs/` holds the state of a pair, its calls, steps and journal, and the ledger of a direction.
 #![tactic(auto)]
 
+pub mod behaviours;
 pub mod flush_laws;
 pub mod head_laws;
 pub mod laws;
@@ -13,3 +14,5 @@ pub mod ptem_laws;
 pub mod put_laws;
 pub mod rest_laws;
 pub mod restore_laws;
+
+pub use behaviours::Behaves;

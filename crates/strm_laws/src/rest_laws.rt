@@ -18,27 +18,29 @@ ghost use Rattle.strm_laws.specs.State.{State};
 ghost use Rattle.strm_laws.specs.Step.{IsTurn};
 ghost use Rattle.strm_laws.specs.Turns.{turned};
 
+use crate::behaviours::Behaves;
+
 /// A turn of an enabled queue leaves less work: where no ldterm stands on either stream, whichever answer it is given; and where one ldterm stands
 /// there, with no pckt below it, of a pair that an image may hold, as each is. A turn of ldterm's treats a byte at least of a message that has any,
 /// which is enough, however short blocks are. Two ldterms that echo each other don't come to rest.
-pub fn turns_leave_less<C>()
+pub fn turns_leave_less<C, K: Behaves>()
     ensures plain { (cells : Cells C) (name : QueueName) (turn : Turn) (s : State C) → NoLdterm (stands_of s) → is_enabled name s.enabled ≡ true →
-        work (turned cells name turn s).state < work s }
+        work (turned K.does cells name turn s).state < work s }
     ensures echoed { (cells : Cells C) (old new : State C) (name : QueueName) (turn : Turn) → EchoesOnce (stands_of old) → Restorable old →
-        IsTurn cells old name turn new → work new < work old }
+        IsTurn K.does cells old name turn new → work new < work old }
 {}
 
 /// So many turns, each of the queue that was enabled first, took as much work away at least, and there are no more of them than there was. With
 /// room in the journal for as many the next turn isn't refused for the journal's sake: in the end no queue is enabled, or the turn of the first one
 /// that is is refused for another reason. That is none where `STOP_BLOCKS` blocks of each kind are free and no book is full.
-pub fn turns_come_to_rest()
-    ensures plain { (n : ℕ) (old new : PairState) → RanTurns n old new → NoLdterm (stands_of old.state) → n + work new.state ≤ work old.state }
-    ensures echoed { (n : ℕ) (old new : PairState) → RanTurns n old new → EchoesOnce (stands_of old.state) → Restorable old.state →
+pub fn turns_come_to_rest<K: Behaves>()
+    ensures plain { (n : ℕ) (old new : PairState) → RanTurns K.does n old new → NoLdterm (stands_of old.state) → n + work new.state ≤ work old.state }
+    ensures echoed { (n : ℕ) (old new : PairState) → RanTurns K.does n old new → EchoesOnce (stands_of old.state) → Restorable old.state →
         n + work new.state ≤ work old.state }
-    ensures room { (n : ℕ) (old new : PairState) → RanTurns n old new → n + work new.state ≤ work old.state →
+    ensures room { (n : ℕ) (old new : PairState) → RanTurns K.does n old new → n + work new.state ≤ work old.state →
         length old.journal + work old.state ≤ old.limits.journal_events → room_used old.journal ≤ old.limits.journal_bytes →
         next_refused new ≢ Some JournalFull }
-    ensures goes { (n : ℕ) (old new : PairState) → RanTurns n old new → n + work new.state ≤ work old.state →
+    ensures goes { (n : ℕ) (old new : PairState) → RanTurns K.does n old new → n + work new.state ≤ work old.state →
         length old.journal + work old.state ≤ old.limits.journal_events → room_used old.journal ≤ old.limits.journal_bytes →
         in_range new.state ≡ true → enough STOP_BLOCKS new.free ≡ true → next_refused new ≡ None }
 {}

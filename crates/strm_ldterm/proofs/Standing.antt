@@ -44,7 +44,7 @@ module _ (s t : StoreValue) (x x' : Ldterm) (pair pair' : QueuePair) (here : Spo
   PutsAt queues =
       let m = message_in s n in
       let y = standing x queues in
-      frame.Puts (standing_in own_in) (Fits HasInHand) owns (keeps_of keeps_itself) s t y (standing x' (Some pair')) n (own_at ldterm_does here m) acts f f'
+      frame.Puts (standing_in own_in) (Fits HasInHand) owns (keeps_of keeps_itself) s t y (standing x' (Some pair')) true n (own_at ldterm_does here m) acts f f'
       (puts_there here m (standing_in own_in s y))
 
   pub puts-stand : (queues : Option QueuePair) → queues ≡ Some pair
@@ -60,7 +60,7 @@ module _ (s t : StoreValue) (x x' : Ldterm) (pair pair' : QueuePair) (here : Spo
     chains = e.chains;
     hands = record { counts = e.hands.counts; others = e.hands.others };
     spends = e.spends;
-    blocks = blocks;
+    blocks = λ holds. blocks;
     pool = e.pool;
   })
 

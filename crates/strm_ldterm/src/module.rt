@@ -1,13 +1,13 @@
 //! The module, as a stream's stack of modules has it (STREAMS Programming Guide, "Modules").
 
-ghost use Rattle.std.specs.Prelude.{ℕ};
+ghost use Rattle.std.specs.Prelude.{ℕ, true};
 ghost use Rattle.strm_types.specs.declared.names.ModuleName.TheVariants as names;
 
 use crate::asks::asked_on;
 use crate::ldterm::Ldterm;
 use crate::{ldterm, puts, service_calls};
 use strm_blocks::{Blocks, InHand};
-use strm_frame::{Acts, Module, QueuePair, Served};
+use strm_frame::{Acts, Module, PutProcedure, QueuePair, Served};
 use strm_types::{Asks, Fates, ModuleName, Spot, Way};
 
 impl Module for Ldterm {
@@ -15,13 +15,12 @@ impl Module for Ldterm {
     ghost use Rattle.strm_types.specs.LdtermStands as there;
     ghost use Rattle.strm_types.specs.Ldterms as plain;
     ghost use Rattle.strm_types.specs.Tables.{ldterm_does};
-    ghost use Rattle.strm_types.proofs.LdtermWithin.{ldterm-within};
     ghost use Rattle.strm_types.specs.LdtermCalls.{Ends};
     ghost use Rattle.strm_ldterm.specs.Bounds as bounds;
     ghost use Rattle.strm_ldterm.specs.Frames.{own-frame, own-rested};
     ghost use Rattle.strm_ldterm.specs.Resting.{own-rests};
     ghost use Rattle.strm_ldterm.specs.Served as served;
-    ghost use Rattle.strm_ldterm.specs.ServedLaws.{either-served, line-served, puts-served, serves-served};
+    ghost use Rattle.strm_ldterm.specs.ServedLaws.{either-served, line-served, serves-served};
     ghost use Rattle.strm_ldterm.specs.Stands as stands;
 
     ghost Plain = { plain.Ldterm ℕ };
@@ -34,7 +33,7 @@ impl Module for Ldterm {
 
     ghost keeps = { λ x. stands.keeps_itself x };
 
-    ghost puts = { there.puts_there };
+    ghost puts = { λ by here m x. there.puts_there here m x };
 
     ghost line_of = { λ p. p.line };
 
@@ -50,23 +49,12 @@ impl Module for Ldterm {
 
     ghost does = { λ p. ldterm_does };
 
+    ghost holds = { λ p. true };
+
     ghost turn_cost = { bounds.turn_cost };
 
     fn name(&self) -> ModuleName {
         ldterm::name()
-    }
-
-    fn put<B: Blocks>(
-        &mut self,
-        queues: &mut Option<QueuePair>,
-        store: &mut B,
-        here: Spot,
-        message: InHand,
-        told: &mut Fates,
-    ) -> Acts {
-        let Some(pair) = queues else { unreachable!() };
-        store.audit();
-        puts::put(self, pair, store, here, message, told)
     }
 
     fn asks<B: Blocks>(&self, queues: &Option<QueuePair>, store: &B, way: Way) -> Asks {
@@ -96,8 +84,6 @@ impl Module for Ldterm {
         self.line.clear()
     }
 
-    ghost within = { λ here m x. ldterm-within here m (there.discipline_at x) };
-
     ghost frame = { λ s t x queues others lists same held. own-frame s t x queues others lists same held };
 
     ghost rested = { λ s t x queues others lists none held. own-rested s t x queues others lists none held };
@@ -108,7 +94,31 @@ impl Module for Ldterm {
 
     ghost turn_goes = { λ here again stop x may. serves-served cells.plain here 0 again stop (there.discipline_at x) may };
 
-    ghost put_stays = { λ here m x way again may. puts-served here m way again (there.discipline_at x) may };
-
     ghost line_stays = { λ p way again may. line-served way again p may };
+}
+
+impl PutProcedure<()> for Ldterm {
+    ghost use Rattle.std.specs.Prelude.{[]};
+    ghost use Rattle.strm_types.specs.LdtermStands as there;
+    ghost use Rattle.strm_types.proofs.LdtermWithin.{ldterm-within};
+    ghost use Rattle.strm_ldterm.specs.ServedLaws.{puts-served};
+
+    ghost by = { λ here m x. record { state = x; notes = []; sent = []; gone = [] } };
+
+    fn put<B: Blocks>(
+        &mut self,
+        queues: &mut Option<QueuePair>,
+        store: &mut B,
+        here: Spot,
+        message: InHand,
+        told: &mut Fates,
+    ) -> Acts {
+        let Some(pair) = queues else { unreachable!() };
+        store.audit();
+        puts::put(self, pair, store, here, message, told)
+    }
+
+    ghost within = { λ here m x. ldterm-within here m (there.discipline_at x) };
+
+    ghost put_stays = { λ here m x way again may. puts-served here m way again (there.discipline_at x) may };
 }

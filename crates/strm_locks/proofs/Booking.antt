@@ -10,6 +10,7 @@ use Rattle.strm_types.specs.declared.refusals.Refusal.{Refusal}
 use Rattle.strm_types.specs.Events.{Request, Reply}
 use Rattle.strm_types.specs.Journal.{PlainEntry, answer_len}
 use Rattle.strm_types.specs.Names.{is_enabled}
+use Rattle.strm_laws.proofs.NoOwn.{none as no_own}
 use Rattle.strm_laws.specs.Pair.{PairState, AddsEntry, call_refused}
 use Rattle.strm_laws.proofs.Replay.{refused-by}
 use Rattle.strm_locks.specs.declared.end.TheConstants.{ALL_PARTS}
@@ -35,11 +36,11 @@ calls-turned (Called c a r ∷ es) name turn = ap (λ xs. Called c a r ∷ xs) (
 calls-turned (Turned n t ∷ es) name turn = calls-turned es name turn
 
 -- all entries of a pair that gains one
-entered : (p q : PairState) (e : PlainEntry) → AddsEntry p q e → q.past ++ q.journal ≡ (p.past ++ p.journal) ++ e ∷ []
+entered : (p q : PairState) (e : PlainEntry) → AddsEntry no_own p q e → q.past ++ q.journal ≡ (p.past ++ p.journal) ++ e ∷ []
 entered p q e adds = ap (λ es. es ++ q.journal) adds.past ∙ ap (λ es. p.past ++ es) adds.journal ∙ sym (append_assoc p.past p.journal (e ∷ []))
 
 module _ (p q : PairState) where
-  module _ (caller : Caller) (asked : Request) (answer : Reply) (adds : AddsEntry p q (Called caller asked answer)) where
+  module _ (caller : Caller) (asked : Request) (answer : Reply) (adds : AddsEntry no_own p q (Called caller asked answer)) where
     longer : history_of q ≡ history_of p ++ Called caller asked answer ∷ []
     longer =
         ap (λ es. calls_in es) (entered p q (Called caller asked answer) adds) ∙ calls-called (p.past ++ p.journal) caller asked answer
@@ -58,7 +59,7 @@ module _ (p q : PairState) where
         bytes (suc (suc zero)) = tally.read MasterToSlave
         bytes (suc (suc (suc i))) = tally.read SlaveToMaster
 
-  module _ (name : QueueName) (turn : Turn) (adds : AddsEntry p q (Turned name turn)) where
+  module _ (name : QueueName) (turn : Turn) (adds : AddsEntry no_own p q (Turned name turn)) where
     as_long : history_of q ≡ history_of p
     as_long = ap (λ es. calls_in es) (entered p q (Turned name turn) adds) ∙ calls-turned (p.past ++ p.journal) name turn
 
@@ -104,30 +105,30 @@ module _ (p q : PairState) (name : QueueName) (x : Result Turn Refusal) (calls l
   abbrev Stays : Type 0
   Stays = (IsKept calls left p → IsKept calls left q) × (book_of calls q left ≡ book_of calls p left)
 
-  pub turn-still : (o : Option Refusal) → MatchOption o (IsOk x) (λ r. (x ≡ Err r) × (q ≡ p)) → IfOk x (λ t. AddsEntry p q (Turned name t)) → IfOk x (λ t. Tallies p q (Turned name t)) → Stays
+  pub turn-still : (o : Option Refusal) → MatchOption o (IsOk x) (λ r. (x ≡ Err r) × (q ≡ p)) → IfOk x (λ t. AddsEntry no_own p q (Turned name t)) → IfOk x (λ t. Tallies p q (Turned name t)) → Stays
   turn-still o refused adds tally = at x refl adds tally
     where
-      at : (y : Result Turn Refusal) → x ≡ y → IfOk y (λ t. AddsEntry p q (Turned name t)) → IfOk y (λ t. Tallies p q (Turned name t)) → Stays
+      at : (y : Result Turn Refusal) → x ≡ y → IfOk y (λ t. AddsEntry no_own p q (Turned name t)) → IfOk y (λ t. Tallies p q (Turned name t)) → Stays
       at (Ok t) is adds tally = (keeps-still p q name t adds calls left, book-still p q name t adds calls left tally)
       at (Err r) is adds tally = let same : q ≡ p = (refused-by o x refused r is).1 in (subst (λ z. IsKept calls left z) (sym same), ap (λ z. book_of calls z left) same)
 
 -- the book of a pair that is called: it is open then, and no longer as new
-pub call-keeps : (p q : PairState) (caller : Caller) (asked : Request) (answer : Reply) (calls left left' : ℕ) → AddsEntry p q (Called caller asked answer) → left' ≢ ALL_PARTS
+pub call-keeps : (p q : PairState) (caller : Caller) (asked : Request) (answer : Reply) (calls left left' : ℕ) → AddsEntry no_own p q (Called caller asked answer) → left' ≢ ALL_PARTS
     → IsKept calls left p → IsKept (min (calls + 1) 18446744073709551615) left' q
 call-keeps p q caller asked answer calls left left' adds used kept =
     record { counted = counts-on p q caller asked answer adds calls kept.counted; unopened = λ all. absurd (used all); opened = λ _. omega arith }
 
 -- what a call did, by what it ensures
 module _ (a b : Kept) (caller : Caller) (asked : Request) (before bytes : List ℕ) where
-  pub did : (M : Type 0) → (M → bytes ≡ before) → (x : Outcome) → MatchOption (call_refused a.pair caller asked) (IsOk x) (λ r. (x ≡ Err r) × ((b ≡ a) × M))
-      → IfOk x (λ y. Adds a.book (entry_of caller asked bytes y) b.book) → IfOk x (λ y. AddsEntry a.pair b.pair (entry_of caller asked bytes y)) → IfOk x (λ y. answer_len y ≡ length bytes)
+  pub did : (M : Type 0) → (M → bytes ≡ before) → (x : Outcome) → MatchOption (call_refused no_own a.pair caller asked) (IsOk x) (λ r. (x ≡ Err r) × ((b ≡ a) × M))
+      → IfOk x (λ y. Adds a.book (entry_of caller asked bytes y) b.book) → IfOk x (λ y. AddsEntry no_own a.pair b.pair (entry_of caller asked bytes y)) → IfOk x (λ y. answer_len y ≡ length bytes)
       → Did a caller asked before bytes x b
   did M stays x refused = at x refl
     where
-      at : (y : Outcome) → x ≡ y → IfOk y (λ z. Adds a.book (entry_of caller asked bytes z) b.book) → IfOk y (λ z. AddsEntry a.pair b.pair (entry_of caller asked bytes z))
+      at : (y : Outcome) → x ≡ y → IfOk y (λ z. Adds a.book (entry_of caller asked bytes z) b.book) → IfOk y (λ z. AddsEntry no_own a.pair b.pair (entry_of caller asked bytes z))
           → IfOk y (λ z. answer_len z ≡ length bytes) → Did a caller asked before bytes y b
       at (Ok z) is book adds filled = (book, record { adds = adds; filled = filled })
-      at (Err r) is book adds filled = let t = refused-by (call_refused a.pair caller asked) x refused r is in (t.1.0, stays t.1.1, t.0)
+      at (Err r) is book adds filled = let t = refused-by (call_refused no_own a.pair caller asked) x refused r is in (t.1.0, stays t.1.1, t.0)
 
   -- no number of the book falls
   pub below-did : (x : Outcome) → Did a caller asked before bytes x b → a.book.totals.calls < 18446744073709551616 → IsBelow a.book.totals b.book.totals

@@ -15,6 +15,7 @@ use Rattle.strm_types.specs.declared.refusals.NoMemory.{NoMemory}
 use Rattle.strm_types.specs.declared.refusals.Refusal.{Refusal}
 use Rattle.strm_types.specs.Events.{Request}
 use Rattle.strm_types.specs.Journal.{PlainEntry}
+use Rattle.strm_laws.proofs.NoOwn.{none as no_own}
 use Rattle.strm_laws.specs.Pair.{PairState, AddsEntry, queue_refused}
 use Rattle.strm_laws.proofs.Replay.{refused-by}
 use Rattle.strm_image.specs.declared.trace.Trace.{Trace}
@@ -244,7 +245,7 @@ if_ok X (Err r) A B f a = a
 
 pub visits_sized : (p : PairState) (made : Option Made) (q : PairState) → Visits p made q → q.limits ≡ p.limits
 visits_sized p None q v = ap (λ (z : PairState). z.limits) v.1
-visits_sized p (Some m) q v = sized_by (queue_refused p m.queue) Turn m.answer p q v.refused (if_ok Turn m.answer (λ t. AddsEntry p q (Turned m.queue t)) (λ _. q.limits ≡ p.limits) (λ t a. a.limits) v.adds)
+visits_sized p (Some m) q v = sized_by (queue_refused p m.queue) Turn m.answer p q v.refused (if_ok Turn m.answer (λ t. AddsEntry no_own p q (Turned m.queue t)) (λ _. q.limits ≡ p.limits) (λ t a. a.limits) v.adds)
 
 pub cuts_sized : (p : PairState) (r : Result Trace NoMemory) (q : PairState) → Cuts p r q → q.limits ≡ p.limits
 cuts_sized p (Ok t) q c = ap (λ (z : PairState). z.limits) c.1

@@ -8,6 +8,7 @@ use Rattle.strm_types.specs.declared.refusals.Refusal.TheVariants.{Einval, Eagai
 use Rattle.strm_types.specs.Names.{is_open}
 use Rattle.strm_types.specs.Needs.{needs}
 use Rattle.strm_types.specs.Refused.{or_else, unless}
+use Rattle.strm_laws.proofs.NoOwn.{none as no_own}
 use Rattle.strm_laws.specs.Pair.{PairState, call_refused}
 use Rattle.strm_laws.specs.Refusals.{blocks_asked, enough, has_room}
 
@@ -28,14 +29,14 @@ flat : (a : Bool) (o : Option Refusal) → or_else (or_else (unless a Enxio) Non
 flat true o = refl
 flat false o = refl
 
-never : (p : PairState) (caller : Caller) → is_erange (call_refused p caller OpenSlave) ≡ false
+never : (p : PairState) (caller : Caller) → is_erange (call_refused no_own p caller OpenSlave) ≡ false
 never p caller =
     let room = has_room p.journal p.limits ((needs OpenSlave).brings + (needs OpenSlave).gives) in
     let blocks = enough (blocks_asked OpenSlave) p.free in
     let rest : Option Refusal = or_else (unless room JournalFull) (or_else (unless blocks Enosr) (or_else (unless (not (is_open p.state.ends.slave.opened)) Einval) (unless (not p.state.locked) Eagain))) in
     ap is_erange (flat (is_open p.state.ends.master.opened) rest) ∙ others (is_open p.state.ends.master.opened) room blocks (not (is_open p.state.ends.slave.opened)) (not p.state.locked)
 
-pub not_erange : (p : PairState) (caller : Caller) (z : Refusal) → call_refused p caller OpenSlave ≡ Some z → z ≢ Erange
+pub not_erange : (p : PairState) (caller : Caller) (z : Refusal) → call_refused no_own p caller OpenSlave ≡ Some z → z ≢ Erange
 not_erange p caller z r same = let is : true ≡ false = sym (ap is_erange (r ∙ ap (λ (x : Refusal). Some x) same)) ∙ never p caller in absurd (cc)
 
 -- the value that a result is said to have

@@ -11,6 +11,7 @@ use Rattle.strm_types.specs.declared.refusals.Refusal.TheVariants.{Einval}
 use Rattle.strm_types.specs.Events.{Request}
 use Rattle.strm_types.specs.JobControl.{caller_of}
 use Rattle.strm_types.specs.Journal.{PlainEntry, answer_len, reply_in}
+use Rattle.strm_laws.proofs.NoOwn.{none as no_own}
 use Rattle.strm_laws.specs.Pair.{PairState, AddsEntry, call_refused}
 use Rattle.strm_locks.specs.declared.end.TheConstants.{ALL_PARTS}
 use Rattle.strm_locks.specs.declared.told.Told.{Told}
@@ -81,20 +82,20 @@ pub record Tells (p : PairState) (e : PlainEntry) (more : Told) : Type 0 where
 
 -- The pair p makes just this call and becomes q: its journal gains the entry, and the caller's buffer has just the bytes that it gives.
 pub record Makes (p : PairState) (caller : Caller) (asked : Request) (bytes : List ℕ) (x : Answer ℕ) (q : PairState) : Type 0 where
-  pub adds : AddsEntry p q (entry_of caller asked bytes x)
+  pub adds : AddsEntry no_own p q (entry_of caller asked bytes x)
   pub filled : answer_len x ≡ length bytes
 
 -- What a call does to the pair p, which becomes q, and to the bytes in the caller's buffer: it is made; or the pair has a reason, and both stay
 abbrev pub Does : PairState → Caller → Request → List ℕ → List ℕ → Outcome → PairState → Type 0
 Does p caller asked before bytes r q = MatchResult r
     (λ x. Makes p caller asked bytes x q)
-    (λ z. (q ≡ p) × (bytes ≡ before) × (call_refused p caller asked ≡ Some z))
+    (λ z. (q ≡ p) × (bytes ≡ before) × (call_refused no_own p caller asked ≡ Some z))
 
 -- A call by a pair's book: where it is answered the book gains its entry; else the pair has a reason, and the pair, the book and the bytes in the caller's buffer stay
 abbrev pub Did : Kept → Caller → Request → List ℕ → List ℕ → Outcome → Kept → Type 0
 Did a caller asked before bytes r b = MatchResult r
     (λ x. Adds a.book (entry_of caller asked bytes x) b.book × Makes a.pair caller asked bytes x b.pair)
-    (λ z. (b ≡ a) × (bytes ≡ before) × (call_refused a.pair caller asked ≡ Some z))
+    (λ z. (b ≡ a) × (bytes ≡ before) × (call_refused no_own a.pair caller asked ≡ Some z))
 
 -- the book has grown by these numbers, which fit
 pub record Grew (b : Book) (more : Told) (c : Book) : Type 0 where
@@ -115,7 +116,7 @@ opener = caller_of Master
 
 -- Why a pair isn't opened: it was opened before, and is an end's, or was dropped with one; else nobody opened it, and it refuses the call for this
 abbrev pub IsShut : PairState → Refusal → Type 0
-IsShut p z = ((0 < length (history_of p)) × (z ≡ Einval)) ⊎ (IsNew p × (call_refused p opener OpenMaster ≡ Some z))
+IsShut p z = ((0 < length (history_of p)) × (z ≡ Einval)) ⊎ (IsNew p × (call_refused no_own p opener OpenMaster ≡ Some z))
 
 -- The call that opens the master of a pair that nobody opened takes all parts out of the book.
 abbrev pub Opens : Kept → List ℕ → Outcome → Kept → Type 0

@@ -3,6 +3,7 @@ use Rattle.std.specs.Prelude.{◌≡◌, List, [], ◌∷◌, ◌++◌, Option, 
 use Rattle.strm_types.specs.declared.entries.Entry.TheVariants.{Turned}
 use Rattle.strm_types.specs.declared.refusals.NoMemory.{NoMemory}
 use Rattle.strm_types.specs.declared.refusals.Refusal.{Refusal}
+use Rattle.strm_laws.proofs.NoOwn.{none as no_own}
 use Rattle.strm_laws.specs.Pair.{PairState, AddsEntry, Stops, queue_refused, restarted}
 use Rattle.strm_image.specs.declared.trace.Trace.{Trace}
 use Rattle.strm_image.specs.Traces.{IsTrace}
@@ -15,7 +16,7 @@ use Rattle.strm_locks.specs.Sounds.{IsSoundAt}
 pub record Makes (p : PairState) (m : Made) (q : PairState) : Type 0 where
   pub first : slice_get p.state.enabled 0 ≡ Some m.queue
   pub refused : MatchOption (queue_refused p m.queue) (IsOk m.answer) (λ r. (m.answer ≡ Err r) × (q ≡ p))
-  pub adds : IfOk m.answer (λ t. AddsEntry p q (Turned m.queue t))
+  pub adds : IfOk m.answer (λ t. AddsEntry no_own p q (Turned m.queue t))
   pub stops : IfOk m.answer (λ t. Stops p q m.queue t)
 
 -- a visit to the pair p, which becomes q: one turn, or none where no queue is enabled

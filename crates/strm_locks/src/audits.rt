@@ -4,6 +4,7 @@ ghost use Rattle.std.specs.Prelude.{◌≡◌, ◌<◌, Some, length, slice_get}
 ghost use Rattle.strm_types.specs.declared.names.Dir.{Dir};
 ghost use Rattle.strm_types.specs.declared.names.Dir.TheVariants.{MasterToSlave, SlaveToMaster};
 ghost use Rattle.strm_types.specs.Cells.{Origin, plain};
+ghost use Rattle.strm_laws.proofs.NoOwn.{none as no_own};
 ghost use Rattle.strm_laws.specs.Kept.{told_by};
 ghost use Rattle.strm_laws.specs.Ledgers.{Balanced, ledger_of};
 ghost use Rattle.strm_laws.specs.State.{AreOrdered};
@@ -79,12 +80,12 @@ impl<P: Object> Lock<P> {
     pub fn audit<R: Wait>(&self, rt: &R) -> Audit<P>
         ensures here { result.visit.lock ≡ self.now }
         ensures sizes { Found result.visit (λ p. p.limits ≡ self.now.sizes) }
-        ensures legal { Found result.visit (λ p. IsLegal plain p.base p.journal) }
-        ensures stands { Found result.visit (λ p. p.state ≡ replay plain p.base p.journal) }
+        ensures legal { Found result.visit (λ p. IsLegal no_own plain p.base p.journal) }
+        ensures stands { Found result.visit (λ p. p.state ≡ replay no_own plain p.base p.journal) }
         ensures ordered { Found result.visit (λ p. AreOrdered p.state) }
         ensures blocks { Found result.visit HasBlocks }
         ensures balanced { Found result.visit (λ p. (dir : Dir) → Balanced dir p.state p.fates) }
-        ensures gone { Found result.visit (λ p. p.fates ≡ told_by plain p.base p.journal p.base_fates) }
+        ensures gone { Found result.visit (λ p. p.fates ≡ told_by no_own plain p.base p.journal p.base_fates) }
         ensures once { Found result.visit (λ p. (o : Origin) → IsPlacedOnce o p) }
         ensures ledgers { Found result.visit (λ p.
             (result.ms ≡ ledger_of MasterToSlave p.state p.fates) × (result.sm ≡ ledger_of SlaveToMaster p.state p.fates)) }
@@ -101,12 +102,12 @@ impl<P: Object> System<P> {
         requires { pair < length self.now.locks }
         ensures here { slice_get self.now.locks pair ≡ Some result.visit.lock }
         ensures sizes { Found result.visit (λ p. p.limits ≡ result.visit.lock.sizes) }
-        ensures legal { Found result.visit (λ p. IsLegal plain p.base p.journal) }
-        ensures stands { Found result.visit (λ p. p.state ≡ replay plain p.base p.journal) }
+        ensures legal { Found result.visit (λ p. IsLegal no_own plain p.base p.journal) }
+        ensures stands { Found result.visit (λ p. p.state ≡ replay no_own plain p.base p.journal) }
         ensures ordered { Found result.visit (λ p. AreOrdered p.state) }
         ensures blocks { Found result.visit HasBlocks }
         ensures balanced { Found result.visit (λ p. (dir : Dir) → Balanced dir p.state p.fates) }
-        ensures gone { Found result.visit (λ p. p.fates ≡ told_by plain p.base p.journal p.base_fates) }
+        ensures gone { Found result.visit (λ p. p.fates ≡ told_by no_own plain p.base p.journal p.base_fates) }
         ensures once { Found result.visit (λ p. (o : Origin) → IsPlacedOnce o p) }
         ensures ledgers { Found result.visit (λ p.
             (result.ms ≡ ledger_of MasterToSlave p.state p.fates) × (result.sm ≡ ledger_of SlaveToMaster p.state p.fates)) }

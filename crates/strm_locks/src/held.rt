@@ -5,6 +5,7 @@ ghost use Rattle.std.specs.Prelude.{◌≡◌, ◌≢◌, length, MatchOption, I
 ghost use Rattle.strm_types.specs.declared.entries.Entry.TheVariants.{Called, Turned};
 ghost use Rattle.strm_types.specs.Events.{request};
 ghost use Rattle.strm_types.specs.Journal.{answer_len, reply_in};
+ghost use Rattle.strm_laws.proofs.NoOwn.{none as no_own};
 ghost use Rattle.strm_laws.specs.Pair.{AddsEntry, Stops, call_refused, queue_refused, restarted};
 
 use crate::end::ALL_PARTS;
@@ -95,10 +96,10 @@ impl<P: Object> Held<P> {
         out: &mut Content,
     ) -> Result<Answer<u32>, Refusal>
         requires open { self.old.book.left ≢ ALL_PARTS }
-        ensures refused { MatchOption (call_refused self.old.pair caller (request event.now)) (IsOk result)
+        ensures refused { MatchOption (call_refused no_own self.old.pair caller (request event.now)) (IsOk result)
             (λ r. (result ≡ Err r) × ((self.new ≡ self.old) × (out.new ≡ out.old))) }
         ensures adds { IfOk result (λ answer.
-            AddsEntry self.old.pair self.new.pair (Called caller (request event.now) (reply_in answer out.new.items))) }
+            AddsEntry no_own self.old.pair self.new.pair (Called caller (request event.now) (reply_in answer out.new.items))) }
         ensures filled { IfOk result (λ answer. answer_len answer ≡ length out.new.items) }
         ensures book { IfOk result (λ answer.
             Adds self.old.book (entry_of caller (request event.now) out.new.items answer) self.new.book) }
@@ -116,7 +117,7 @@ impl<P: Object> Held<P> {
     fn turn(&mut self, name: QueueName) -> Result<Turn, Refusal>
         ensures refused { MatchOption (queue_refused self.old.pair name) (IsOk result)
             (λ r. (result ≡ Err r) × (self.new ≡ self.old)) }
-        ensures adds { IfOk result (λ turn. AddsEntry self.old.pair self.new.pair (Turned name turn)) }
+        ensures adds { IfOk result (λ turn. AddsEntry no_own self.old.pair self.new.pair (Turned name turn)) }
         ensures stops { IfOk result (λ turn. Stops self.old.pair self.new.pair name turn) }
         ensures book { self.new.book ≡ self.old.book }
     {

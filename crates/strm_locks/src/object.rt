@@ -4,6 +4,7 @@ ghost use Rattle.std.specs.Prelude.{◌≡◌, MatchOption, IsOk, Err, IfOk, len
 ghost use Rattle.strm_types.specs.declared.entries.Entry.TheVariants.{Called, Turned};
 ghost use Rattle.strm_types.specs.Events.{request};
 ghost use Rattle.strm_types.specs.Journal.{answer_len, reply_in};
+ghost use Rattle.strm_laws.proofs.NoOwn.{none as no_own};
 ghost use Rattle.strm_laws.specs.Ledgers.{ledger_of};
 ghost use Rattle.strm_laws.specs.Pair.{PairState, AddsEntry, Stops, call_refused, new_pair, queue_refused, restarted};
 ghost use Rattle.strm_laws.specs.State.{book};
@@ -28,10 +29,10 @@ pub trait Object: Drop {
         event: &Event<&[u8]>,
         out: &mut Content,
     ) -> Result<Answer<u32>, Refusal>
-        ensures refused { MatchOption (call_refused (pair_of self.old) caller (request event.now)) (IsOk result)
+        ensures refused { MatchOption (call_refused no_own (pair_of self.old) caller (request event.now)) (IsOk result)
             (λ r. (result ≡ Err r) × ((pair_of self.new ≡ pair_of self.old) × (out.new ≡ out.old))) }
         ensures adds { IfOk result (λ answer.
-            AddsEntry (pair_of self.old) (pair_of self.new) (Called caller (request event.now) (reply_in answer out.new.items))) }
+            AddsEntry no_own (pair_of self.old) (pair_of self.new) (Called caller (request event.now) (reply_in answer out.new.items))) }
         ensures tally { IfOk result (λ answer.
             Tallies (pair_of self.old) (pair_of self.new) (Called caller (request event.now) (reply_in answer out.new.items))) }
         ensures filled { IfOk result (λ answer. answer_len answer ≡ length out.new.items) };
@@ -40,7 +41,7 @@ pub trait Object: Drop {
     fn turn(&mut self, name: QueueName) -> Result<Turn, Refusal>
         ensures refused { MatchOption (queue_refused (pair_of self.old) name) (IsOk result)
             (λ r. (result ≡ Err r) × (pair_of self.new ≡ pair_of self.old)) }
-        ensures adds { IfOk result (λ turn. AddsEntry (pair_of self.old) (pair_of self.new) (Turned name turn)) }
+        ensures adds { IfOk result (λ turn. AddsEntry no_own (pair_of self.old) (pair_of self.new) (Turned name turn)) }
         ensures stops { IfOk result (λ turn. Stops (pair_of self.old) (pair_of self.new) name turn) }
         ensures tally { IfOk result (λ turn. Tallies (pair_of self.old) (pair_of self.new) (Turned name turn)) };
 

@@ -1,7 +1,7 @@
 -- What the text of a base tells, and the room that it takes.
 use Rattle.strm_pair.proofs.Prelude.{ℕ, ◌≡◌, ◌≤◌, List, refl, ap, sym, ◌∙◌, arith, Some, image_fits, image_length_in}
 use Rattle.strm_pair.specs.Prelude.{Config, Fates, PlainEntry, no_fates, State, opening, StoreValue, IsStore, Second, whole, AreCounts, AreNumbers}
-use Rattle.strm_pair.specs.Prelude.{HasImage, imaged, image}
+use Rattle.strm_pair.specs.Prelude.{HasImage, imaged, image, Behaviour}
 use Rattle.std.specs.Prelude.{length, vec_capacity}
 use Rattle.strm_image.proofs.FitImages.{new_has_image}
 use Rattle.strm_image.proofs.Formats.{whole_again}
@@ -47,11 +47,11 @@ new-has-image = new_has_image
 pub new-room : (mblks : ℕ) → length (image.text (Second, imaged opening no_fates)) ≤ image_room mblks
 new-room mblks = image_length_in (imaged opening no_fates) mblks new-has-image (omega arith) (omega arith)
 
-module _ (s : StoreValue) (p : Streams) (j : Journal) (b : Start) (limits : Config) (fates : Fates) (kept : IsKept s p j b limits fates) (is : IsStore s)
+module _ (K : Behaviour) (s : StoreValue) (p : Streams) (j : Journal) (b : Start) (limits : Config) (fates : Fates) (kept : IsKept K s p j b limits fates) (is : IsStore s)
     (counts : AreCounts fates) (numbers : AreNumbers (state_in s p)) where
   -- the image of a pair has its room
   pub image-room : length (image.text (Second, imaged (state_in s p) fates)) ≤ image_room limits.mblks
   image-room =
-      let idle = led-idle s p j b limits fates kept in
-      image_length_in (imaged (state_in s p) fates) limits.mblks (has-image s p j b limits fates kept is counts numbers)
+      let idle = led-idle K s p j b limits fates kept in
+      image_length_in (imaged (state_in s p) fates) limits.mblks (has-image K s p j b limits fates kept is counts numbers)
       (omega (arith, in-use s p kept.held idle is, is.enough, kept.mblks)) (omega (arith, state-bytes s p kept.held idle is, kept.mblks))

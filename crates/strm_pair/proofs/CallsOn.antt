@@ -8,7 +8,7 @@ use Rattle.strm_pair.specs.Prelude.{is_data, passes, stages, stages_done, treats
 use Rattle.strm_pair.specs.Prelude.{unchanged, first_size, left_with, Serving, opost, AreIdle, disciplined, Discipline, module_turn_ended}
 use Rattle.strm_pair.specs.Prelude.{module_turned, moved_on, IsKeptAhead, in_range, spare, IsAtRest, KindRests, Module, OfLdterm, Standing}
 use Rattle.strm_pair.specs.Prelude.{module_serves, State, stream, Begins, Ends, bytes_left, stood, asks_on, discipline_of, led, module_at, treated}
-use Rattle.strm_pair.specs.Prelude.{none_there, TurnOutcome, StoreValue, least_free, stop_at}
+use Rattle.strm_pair.specs.Prelude.{none_there, TurnOutcome, StoreValue, least_free, stop_at, stands_of, Behaviour}
 use Rattle.std.proofs.Common.{◌*◌}
 use Rattle.std.specs.Bool.{OnTrue}
 use Rattle.std.specs.List.{AllByRecursion}
@@ -21,12 +21,12 @@ use Rattle.strm_pair.specs.AnyModules.{HasAsNamed, turn_cost}
 use Rattle.strm_pair.specs.declared.service_calls.Call.{Call}
 use Rattle.strm_pair.specs.ModuleServed.{LeavesFew, MayBook, StopsFew, TellsAs, TreatsAs, call_cost, call_units, stop_in}
 use Rattle.strm_pair.specs.ModuleTurned.{MayMove}
-use Rattle.strm_pair.proofs.StopsFew.{led-same}
+use Rattle.strm_pair.proofs.StopsFew.{led-same, led-stands}
 
 -- What calls that go on have led to so far: so many bytes were treated, by so many calls, each of which came a stage further.
-pub record GoOn (here : Spot) (bytes : ℕ) (s0 st : State ℕ) (f f' : Fates) : Type 0 where
+pub record GoOn (K : Behaviour) (here : Spot) (bytes : ℕ) (s0 st : State ℕ) (f f' : Fates) : Type 0 where
   pub gone : List (Fate ℕ)
-  pub reached : Reached here s0 true bytes gone st
+  pub reached : Reached here s0 K true bytes gone st
   pub tells : f' ≡ tallied gone f
   pub count : ℕ
   pub few : count ≤ 3 * bytes + stages_done (discipline_of (module_at here st)).stage
@@ -34,11 +34,12 @@ pub record GoOn (here : Spot) (bytes : ℕ) (s0 st : State ℕ) (f f' : Fates) :
   pub left : spare s0 ≤ spare st + (3 * bytes + 33 * count)
   pub all : bytes_left here.way false (discipline_of (module_at here s0)) ≤ bytes + bytes_left here.way true (discipline_of (module_at here st))
   pub opened : (side : Side) → (stream side st).opened ≡ (stream side s0).opened
+  pub stands : stands_of st ≡ stands_of s0
 
 -- They go on, or the turn is at its end.
-abbrev pub Along : Bool → Spot → ℕ → State ℕ → State ℕ → Fates → Fates → Type 0
-Along true here bytes s0 st f f' = GoOn here bytes s0 st f f'
-Along false here bytes s0 st f f' = TreatsAs here bytes s0 st f f'
+abbrev pub Along : (K : Behaviour) → Bool → Spot → ℕ → State ℕ → State ℕ → Fates → Fates → Type 0
+Along K true here bytes s0 st f f' = GoOn K here bytes s0 st f f'
+Along K false here bytes s0 st f f' = TreatsAs K here bytes s0 st f f'
 
 -- how many stages of bytes are still to come at most
 abbrev pub still_to_come : Bool → Spot → State ℕ → ℕ
@@ -59,11 +60,13 @@ begun-few (Answered echo) l = omega arith
 abbrev pub Full : Standing ℕ → Type 0
 Full p = FullFirst (discipline_of p).read_queue.messages × FullFirst (discipline_of p).write_queue.messages × HasAsNamed p
 
--- What holds of the calls so far: what they treated and what is left are the message, as it was, and no side was opened or closed.
+-- What holds of the calls so far: what they treated and what is left are the message, as it was, no side was opened or closed, and the same
+-- modules stand there.
 pub record Since (here : Spot) (again : Bool) (bytes : ℕ) (s0 s : State ℕ) : Type 0 where
   pub all : bytes_left here.way false (discipline_of (module_at here s0)) ≤ bytes + bytes_left here.way again (discipline_of (module_at here s))
   pub full : again ≡ false → Full (module_at here s)
   pub opened : (side : Side) → (stream side s).opened ≡ (stream side s0).opened
+  pub stands : stands_of s ≡ stands_of s0
 
 module _ (here : Spot) where
   none-in : (call : Call) → call.stopped ≡ false → stop_in call ≡ None
@@ -81,9 +84,9 @@ module _ (here : Spot) where
     pub begun : stages_done (discipline_of (module_at here st)).stage ≤ 3 * bytes_left here.way true (discipline_of (module_at here st))
     pub all : (again ≡ false → Full (module_at here s)) → bytes_left here.way again (discipline_of (module_at here s)) ≤ bytes_left here.way true (discipline_of (module_at here st)) + call.bytes
 
-  further : (again : Bool) (call : Call) (s st : State ℕ) → TellsAs here again call s → st ≡ (led here again (stop_in call) s).state → here.at - 1 < length (stream here.side s).modules
+  further : (K : Behaviour) (again : Bool) (call : Call) (s st : State ℕ) → TellsAs here again call s → st ≡ (led K here again (stop_in call) s).state → here.at - 1 < length (stream here.side s).modules
       → Begins here.way again (discipline_of (module_at here s)) → call.again ≡ true → Further again call s st
-  further again call s st tells state low begins works =
+  further K again call s st tells state low begins works =
       let none = none-in call (not-stopped call.stopped call.again tells.over works) in
       let i = here.at - 1 in
       let ps = (stream here.side s).modules in
@@ -93,7 +96,7 @@ module _ (here : Spot) where
       let more : t.again ≡ true = sym (index-map none_there (λ p. (module_serves plain here 0 again None p).again) false i ps low) ∙ asks in
       let bytes : call.bytes ≡ t.bytes = tells.bytes ∙ ap (λ o. treated here again o ps) none ∙ index-map none_there (λ p. (module_serves plain here 0 again None p).bytes) 0 i ps low in
       let g = module-goes here again l begins more in
-      let at = ap (λ v. under_way (module_at here v)) (state ∙ ap (λ o. (led here again o s).state) none) ∙ led-at here again None s low in
+      let at = ap (λ v. under_way (module_at here v)) (state ∙ ap (λ o. (led K here again o s).state) none) ∙ led-at here K again None s low in
       let stage = ap (λ (x : UnderWay). stages_done x.stage) at in
       let left = ap (λ w. bytes_left w true (discipline_of (module_at here st))) g.up ∙ ap (λ (x : UnderWay). bytes_left Up true (record (discipline_of (module_at here st)) { stage = x.stage; in_work = x.in_work })) at in
       record { stop = none; treat = omega (arith, g.treat, bytes, left); all = λ full. omega (arith, g.all (λ first. (full first).0), bytes, left); done = omega (arith, g.done, bytes, stage); begun = subst (λ w. stages_done (discipline_of (module_at here st)).stage ≤ 3 * bytes_left w true (discipline_of (module_at here st))) (sym g.up) (begun-few (discipline_of (module_at here st)).stage (discipline_of (module_at here st))) }
@@ -104,68 +107,71 @@ module _ (here : Spot) where
   stopped-at true again bytes s is ends = (is, ends)
   stopped-at false again bytes s is ends = tt
 
-  module _ (s0 : State ℕ) (again : Bool) (bytes : ℕ) (gone : List (Fate ℕ)) (s st : State ℕ) (r : Reached here s0 again bytes gone s) (call : Call) (tells : TellsAs here again call s)
-      (state : st ≡ (led here again (stop_in call) s).state) (f f' f'' : Fates) (was : f' ≡ tallied gone f) (told : f'' ≡ tallied (led here again (stop_in call) s).gone f') (falls : spare s ≤ spare st + call_units call.bytes) where
+  module _ (K : Behaviour) (s0 : State ℕ) (again : Bool) (bytes : ℕ) (gone : List (Fate ℕ)) (s st : State ℕ) (r : Reached here s0 K again bytes gone s) (call : Call) (tells : TellsAs here again call s)
+      (state : st ≡ (led K here again (stop_in call) s).state) (f f' f'' : Fates) (was : f' ≡ tallied gone f) (told : f'' ≡ tallied (led K here again (stop_in call) s).gone f') (falls : spare s ≤ spare st + call_units call.bytes) where
     any_name : QueueName
     any_name = record { side = here.side; place = Driver; way = here.way }
 
-    told-on : f'' ≡ tallied (gone ++ (led here again (stop_in call) s).gone) f
-    told-on = told ∙ ap (tallied (led here again (stop_in call) s).gone) was ∙ sym (tallied-append gone (led here again (stop_in call) s).gone f)
+    told-on : f'' ≡ tallied (gone ++ (led K here again (stop_in call) s).gone) f
+    told-on = told ∙ ap (tallied (led K here again (stop_in call) s).gone) was ∙ sym (tallied-append gone (led K here again (stop_in call) s).gone f)
 
     -- the turn goes on
     goes-on : (count : ℕ) → count ≤ 3 * bytes + stages_done (discipline_of (module_at here s)).stage → spare s0 ≤ spare s + (3 * bytes + 33 * count) → Since here again bytes s0 s
-        → call.again ≡ true → GoOn here (bytes + call.bytes) s0 st f f''
+        → call.again ≡ true → GoOn K here (bytes + call.bytes) s0 st f f''
     goes-on count few held since works =
-        let on = further again call s st tells state r.inside r.begins works in
+        let on = further K again call s st tells state r.inside r.begins works in
         let ps = (stream here.side s).modules in
         let asks = ap (λ o. asks_on here again o ps) (sym on.stop) ∙ sym tells.asks ∙ works in
-        let next = reached-next here s0 again bytes gone s r asks in
+        let next = reached-next here s0 K again bytes gone s r asks in
         let same = tells.bytes ∙ ap (λ o. treated here again o ps) on.stop in
-        let gone_is : gone ++ (led here again None s).gone ≡ gone ++ (led here again (stop_in call) s).gone = ap (λ o. gone ++ (led here again o s).gone) (sym on.stop) in
-        let state_is : (led here again None s).state ≡ st = ap (λ o. (led here again o s).state) (sym on.stop) ∙ sym state in
-        let at = subst (λ n. Reached here s0 true (bytes + n) (gone ++ (led here again None s).gone) (led here again None s).state) (sym same) next in
-        let there = subst (λ v. Reached here s0 true (bytes + call.bytes) (gone ++ (led here again None s).gone) v) state_is at in
+        let gone_is : gone ++ (led K here again None s).gone ≡ gone ++ (led K here again (stop_in call) s).gone = ap (λ o. gone ++ (led K here again o s).gone) (sym on.stop) in
+        let state_is : (led K here again None s).state ≡ st = ap (λ o. (led K here again o s).state) (sym on.stop) ∙ sym state in
+        let at = subst (λ n. Reached here s0 K true (bytes + n) (gone ++ (led K here again None s).gone) (led K here again None s).state) (sym same)
+        next in
+        let there = subst (λ v. Reached here s0 K true (bytes + call.bytes) (gone ++ (led K here again None s).gone) v) state_is at in
         record {
-          gone = gone ++ (led here again (stop_in call) s).gone;
-          reached = subst (λ told. Reached here s0 true (bytes + call.bytes) told st) gone_is there;
+          gone = gone ++ (led K here again (stop_in call) s).gone;
+          reached = subst (λ told. Reached here s0 K true (bytes + call.bytes) told st) gone_is there;
           tells = told-on;
           count = suc count;
           few = omega (arith, few, on.done);
           some = omega arith;
           left = omega (arith, held, falls);
           all = omega (arith, since.all, on.all since.full);
-          opened = λ side. ap (λ v. (stream side v).opened) state ∙ (led-same here again (stop_in call) s).opened side ∙ since.opened side;
+          opened = λ side. ap (λ v. (stream side v).opened) state ∙ (led-same K here again (stop_in call) s).opened side ∙ since.opened side;
+          stands = ap stands_of state ∙ led-stands K here again (stop_in call) s ∙ since.stands;
         }
 
     -- or it is at its end
     ends-there : (count : ℕ) → count ≤ 3 * bytes + stages_done (discipline_of (module_at here s)).stage → spare s0 ≤ spare s + (3 * bytes + 33 * count)
-        → (bytes + call.bytes ≡ 0 → bytes_left here.way false (discipline_of (module_at here s0)) ≡ 0) → call.again ≡ false → TreatsAs here (bytes + call.bytes) s0 st f f''
+        → (bytes + call.bytes ≡ 0 → bytes_left here.way false (discipline_of (module_at here s0)) ≡ 0) → call.again ≡ false → TreatsAs K here (bytes + call.bytes) s0 st f f''
     ends-there count few held went over =
         let ps = (stream here.side s).modules in
         let stop = stop_in call in
-        let last = λ (name : QueueName). reached-last here s0 name again bytes gone s r stop (sym tells.asks ∙ over) (stopped-at call.stopped again call.bytes s tells.bytes tells.ends) in
+        let last = λ (name : QueueName). reached-last here s0 K name again bytes gone s r stop (sym tells.asks ∙ over) (stopped-at call.stopped again call.bytes s tells.bytes tells.ends) in
         let same : bytes + treated here again stop ps ≡ bytes + call.bytes = ap (λ n. bytes + n) (sym tells.bytes) in
-        let all = gone ++ (led here again stop s).gone in
+        let all = gone ++ (led K here again stop s).gone in
         let to : QueueName → ℕ → State ℕ → TurnOutcome ℕ = λ name n v. record { turn = Moved n; state = module_turn_ended name here (not (n == 0)) v; gone = all } in
         record {
           gone = all;
           within = omega (arith, (last any_name).0, same);
           some = went;
-          stands = subst (λ v. here.at - 1 < length (stream here.side v).modules) (sym state) (omega (arith, r.inside, led-length here again stop s));
-          moves = λ name. ap (λ n. moved_on plain here name n s0) (sym same) ∙ (last name).1 ∙ ap (λ n. to name n (led here again stop s).state) same ∙ ap (to name (bytes + call.bytes)) (sym state);
+          stands =
+              subst (λ v. here.at - 1 < length (stream here.side v).modules) (sym state) (omega (arith, r.inside, led-length here K again stop s));
+          moves = λ name. ap (λ n. moved_on K plain here name n s0) (sym same) ∙ (last name).1 ∙ ap (λ n. to name n (led K here again stop s).state) same ∙ ap (to name (bytes + call.bytes)) (sym state);
           tells = told-on;
           left = omega (arith, held, falls, few, done-few (discipline_of (module_at here s)).stage);
         }
 
     pub along : (count : ℕ) → count ≤ 3 * bytes + stages_done (discipline_of (module_at here s)).stage → spare s0 ≤ spare s + (3 * bytes + 33 * count) → Since here again bytes s0 s
         → (call.again ≡ false → bytes + call.bytes ≡ 0 → bytes_left here.way false (discipline_of (module_at here s0)) ≡ 0)
-        → (more : Bool) → call.again ≡ more → Along more here (bytes + call.bytes) s0 st f f''
+        → (more : Bool) → call.again ≡ more → Along K more here (bytes + call.bytes) s0 st f f''
     along count few held since went true is = goes-on count few held since is
     along count few held since went false is = ends-there count few held (went is) is
 
     pub comes-closer : (more : Bool) → call.again ≡ more → still_to_come more here st < suc (3 * bytes_left here.way again (discipline_of (module_at here s)) - stages_done (discipline_of (module_at here s)).stage)
     comes-closer true works =
-        let on = further again call s st tells state r.inside r.begins works in
+        let on = further K again call s st tells state r.inside r.begins works in
         omega (arith, on.treat, on.done, on.begun)
     comes-closer false over = omega arith
 
@@ -244,7 +250,7 @@ module _ (here : Spot) where
       where
         at : (stopped : Bool) → call.stopped ≡ stopped → OnTrue stopped (call.bytes < bytes_left here.way again (discipline_of (module_at here s)) → IsKeptAhead here.way here.side s → least_free t < STOP_BLOCKS)
             → StopsFew here (bytes + call.bytes) s0 t
-        at true is few = λ less ahead. few (omega (arith, since.all, less)) (kept-ahead here.way here.side s0 s since.opened ahead)
+        at true is few = λ less ahead. few (omega (arith, since.all, less)) (kept-ahead here.way here.side s0 s since.opened since.stands ahead)
         at false is few = λ less ahead. absurd (let all = went-all is in omega (arith, all, since.all, less))
 
   -- a first call that is the last one
@@ -252,15 +258,15 @@ module _ (here : Spot) where
     went-whole : call.stopped ≡ false → bytes_left here.way false (discipline_of (module_at here s)) ≡ 0
     went-whole goes = let all = went-all false call s tells low full over goes in omega (arith, all, none)
 
-    stopped-some : (stopped : Bool) (M : Type 0) → M → OnTrue stopped (M → 0 < call.bytes) → stopped ≡ true → 0 < call.bytes
-    stopped-some true M many some is = some many
-    stopped-some false M many some is = absurd (false≢true is)
+    stopped-some : (stopped : Bool) (A : Type 0) → A → OnTrue stopped (A → 0 < call.bytes) → stopped ≡ true → 0 < call.bytes
+    stopped-some true A many some is = some many
+    stopped-some false A many some is = absurd (false≢true is)
 
-    pub first-went : (M : Type 0) → M → OnTrue call.stopped (M → 0 < call.bytes) → bytes_left here.way false (discipline_of (module_at here s)) ≡ 0
-    first-went M many some = at call.stopped refl
+    pub first-went : (A : Type 0) → A → OnTrue call.stopped (A → 0 < call.bytes) → bytes_left here.way false (discipline_of (module_at here s)) ≡ 0
+    first-went A many some = at call.stopped refl
       where
         at : (stopped : Bool) → call.stopped ≡ stopped → bytes_left here.way false (discipline_of (module_at here s)) ≡ 0
-        at true is = let went = stopped-some call.stopped M many some is in absurd (omega (arith, went, none))
+        at true is = let went = stopped-some call.stopped A many some is in absurd (omega (arith, went, none))
         at false is = went-whole is
 
   -- the last call treats what has begun
@@ -280,9 +286,9 @@ module _ (here : Spot) where
           omega (arith, e, bytes)
 
   -- and so calls behind the first one treat a byte
-  pub later-went : (bytes : ℕ) (s0 s : State ℕ) (f f' : Fates) (call : Call) → GoOn here bytes s0 s f f' → TellsAs here true call s → call.again ≡ false → bytes + call.bytes ≡ 0
+  pub later-went : (K : Behaviour) (bytes : ℕ) (s0 s : State ℕ) (f f' : Fates) (call : Call) → GoOn K here bytes s0 s f f' → TellsAs here true call s → call.again ≡ false → bytes + call.bytes ≡ 0
       → bytes_left here.way false (discipline_of (module_at here s0)) ≡ 0
-  later-went bytes s0 s f f' call on tells over none =
+  later-went K bytes s0 s f f' call on tells over none =
       let done = last-done true call s tells on.reached.inside on.reached.begins over in
       absurd (let few = on.few in let some = on.some in omega (arith, few, some, done, none))
 
@@ -331,16 +337,16 @@ module _ (here : Spot) where
   pub first-books : (s : State ℕ) → in_range s ≡ true → bytes_left here.way false (discipline_of (module_at here s)) ≤ 16777216 → MayBook here false s
   first-books s room few = omega (arith, range-spare s room, few)
 
-  pub next-books : (bytes : ℕ) (s0 s : State ℕ) (f f' : Fates) → in_range s0 ≡ true → bytes_left here.way false (discipline_of (module_at here s0)) ≤ 16777216 → GoOn here bytes s0 s f f' → MayBook here true s
-  next-books bytes s0 s f f' room few on = omega (arith, range-spare s0 room, few, on.reached.within, on.few, on.left, done-few (discipline_of (module_at here s)).stage)
+  pub next-books : (K : Behaviour) (bytes : ℕ) (s0 s : State ℕ) (f f' : Fates) → in_range s0 ≡ true → bytes_left here.way false (discipline_of (module_at here s0)) ≤ 16777216 → GoOn K here bytes s0 s f f' → MayBook here true s
+  next-books K bytes s0 s f f' room few on = omega (arith, range-spare s0 room, few, on.reached.within, on.few, on.left, done-few (discipline_of (module_at here s)).stage)
 
 -- a turn whose calls treated so many bytes
-pub turned-by : (name : QueueName) (here : Spot) (bytes : ℕ) (old s0 st : State ℕ) (f f' : Fates) → MayMove old s0 name here → (treats : TreatsAs here bytes s0 st f f')
-    → module_turned plain name (Moved bytes) old ≡ record { turn = Moved bytes; state = module_turn_ended name here (not (bytes == 0)) st; gone = treats.gone }
-turned-by name here bytes old s0 st f f' may treats =
+pub turned-by : (K : Behaviour) (name : QueueName) (here : Spot) (bytes : ℕ) (old s0 st : State ℕ) (f f' : Fates) → MayMove K old s0 name here → (treats : TreatsAs K here bytes s0 st f f')
+    → module_turned K plain name (Moved bytes) old ≡ record { turn = Moved bytes; state = module_turn_ended name here (not (bytes == 0)) st; gone = treats.gone }
+turned-by K name here bytes old s0 st f f' may treats =
     let within = subst (λ v. bytes ≤ bytes_left here.way false (discipline_of (module_at here v))) may.stays treats.within in
     let some = subst (λ v. bytes ≡ 0 → bytes_left here.way false (discipline_of (module_at here v)) ≡ 0) may.stays treats.some in
-    may.moves (Moved bytes) ∙ moves-within here name bytes old (omega (arith, may.inside, may.within)) within some ∙ ap (λ v. moved_on plain here name bytes v) (sym may.stays) ∙ treats.moves name
+    may.moves (Moved bytes) ∙ moves-within here K name bytes old (omega (arith, may.inside, may.within)) within some ∙ ap (λ v. moved_on K plain here name bytes v) (sym may.stays) ∙ treats.moves name
 
 -- bytes were taken where some were treated
 pub some-taken : (bytes : ℕ) → nat_lt 0 bytes ≡ not (bytes == 0)

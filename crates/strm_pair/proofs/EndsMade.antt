@@ -47,6 +47,7 @@ blocks-same (m ∷ ms) = omega (arith, sum_by-cons counts.module_blocks (module_
     one (texts.Ldterm l) = omega arith
     one (texts.Ptem p) = refl
     one texts.Pckt = refl
+    one (texts.Own o) = refl
 
 -- ---- the lists
 

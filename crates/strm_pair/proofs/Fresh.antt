@@ -1,12 +1,14 @@
 -- A pair over a store with nothing in it, with an empty journal, is as new.
 use Rattle.strm_pair.proofs.Prelude.{ℕ, ◌≡◌, List, [], ap, sym, subst, refl, ◌∙◌, replicate}
 use Rattle.strm_pair.specs.Prelude.{Config, Second, HasImage, imaged, image, PlainEntry, opening, plain, Fates, told_by, no_fates, IsLegal, new_pair}
-use Rattle.strm_pair.specs.Prelude.{Block, Held, StoreValue, empty_store, IsBase, FewBooked, AreWithinEntries}
+use Rattle.strm_pair.specs.Prelude.{Block, Held, StoreValue, empty_store, IsBase, FewBooked, AreWithinEntries, Behaviour}
 use Rattle.std.specs.Prelude.{◌≤◌, length}
 use Rattle.strm_pair.specs.declared.streams.Streams.{Streams}
 use Rattle.strm_pair.specs.declared.journal.Journal.{Journal}
 use Rattle.strm_pair.specs.Pairs.{state_in, AreHeld, free_in, journal_of}
+use Rattle.strm_laws.specs.Known.{all_known}
 use Rattle.strm_laws.proofs.BaseSteps.{opening-base}
+use Rattle.strm_laws.proofs.KnownStay.{opening-known}
 use Rattle.strm_pair.specs.PairViews.{pair_of, IsKept}
 use Rattle.strm_pair.specs.BaseTexts.{begun_at, image_room}
 use Rattle.strm_pair.specs.Starts.{Start, new_start}
@@ -19,16 +21,17 @@ pub record AreFresh (mblks dblks : ℕ) (p : Streams) : Type 0 where
   pub state : state_in (empty_store mblks dblks) p ≡ opening
   pub held : AreHeld (empty_store mblks dblks) p
 
-pub fresh-kept : (s : StoreValue) (p : Streams) (j : Journal) (b : Start) (limits : Config) (fates : Fates) → b ≡ new_start → s ≡ empty_store limits.mblks limits.dblks → AreFresh limits.mblks limits.dblks p
-    → journal_of j ≡ [] → j.most_entries ≡ limits.journal_events → j.most_bytes ≡ limits.journal_bytes → fates ≡ no_fates → IsKept s p j b limits fates
-fresh-kept s p j b limits fates is blank fresh empty events bytes none = record {
+pub fresh-kept : (K : Behaviour) (s : StoreValue) (p : Streams) (j : Journal) (b : Start) (limits : Config) (fates : Fates) → b ≡ new_start → s ≡ empty_store limits.mblks limits.dblks → AreFresh limits.mblks limits.dblks p
+    → journal_of j ≡ [] → j.most_entries ≡ limits.journal_events → j.most_bytes ≡ limits.journal_bytes → fates ≡ no_fates → IsKept K s p j b limits fates
+fresh-kept K s p j b limits fates is blank fresh empty events bytes none = record {
   based = subst (λ (t : Start). IsBase t.state t.fates) (sym is) opening-base;
-  replayed = ap (λ v. state_in v p) blank ∙ fresh.state ∙ sym (ap (λ (t : Start). t.state) is) ∙ sym (led-nowhere b j empty);
-  legal = subst (λ js. IsLegal plain b.state js) (sym empty) tt;
+  replayed = ap (λ v. state_in v p) blank ∙ fresh.state ∙ sym (ap (λ (t : Start). t.state) is) ∙ sym (led-nowhere K b j empty);
+  legal = subst (λ js. IsLegal K plain b.state js) (sym empty) tt;
   within = subst AreWithinEntries (sym empty) tt;
   few = subst FewBooked (sym (ap (λ v. state_in v p) blank ∙ fresh.state)) opening-base.few;
-  told = none ∙ sym (ap (λ (t : Start). t.fates) is) ∙ ap (λ js. told_by plain b.state js b.fates) (sym empty);
+  told = none ∙ sym (ap (λ (t : Start). t.fates) is) ∙ ap (λ js. told_by K plain b.state js b.fates) (sym empty);
   held = subst (λ v. AreHeld v p) (sym blank) fresh.held;
+  known = ap (all_known K) (ap (λ v. state_in v p) blank ∙ fresh.state) ∙ opening-known ℕ K;
   mblks = ap (λ (v : StoreValue). v.mblks) blank;
   dblks = ap (λ (v : StoreValue). v.dblks) blank;
   events = events;

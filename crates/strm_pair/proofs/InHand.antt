@@ -1,7 +1,7 @@
 -- A message that was made while nobody is in a call is alone in hand, and the streams stay; so is one that was taken.
 use Rattle.strm_pair.proofs.Prelude.{ℕ, ◌≡◌, ◌≤◌, ◌+◌, ◌∷◌, sym, ap, subst, ◌∙◌, arith}
 use Rattle.strm_pair.specs.Prelude.{Fates, Spot, plain, most_of, Carried, tallied, Message, AreIdle, delivered, spare, State, StoreValue, held}
-use Rattle.strm_pair.specs.Prelude.{in_hand, message_of, IsChain, Takes}
+use Rattle.strm_pair.specs.Prelude.{in_hand, message_of, IsChain, Takes, Behaviour}
 use Rattle.strm_pair.specs.declared.streams.Streams.{Streams}
 use Rattle.strm_pair.specs.Alone.{IsAlone}
 use Rattle.strm_pair.specs.Effects.{AreAtRest, Leads}
@@ -30,11 +30,12 @@ module _ (s t : StoreValue) (p : Streams) (at_rest : AreAtRest s p) (i : ℕ) (a
   }
 
   -- what a delivery of it led to, by the message that it stands for
-  pub made-leads : (u : StoreValue) (q : Streams) (f f' : Fates) (to : Spot) (m : Message ℕ) → message_of (in_hand t i) ≡ m
-      → (let is = delivered plain to (message_of (in_hand t i)) (state_in t p) in Leads t u q f f' is.state is.gone)
-      → (let is = delivered plain to m (state_in s p) in Leads s u q f f' is.state is.gone)
-  made-leads u q f f' to m shows leads =
-      let same = ap (delivered plain to (message_of (in_hand t i))) made-state ∙ ap (λ (x : Message ℕ). delivered plain to x (state_in s p)) shows in
+  pub made-leads : (K : Behaviour) (u : StoreValue) (q : Streams) (f f' : Fates) (to : Spot) (m : Message ℕ) → message_of (in_hand t i) ≡ m
+      → (let is = delivered K plain to (message_of (in_hand t i)) (state_in t p) in Leads t u q f f' is.state is.gone)
+      → (let is = delivered K plain to m (state_in s p) in Leads s u q f f' is.state is.gone)
+  made-leads K u q f f' to m shows leads =
+      let same = ap (delivered K plain to (message_of (in_hand t i))) made-state ∙ ap (λ (x : Message ℕ). delivered K plain to x (state_in s p))
+      shows in
       record {
         state = leads.state ∙ ap (λ (o : Carried ℕ (State ℕ)). o.state) same;
         tells = leads.tells ∙ ap (λ (o : Carried ℕ (State ℕ)). tallied o.gone f) same;

@@ -1,9 +1,10 @@
 -- What a module of one kind did, one of any kind did: of each kind it stands for the same, fits the same, and keeps the same.
 use Rattle.strm_pair.proofs.Prelude.{ℕ, ◌≡◌, Bool, true, false, List, refl, sym, ap, subst, ◌∙◌, Option, None}
-use Rattle.strm_pair.specs.Prelude.{Fates, Acted, Parcel, Serving, stood, Module, OfLdterm, OfPtem, OfPckt, Standing, StoreValue, Acts, QueuePair}
+use Rattle.strm_pair.specs.Prelude.{Fates, Acted, Parcel, Serving, stood, Module, OfLdterm, OfOwn, OfPtem, OfPckt, Standing, StoreValue, Acts}
 use Rattle.strm_pair.specs.Prelude.{Served, Puts, Handles, Hands, HasRoom, parcels_in, sent_of, times_sent, later_cost, Fits, keeps_of, owns}
-use Rattle.strm_pair.specs.Prelude.{queues_in, standing, standing_in, ptem_in, pckt_in}
+use Rattle.strm_pair.specs.Prelude.{queues_in, standing, standing_in, ptem_in, pckt_in, QueuePair}
 use Rattle.std.proofs.lemmas.Bool.{OnTrue_at, OnTrue_from}
+use Rattle.strm_types.specs.Owns.{Own}
 use Rattle.strm_types.specs.Service.{done_by, served_by}
 use Rattle.strm_types.specs.Standings as plain
 use Rattle.strm_types.specs.Standings.{of_part}
@@ -38,10 +39,12 @@ module _ {M P : Type 0} (wrap : M → AnyModule) (made : P → Module ℕ) (in_i
     kind-fits s any x q is held = record { queues = held.queues; itself = kind.back s x q (subst (λ m. IsKindHeld s m q) is held.itself) }
 
     -- its put
-    pub kind-puts : (s t : StoreValue) (x y : M) (q r : Option QueuePair) (message most : ℕ) (acts : Acts) (f f' : Fates) (is : Acted ℕ (plain.Standing P ℕ))
-        → Puts (standing_in in_itself) (Fits IsHeld) owns (keeps_of keeps) s t (standing x q) (standing y r) message most acts f f' is
-        → Puts (standing_in kind_in) (Fits IsKindHeld) owns (keeps_of kind_keeps) s t (standing (wrap x) q) (standing (wrap y) r) message most acts f f' (done_by (of_kind made) is)
-    kind-puts s t x y q r message most acts f f' is e =
+    pub kind-puts : (s t : StoreValue) (x y : M) (q r : Option QueuePair) (holds : Bool) (message most : ℕ) (acts : Acts) (f f' : Fates)
+        (is : Acted ℕ (plain.Standing P ℕ))
+        → Puts (standing_in in_itself) (Fits IsHeld) owns (keeps_of keeps) s t (standing x q) (standing y r) holds message most acts f f' is
+        → Puts (standing_in kind_in) (Fits IsKindHeld) owns (keeps_of kind_keeps) s t (standing (wrap x) q) (standing (wrap y) r) holds message most acts f f'
+        (done_by (of_kind made) is)
+    kind-puts s t x y q r holds message most acts f f' is e =
         let sent = λ (i : ℕ). times_sent i (sent_of acts.sent) in
         record {
           state = kind-stands t y r ∙ ap (of_kind made) e.state;
@@ -101,3 +104,6 @@ ptem-kind = record { shows = λ s x. refl; fits = λ s x queues held. held; back
 
 pub pckt-kind : IsKind kinds.Pckt OfPckt (λ (s : StoreValue) (x : Pckt). pckt_in) (λ s x queues. queues ≡ None) (λ x i. 0)
 pckt-kind = record { shows = λ s x. refl; fits = λ s x queues held. held; back = λ s x queues held. held; keeps_same = λ x. refl }
+
+pub own-kind : IsKind kinds.Own OfOwn (λ (s : StoreValue) (x : Own). x) (λ s x queues. queues ≡ None) (λ x i. 0)
+own-kind = record { shows = λ s x. refl; fits = λ s x queues held. held; back = λ s x queues held. held; keeps_same = λ x. refl }

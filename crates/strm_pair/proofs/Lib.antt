@@ -62,3 +62,4 @@ mod TextsTold
 mod PairsMade
 mod RestoredPairs
 mod ImagesBack
+pub mod Holding

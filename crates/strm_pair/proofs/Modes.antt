@@ -3,16 +3,16 @@ use Rattle.strm_pair.proofs.Prelude.{ℕ, suc, ◌≡◌, Bool, true, false, con
 use Rattle.strm_pair.proofs.Prelude.{◌&&◌, ◌||◌, not, nat_le, nat_lt, min, get-set-same}
 use Rattle.strm_pair.specs.Prelude.{MODULES, ReadMode, ModuleName, Side, Master, Slave, Up, EndClosed, plain, Carried, Fate, Goes, Took, before_among}
 use Rattle.strm_pair.specs.Prelude.{before_by, places_of, cells_of, first_place, stands, direction_at, driver_of, enable_if, have_queues, is_open}
-use Rattle.strm_pair.specs.Prelude.{other}
 use Rattle.strm_pair.specs.Prelude.{same_module, mode_message, head_above, may_stand, mode_put, module_named, named_by, with_modules, delivered}
-use Rattle.strm_pair.specs.Prelude.{is_none_left, Standing, module_name, State, Stream, stream, with_stream}
+use Rattle.strm_pair.specs.Prelude.{is_none_left, other, Standing, module_name, State, Stream, stream, with_stream, Behaviour}
 use Rattle.std.specs.Prelude.{length}
 use Rattle.std.specs.List.{AllByRecursion}
 use Rattle.strm_types.specs.declared.names.ModuleName.TheVariants as names
 use Rattle.strm_types.specs.Heads.{with_options}
 use Rattle.strm_types.specs.Options.{options_in, mode_number}
-use Rattle.strm_laws.specs.Pushes.{enable_waiting, let_come, mode_on_push, pushed_named}
+use Rattle.strm_laws.specs.Pushes.{enable_waiting, is_known, let_come, mode_on_push, pushed_named}
 use Rattle.strm_laws.proofs.FlushDelivered.{carries, went_on}
+use Rattle.strm_laws.proofs.SameNames.{kind-is}
 use Rattle.strm_pair.specs.AnyModules.{HasAsNamed}
 
 -- what it does at a head that is open, and at one that isn't
@@ -32,17 +32,17 @@ puts-mode side mode s = by (is_open (stream side s).opened)
     by false = refl
 
 -- nothing is sent there, so that a delivery does the same
-delivers-mode : (side : Side) (mode : ReadMode) (s : State ℕ) → delivered plain (head_above side) (mode_message mode false) s ≡ told_mode (is_open (stream side s).opened) side mode s
-delivers-mode side mode s = carries plain 15 (record { to = head_above side; message = mode_message mode false }) s ∙ by (is_open (stream side s).opened)
+delivers-mode : (K : Behaviour) (side : Side) (mode : ReadMode) (s : State ℕ) → delivered K plain (head_above side) (mode_message mode false) s ≡ told_mode (is_open (stream side s).opened) side mode s
+delivers-mode K side mode s = carries plain K 15 (record { to = head_above side; message = mode_message mode false }) s ∙ by (is_open (stream side s).opened)
   where
-    by : (opened : Bool) → went_on plain 15 (cond opened
+    by : (opened : Bool) → went_on plain K 15 (cond opened
         (record { state = with_stream side (record (stream side s) { head = with_options (options_in (mode_number mode ∷ 0 ∷ [])) (stream side s).head }) s; sent = []; gone = [] })
         (record { state = s; sent = []; gone = Goes (direction_at Up side) EndClosed (cells_of {C = ℕ} (mode_message mode false)) ∷ [] })) ≡ told_mode opened side mode s
     by true = refl
     by false = refl
 
-pub mode-delivered : (side : Side) (mode : ReadMode) (s : State ℕ) → delivered plain (head_above side) (mode_message mode false) s ≡ mode_put side (Some mode) s
-mode-delivered side mode s = delivers-mode side mode s ∙ sym (puts-mode side mode s)
+pub mode-delivered : (K : Behaviour) (side : Side) (mode : ReadMode) (s : State ℕ) → delivered K plain (head_above side) (mode_message mode false) s ≡ mode_put side (Some mode) s
+mode-delivered K side mode s = delivers-mode K side mode s ∙ sym (puts-mode side mode s)
 
 -- The modules stay, and it is the same with others.
 told-there : (side : Side) (mode : ReadMode) (s : State ℕ) → stream side (told_mode true side mode s).state ≡ record (stream side s) { head = with_options (options_in (mode_number mode ∷ 0 ∷ [])) (stream side s).head }
@@ -85,11 +85,27 @@ mode-among side (Some mode) ms s =
     ∙ told-among (is_open (stream side s).opened) side mode ms s
     ∙ ap (among side ms) (sym (puts-mode side mode s))
 
--- the module that a name makes may stand where there is room and none of its name stands
-pub may-known : (name : ModuleName) (ms : List (Standing ℕ)) → (nat_lt (length ms) MODULES && not (stands module_name name ms)) ≡ may_stand (named_by (Some name)) ms
-may-known names.Ldterm ms = refl
-may-known names.Ptem ms = refl
-may-known names.Pckt ms = refl
+-- A known name makes a module, and one that makes a module that may stand is known.
+pub named-known : (K : Behaviour) (name : ModuleName) → is_known K name ≡ true → named_by {C = ℕ} K (Some name) ≡ Some (module_named K name)
+named-known K name known = ap (λ (b : Bool). cond b (Some (module_named K name)) None) known
+
+pub stands-known : (K : Behaviour) (name : ModuleName) (ms : List (Standing ℕ)) → may_stand (named_by K (Some name)) ms ≡ true → is_known K name
+    ≡ true
+stands-known K name ms may = by (is_known K name) may
+  where
+    by : (known : Bool) → may_stand (cond known (Some (module_named K name)) None) ms ≡ true → known ≡ true
+    by true may = refl
+    by false may = absurd (cc)
+
+-- the module that a name makes may stand where the name is known, there is room and none of its name stands
+pub may-known : (K : Behaviour) (name : ModuleName) (ms : List (Standing ℕ))
+    → (is_known K name && (nat_lt (length ms) MODULES && not (stands module_name name ms))) ≡ may_stand (named_by K (Some name)) ms
+may-known K name ms = by (is_known K name)
+  where
+    by : (known : Bool) → (known && (nat_lt (length ms) MODULES && not (stands module_name name ms)))
+        ≡ may_stand (cond known (Some (module_named K name)) None) ms
+    by true = ap (λ name. nat_lt (length ms) MODULES && not (stands module_name name ms)) (sym (kind-is ℕ K name))
+    by false = refl
 
 -- what may come to the read queue of a module that is pushed, where it has one, is what the other side's driver has
 abbrev pub driver_comes : Bool → Side → State ℕ → State ℕ
@@ -130,26 +146,33 @@ comes Slave l ms s has none = let t = with_modules Slave (l ∷ ms) s in ap (λ 
 abbrev led : List (Fate ℕ) → State ℕ → Carried ℕ (State ℕ)
 led gone s = record { state = s; gone = gone }
 
-abbrev or_new : Option (Standing ℕ) → Standing ℕ
-or_new None = module_named names.Ldterm
-or_new (Some p) = p
+abbrev or_new : (K : Behaviour) → Option (Standing ℕ) → Standing ℕ
+or_new K None = module_named K names.Ldterm
+or_new K (Some p) = p
 
 stays-there : (side : Side) (p : Standing ℕ) (s : State ℕ) → with_modules side (p ∷ (stream side s).modules) s ≡ driver_comes false side (with_modules side (p ∷ (stream side s).modules) s)
 stays-there side p s = refl
 
 -- A module is pushed: the head may be told its mode before it stands there.
-pub pushed-is : (side : Side) (name : ModuleName) (p : Standing ℕ) (s : State ℕ) → named_by (Some name) ≡ Some p → AllByRecursion HasAsNamed (stream side s).modules
-    → may_stand (named_by (Some name)) (stream side s).modules ≡ true → let t = mode_put side (mode_on_push name) s in
-    pushed_named side (named_by (Some name)) s ≡ record { state = driver_comes (have_queues name) side (with_modules side (p ∷ (stream side t.state).modules) t.state); gone = t.gone }
-pushed-is side names.Pckt p s is has may =
-    ap (led []) (stays-there side (module_named names.Pckt) s) ∙ ap (λ q. led [] (driver_comes false side (with_modules side (q ∷ (stream side s).modules) s))) (ap or_new is)
-pushed-is side names.Ptem p s is has may =
-    ap (led []) (stays-there side (module_named names.Ptem) s) ∙ ap (λ q. led [] (driver_comes false side (with_modules side (q ∷ (stream side s).modules) s))) (ap or_new is)
-pushed-is side names.Ldterm p s is has may =
+pub pushed-is : (K : Behaviour) (side : Side) (name : ModuleName) (p : Standing ℕ) (s : State ℕ) → named_by K (Some name) ≡ Some p → AllByRecursion HasAsNamed (stream side s).modules
+    → may_stand (named_by K (Some name)) (stream side s).modules ≡ true → let t = mode_put side (mode_on_push name) s in
+    pushed_named side (named_by K (Some name)) s ≡ record { state = driver_comes (have_queues name) side (with_modules side (p ∷ (stream side t.state).modules) t.state); gone = t.gone }
+pushed-is K side names.Pckt p s is has may =
+    ap (led []) (stays-there side (module_named K names.Pckt) s) ∙ ap (λ q. led [] (driver_comes false side (with_modules side (q ∷ (stream side s).modules) s))) (ap (or_new K) is)
+pushed-is K side names.Ptem p s is has may =
+    ap (led []) (stays-there side (module_named K names.Ptem) s) ∙ ap (λ q. led [] (driver_comes false side (with_modules side (q ∷ (stream side s).modules) s))) (ap (or_new K) is)
+pushed-is K side (names.Own n) p s is has may =
+    let ms = (stream side s).modules in
+    let o = module_named K (names.Own n) in
+    let known = named-known K (names.Own n) (stands-known K (names.Own n) ms may) in
+    ap (λ q. pushed_named side q s) known
+    ∙ ap (led []) (stays-there side o s)
+    ∙ ap (λ q. led [] (driver_comes false side (with_modules side (q ∷ ms) s))) (ap (or_new K) (sym known ∙ is))
+pushed-is K side names.Ldterm p s is has may =
     let ms = (stream side s).modules in
     let t = mode_put side (mode_on_push names.Ldterm) s in
-    let l = module_named names.Ldterm in
+    let l = module_named K names.Ldterm in
     ap (λ (u : Carried ℕ (State ℕ)). led u.gone (let_come true side u.state)) (mode-among side (mode_on_push names.Ldterm) (l ∷ ms) s)
     ∙ ap (led t.gone) (comes side l ms t.state has (not-there (nat_lt (length ms) MODULES) (stands module_name names.Ldterm ms) may))
     ∙ ap (λ ms. led t.gone (driver_comes true side (with_modules side (l ∷ ms) t.state))) (sym (modules-stay side (mode_on_push names.Ldterm) s))
-    ∙ ap (λ q. led t.gone (driver_comes true side (with_modules side (q ∷ (stream side t.state).modules) t.state))) (ap or_new is)
+    ∙ ap (λ q. led t.gone (driver_comes true side (with_modules side (q ∷ (stream side t.state).modules) t.state))) (ap (or_new K) is)

@@ -2,7 +2,7 @@
 use Rattle.strm_pair.proofs.Prelude.{ℕ, zero, suc, ◌≡◌, ◌≤◌, ◌<◌, ◌+◌, Bool, true, false, List, [], ◌∷◌, map, refl, sym, ap, subst, ◌∙◌, arith}
 use Rattle.strm_pair.proofs.Prelude.{false≢true, sum_by-cons, Option, None, is_some, Some, IfSome, Result, Ok, Err, ◌&&◌, not, nat_lt, once-self}
 use Rattle.strm_pair.specs.Prelude.{MODULES, ModuleName, stands, have_queues, same_module, stood, may_stand, module_named, named_by, Standing}
-use Rattle.strm_pair.specs.Prelude.{kind_name}
+use Rattle.strm_pair.specs.Prelude.{kind_name, Behaviour}
 use Rattle.strm_pair.specs.Prelude.{module_name, StoreValue, list_at, all_of, AreHeld, Stack, Tables, QueuePair, owns, queues_in, queues_own}
 use Rattle.std.specs.List.{AllByRecursion}
 use Rattle.std.specs.Prelude.{MatchResult, length}
@@ -10,14 +10,15 @@ use Rattle.strm_types.specs.declared.names.ModuleName.TheVariants as names
 use Rattle.strm_types.specs.Modules.{may_push}
 use Rattle.strm_laws.specs.Pushes.{kind_named}
 use Rattle.strm_pair.specs.declared.modules.AnyModule.{AnyModule}
-use Rattle.strm_pair.specs.AnyModules.{AnyStanding, IsFresh, IsHeld, any-has, keeps, kind_in, module_in}
+use Rattle.strm_pair.specs.AnyModules.{AnyStanding, IsHeld, IsMade, any-has, keeps, module_in}
 use Rattle.strm_pair.specs.Given.{GivenFor}
 use Rattle.strm_pair.proofs.MadeModules.{given-are, given-ready, own-apart, own-within, some-own}
-use Rattle.strm_pair.proofs.Modes.{bare, neither}
+use Rattle.strm_laws.proofs.SameNames.{kind-is}
+use Rattle.strm_pair.proofs.Modes.{bare, named-known, neither, stands-known}
 
 -- the module that a name makes, where it may stand
-pub made-named : (kind : ModuleName) (ms : List (Standing ℕ)) → may_stand (named_by (Some kind)) ms ≡ true → (p : Standing ℕ) × (named_by (Some kind) ≡ Some p)
-made-named kind ms may = (module_named kind, refl)
+pub made-named : (K : Behaviour) (kind : ModuleName) (ms : List (Standing ℕ)) → may_stand (named_by K (Some kind)) ms ≡ true → (p : Standing ℕ) × (named_by K (Some kind) ≡ Some p)
+made-named K kind ms may = (module_named K kind, named-known K kind (stands-known K kind ms may))
 
 -- of two tests that both hold the second does, and where neither of two does the second doesn't
 second-holds : (a b : Bool) → (a && b) ≡ true → b ≡ true
@@ -28,17 +29,12 @@ none-has : (b : Bool) → not b ≡ true → b ≡ false
 none-has true is = absurd (cc)
 none-has false is = refl
 
--- its kind has the name by which it was made
-kind-is : (kind : ModuleName) → kind_name (kind_named {C = ℕ} kind) ≡ kind
-kind-is names.Ldterm = refl
-kind-is names.Ptem = refl
-kind-is names.Pckt = refl
-
 -- whatever module has the name that may be pushed may be
-pub may-named : (kind : ModuleName) (p : Standing ℕ) (ms : List (Standing ℕ)) → module_name p ≡ kind → may_stand (named_by (Some kind)) ms ≡ true → may_push module_name p ms ≡ true
-may-named names.Ldterm p ms is may = ap (λ kind. nat_lt (length ms) MODULES && not (stands module_name kind ms)) is ∙ may
-may-named names.Ptem p ms is may = ap (λ kind. nat_lt (length ms) MODULES && not (stands module_name kind ms)) is ∙ may
-may-named names.Pckt p ms is may = ap (λ kind. nat_lt (length ms) MODULES && not (stands module_name kind ms)) is ∙ may
+pub may-named : (K : Behaviour) (kind : ModuleName) (p : Standing ℕ) (ms : List (Standing ℕ)) → module_name p ≡ kind → may_stand (named_by K (Some kind)) ms ≡ true → may_push module_name p ms ≡ true
+may-named K kind p ms is may =
+    ap (λ name. nat_lt (length ms) MODULES && not (stands module_name name ms)) (is ∙ sym (kind-is ℕ K kind))
+    ∙ ap (λ o. may_stand o ms) (sym (named-known K kind (stands-known K kind ms may)))
+    ∙ may
 
 module _ (s : StoreValue) where
   one-none : (queues : Option QueuePair) → is_some (queues_in s queues) ≡ false → (k : ℕ) → queues_own queues k ≡ 0
@@ -54,38 +50,42 @@ module _ (s : StoreValue) where
       omega (arith, sum_by-cons (λ y. owns y k) x xs, one-none x.queues (any-has s x held.0 ∙ bare name apart.0) k, no-queues xs held.1 apart.1 k)
 
   -- where one with queues may be pushed no other one has any
-  pub queues-alone : (kind : ModuleName) (xs : List AnyStanding) → AllByRecursion (IsHeld s) xs → may_stand (named_by (Some kind)) (map (module_in s) xs) ≡ true → have_queues kind ≡ true
+  pub queues-alone : (K : Behaviour) (kind : ModuleName) (xs : List AnyStanding) → AllByRecursion (IsHeld s) xs → may_stand (named_by K (Some kind)) (map (module_in s) xs) ≡ true → have_queues kind ≡ true
       → (k : ℕ) → all_of owns xs k ≡ 0
-  queues-alone names.Ldterm xs held may is k =
+  queues-alone K names.Ldterm xs held may is k =
       let ms = map (module_in s) xs in
       no-queues xs held (none-has (stands module_name names.Ldterm ms) (second-holds (nat_lt (length ms) MODULES) (not (stands module_name names.Ldterm ms)) may)) k
-  queues-alone names.Ptem xs held may is k = absurd (cc)
-  queues-alone names.Pckt xs held may is k = absurd (cc)
+  queues-alone K names.Ptem xs held may is k = absurd (cc)
+  queues-alone K names.Pckt xs held may is k = absurd (cc)
+  queues-alone K (names.Own n) xs held may is k = absurd (cc)
 
-  module _ (first : ℕ) (kind : ModuleName) (a b : Stack AnyModule) (x : AnyStanding) (before : AreHeld IsHeld owns s a.modules.items)
-      (may : may_stand (named_by (Some kind)) (map (module_in s) a.modules.items) ≡ true)
+  module _ (K : Behaviour) (first : ℕ) (kind : ModuleName) (a b : Stack AnyModule) (x : AnyStanding)
+      (before : AreHeld IsHeld owns s a.modules.items)
+      (may : may_stand (named_by K (Some kind)) (map (module_in s) a.modules.items) ≡ true)
       (spare : (k : ℕ) → first + 2 ≤ k → k < first + 4 → all_of owns a.modules.items k ≡ 0 → list_at s k ≡ [])
-      (made : kind_in s x.module ≡ kind_named kind) (fresh : IsFresh kind x.module) (given : GivenFor kind (first + 2) x.queues)
+      (made : IsMade K kind x.module) (given : GivenFor kind (first + 2) x.queues)
       {U : Type 0} (r : Result U AnyStanding)
       (pushed : MatchResult r (λ _. (may_push module_name (module_in s x) (map (module_in s) a.modules.items) ≡ true) × (b.modules.items ≡ x ∷ a.modules.items)) (λ back. (may_push module_name (module_in s x) (map (module_in s) a.modules.items) ≡ false) × ((back ≡ x) × (b ≡ a)))) where
     may-be : may_push module_name (module_in s x) (map (module_in s) a.modules.items) ≡ true
-    may-be = may-named kind (module_in s x) (map (module_in s) a.modules.items) (ap kind_name made ∙ kind-is kind) may
+    may-be = may-named K kind (module_in s x) (map (module_in s) a.modules.items) (ap kind_name (made.made s) ∙ kind-is ℕ K kind) may
 
     within : (k : ℕ) → 0 < owns x k → (first + 2 ≤ k) × (k < first + 2 + 2)
     within k some = own-within kind (first + 2) x.queues given k some
 
     -- its own lists are no other's, and nothing stands on them
     others-none : (k : ℕ) → 0 < owns x k → all_of owns a.modules.items k ≡ 0
-    others-none k some = queues-alone kind a.modules.items before.each may (sym given.has ∙ some-own x.queues k some) k
+    others-none k some = queues-alone K kind a.modules.items before.each may (sym given.has ∙ some-own x.queues k some) k
 
     empty : (k : ℕ) → 0 < owns x k → list_at s k ≡ []
     empty k some = let own = within k some in spare k own.0 (omega (arith, own.1)) (others-none k some)
 
-    state : module_in s x ≡ module_named kind
-    state = ap (λ part. stood part (queues_in s x.queues)) made ∙ ap (λ queues. stood (kind_named kind) queues) (given-are kind (first + 2) s x.queues given empty)
+    state : module_in s x ≡ module_named K kind
+    state =
+        ap (λ part. stood part (queues_in s x.queues)) (made.made s) ∙ ap (λ queues. stood (kind_named K kind) queues)
+        (given-are kind (first + 2) s x.queues given empty)
 
     fits : IsHeld s x
-    fits = record { queues = given-ready kind (first + 2) s x.queues given empty; itself = fresh.held s x.queues given.has }
+    fits = record { queues = given-ready kind (first + 2) s x.queues given empty; itself = made.fresh.held s x.queues given.has }
 
     -- it stands on top of them
     is : b.modules.items ≡ x ∷ a.modules.items
@@ -95,11 +95,13 @@ module _ (s : StoreValue) where
         by (Ok u) pushed = pushed.1
         by (Err back) pushed = absurd (let never = sym pushed.0 ∙ may-be in cc)
 
-    pub pushed-modules : IfSome (named_by (Some kind)) (λ p. map (module_in s) b.modules.items ≡ p ∷ map (module_in s) a.modules.items)
-    pushed-modules = ap (map (module_in s)) is ∙ ap (λ p. p ∷ map (module_in s) a.modules.items) state
+    pub pushed-modules : IfSome (named_by K (Some kind)) (λ p. map (module_in s) b.modules.items ≡ p ∷ map (module_in s) a.modules.items)
+    pushed-modules =
+        subst (λ o. IfSome o (λ p. map (module_in s) b.modules.items ≡ p ∷ map (module_in s) a.modules.items)) (sym (named-known K kind made.known))
+        (ap (map (module_in s)) is ∙ ap (λ p. p ∷ map (module_in s) a.modules.items) state)
 
     pub pushed-keeps : (i : ℕ) → all_of keeps b.modules.items i ≡ all_of keeps a.modules.items i
-    pushed-keeps i = omega (arith, ap (λ xs. all_of keeps xs i) is, sum_by-cons (λ y. keeps y i) x a.modules.items, fresh.rests i)
+    pushed-keeps i = omega (arith, ap (λ xs. all_of keeps xs i) is, sum_by-cons (λ y. keeps y i) x a.modules.items, made.fresh.rests i)
 
     owns-all : (k : ℕ) → all_of owns b.modules.items k ≡ owns x k + all_of owns a.modules.items k
     owns-all k = ap (λ xs. all_of owns xs k) is ∙ sum_by-cons (λ y. owns y k) x a.modules.items

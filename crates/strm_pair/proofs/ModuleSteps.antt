@@ -6,7 +6,7 @@ use Rattle.strm_pair.specs.Prelude.{Book, Both, Dir, MasterToSlave, SlaveToMaste
 use Rattle.strm_pair.specs.Prelude.{Took, tallied, places_of, made_of, Message, at_place, set, other, earlier_at, module_acted, noted, put_at_module}
 use Rattle.strm_pair.specs.Prelude.{spare, spare_behind, EachOnce, module_takes, Standing, module_name, State, Stream, book, stream, with_stream}
 use Rattle.strm_pair.specs.Prelude.{IsStore, StoreValue, list_at, queue_in, HoldsReadable, Acts, AreIn, CanPut, Handles, OnlyOwn, SamePool, Spends}
-use Rattle.strm_pair.specs.Prelude.{once, message_in, sent_of, times_sent}
+use Rattle.strm_pair.specs.Prelude.{once, message_in, sent_of, times_sent, Behaviour}
 use Rattle.strm_laws.specs.Puts.{made_above}
 use Rattle.strm_laws.specs.Spares.{module_packs, packet_most}
 use Rattle.strm_laws.proofs.Booked.{booked-on}
@@ -153,31 +153,32 @@ module _ (s t : StoreValue) (p q : Streams) (x : Stack) (here : Spot) (gone sent
       }
 
 -- a module takes the message
-pub module-by : (s t : StoreValue) (p q : Streams) (x : Stack) (i : ℕ) (to : Spot) (place : Option Place) (earlier : Way → Option QueueName) (acts : Acts) (f f' : Fates) (a b : ℕ)
+pub module-by : (K : Behaviour) (s t : StoreValue) (p q : Streams) (x : Stack) (i : ℕ) (to : Spot) (place : Option Place) (earlier : Way → Option QueueName) (acts : Acts) (f f' : Fates) (a b : ℕ)
     → let m = message_in s i in let st = state_in s p in let ms = (stream to.side st).modules in IsStore s → CanPut s i (kept_by p)
     → place ≡ slice_index_or (places_of ms) (to.at - 1) None → ((way : Way) → earlier way ≡ earlier_at to.side to.at st way) → AreBeside s p
-    → StackTakes s t (end_at to.side p).stack x i to acts f f' → a ≡ made_in MasterToSlave (taken_at to m ms).gone → b ≡ made_in SlaveToMaster (taken_at to m ms).gone
+    → StackTakes K s t (end_at to.side p).stack x i to acts f f' → a ≡ made_in MasterToSlave (taken_at K to m ms).gone → b ≡ made_in SlaveToMaster (taken_at K to m ms).gone
     → q ≡ record (with_end to.side (record (end_at to.side p) { stack = x }) p) {
       enabled = noted to.side place earlier acts.notes.items p.enabled;
       books = with_more a b p.books;
     }
-    → PutBy s t p q i (at_place (module_takes to m) 0 to.at ms) (sent_of acts.sent) f f' (put_at_module plain to m st)
-module-by s t p q x i to place earlier acts f f' a b store can place_is earlier_is beside e a_is b_is q_is =
+    → PutBy s t p q i (at_place (module_takes to m) 0 to.at ms) (sent_of acts.sent) f f' (put_at_module K plain to m st)
+module-by K s t p q x i to place earlier acts f f' a b store can place_is earlier_is beside e a_is b_is q_is =
     let m = message_in s i in
     let st = state_in s p in
     let ms = (stream to.side st).modules in
     let same = sym (modules-are s p to.side) in
-    let did = taken_at to m ms in
+    let did = taken_at K to m ms in
     let r = stack-acts s t p q x to (once i) (λ j. times_sent j (sent_of acts.sent)) did place earlier acts.notes.items a b store can beside place_is earlier_is
-    (e.state ∙ ap (λ ls. (taken_at to m ls).state) same) (e.notes ∙ ap (λ ls. (taken_at to m ls).notes) same) (keep-names plain 0 (to.at - 1) to m ms)
+    (e.state ∙ ap (λ ls. (taken_at K to m ls).state) same) (e.notes ∙ ap (λ ls. (taken_at K to m ls).notes) same)
+    (keep-names K plain 0 (to.at - 1) to m ms)
     e.held e.own e.hands e.pool a_is b_is q_is in
     let books : (Acted ℕ (List (Standing ℕ))) → Took ℕ (State ℕ) = λ t. module_acted to t st in
     subst (λ w. PutBy s t p q i (at_place (module_takes to m) 0 to.at ms) (sent_of acts.sent) f f' w)
-    (ap books (among-same 0 (made_above to.side st) to m (to.at - 1) ms))
+    (ap books (among-same K 0 (made_above to.side st) to m (to.at - 1) ms))
     (record {
       state = r.state;
-      sent = e.sent ∙ ap (λ ls. (taken_at to m ls).sent) same;
-      tells = e.told ∙ ap (λ ls. tallied (taken_at to m ls).gone f) same;
+      sent = e.sent ∙ ap (λ ls. (taken_at K to m ls).sent) same;
+      tells = e.told ∙ ap (λ ls. tallied (taken_at K to m ls).gone f) same;
       beside = r.beside;
       chains = e.chains;
       hands = r.hands;
@@ -191,42 +192,42 @@ made_told SlaveToMaster f = f.made_from_slave
 
 -- what a put at a module made, where it fits the books
 module _ (to : Spot) (m : Message ℕ) (st : State ℕ) (small : length m.plain ≤ 16777216) where
-  abbrev told_of : List (Fate ℕ)
-  told_of = (taken_at to m (stream to.side st).modules).gone
+  abbrev told_of : (K : Behaviour) → List (Fate ℕ)
+  told_of K = (taken_at K to m (stream to.side st).modules).gone
 
   abbrev units : ℕ
   units = at_place (module_packs to m) 0 to.at (stream to.side st).modules
 
-  makes : made_of told_of ≤ units * packet_most
-  makes = among-makes plain 0 to m small (to.at - 1) (stream to.side st).modules
+  makes : (K : Behaviour) → made_of (told_of K) ≤ units * packet_most
+  makes K = among-makes plain 0 to m small K (to.at - 1) (stream to.side st).modules
 
   one-unit : units ≤ 1
   one-unit = among-one plain 0 to m small (to.at - 1) (stream to.side st).modules
 
-  put-makes : (units : ℕ) → made_of told_of ≤ units * packet_most → units ≤ 1 → made_of told_of ≤ packet_most
-  put-makes zero most one = omega (arith, most)
-  put-makes (suc zero) most one = omega (arith, most)
-  put-makes (suc (suc n)) most one = absurd (omega (arith, one))
+  put-makes : (K : Behaviour) (units : ℕ) → made_of (told_of K) ≤ units * packet_most → units ≤ 1 → made_of (told_of K) ≤ packet_most
+  put-makes K zero most one = omega (arith, most)
+  put-makes K (suc zero) most one = omega (arith, most)
+  put-makes K (suc (suc n)) most one = absurd (omega (arith, one))
 
-  few-made : made_of told_of ≤ packet_most
-  few-made = put-makes units makes one-unit
+  few-made : (K : Behaviour) → made_of (told_of K) ≤ packet_most
+  few-made K = put-makes K units (makes K) one-unit
 
-  takes-by : (units made more : ℕ) → made_of told_of ≤ units * packet_most → units ≤ 1 → units ≤ spare_behind made → more ≤ made_of told_of → BookTakes made more
-  takes-by zero made more most one spare less = λ some. absurd (omega (arith, most, less, some))
-  takes-by (suc zero) made more most one spare less = λ some. (let fits = spare-fits made more spare (omega (arith, most, less)) in omega (arith, fits))
-  takes-by (suc (suc n)) made more most one spare less = absurd (omega (arith, one))
+  takes-by : (K : Behaviour) (units made more : ℕ) → made_of (told_of K) ≤ units * packet_most → units ≤ 1 → units ≤ spare_behind made → more ≤ made_of (told_of K) → BookTakes made more
+  takes-by K zero made more most one spare less = λ some. absurd (omega (arith, most, less, some))
+  takes-by K (suc zero) made more most one spare less = λ some. (let fits = spare-fits made more spare (omega (arith, most, less)) in omega (arith, fits))
+  takes-by K (suc (suc n)) made more most one spare less = absurd (omega (arith, one))
 
-  pub put-fits : units ≤ spare st → (d : Dir) → BookTakes (book d st).made (made_in d told_of)
-  put-fits spare MasterToSlave = takes-by units (book MasterToSlave st).made (made_in MasterToSlave told_of) makes one-unit (omega (arith, spare)) (omega (arith, made-within told_of))
-  put-fits spare SlaveToMaster = takes-by units (book SlaveToMaster st).made (made_in SlaveToMaster told_of) makes one-unit (omega (arith, spare)) (omega (arith, made-within told_of))
+  pub put-fits : (K : Behaviour) → units ≤ spare st → (d : Dir) → BookTakes (book d st).made (made_in d (told_of K))
+  put-fits K spare MasterToSlave = takes-by K units (book MasterToSlave st).made (made_in MasterToSlave (told_of K)) (makes K) one-unit (omega (arith, spare)) (omega (arith, made-within (told_of K)))
+  put-fits K spare SlaveToMaster = takes-by K units (book SlaveToMaster st).made (made_in SlaveToMaster (told_of K)) (makes K) one-unit (omega (arith, spare)) (omega (arith, made-within (told_of K)))
 
   -- and the counts tell it
-  pub put-between : (d : Dir) (f f' : Fates) → f.made_from_master < 2 ^ 64 → f.made_from_slave < 2 ^ 64 → f' ≡ tallied told_of f → between (made_told d f) (made_told d f') ≡ made_in d told_of
-  put-between MasterToSlave f f' low few is =
+  pub put-between : (K : Behaviour) (d : Dir) (f f' : Fates) → f.made_from_master < 2 ^ 64 → f.made_from_slave < 2 ^ 64 → f' ≡ tallied (told_of K) f → between (made_told d f) (made_told d f') ≡ made_in d (told_of K)
+  put-between K MasterToSlave f f' low few is =
       ap (λ (g : Fates). between f.made_from_master g.made_from_master) is
-      ∙ ap (between f.made_from_master) (master-told told_of f low)
-      ∙ between-counts f.made_from_master (made_in MasterToSlave told_of) low (omega (arith, few-made, made-within told_of))
-  put-between SlaveToMaster f f' low few is =
+      ∙ ap (between f.made_from_master) (master-told (told_of K) f low)
+      ∙ between-counts f.made_from_master (made_in MasterToSlave (told_of K)) low (omega (arith, few-made K, made-within (told_of K)))
+  put-between K SlaveToMaster f f' low few is =
       ap (λ (g : Fates). between f.made_from_slave g.made_from_slave) is
-      ∙ ap (between f.made_from_slave) (slave-told told_of f few)
-      ∙ between-counts f.made_from_slave (made_in SlaveToMaster told_of) few (omega (arith, few-made, made-within told_of))
+      ∙ ap (between f.made_from_slave) (slave-told (told_of K) f few)
+      ∙ between-counts f.made_from_slave (made_in SlaveToMaster (told_of K)) few (omega (arith, few-made K, made-within (told_of K)))

@@ -4,7 +4,7 @@ use Rattle.strm_pair.proofs.Prelude.{not, slice_index_or, Option, None, Some, is
 use Rattle.strm_pair.specs.Prelude.{Turn, Idle, Blocked, QueueName, Side, Way, Up, Down, Spot, plain, AreIdle, at_place, place_past, messages_at}
 use Rattle.strm_pair.specs.Prelude.{module_turned, moved_within, place_named, stayed_at, change_among, has_room_past, waits_on, writer_waits}
 use Rattle.strm_pair.specs.Prelude.{is_none_left, first_size, IsAtRest, KindRests, Module, OfLdterm, Standing, module_asks, State, Stream, stream}
-use Rattle.strm_pair.specs.Prelude.{none_there, TurnOutcome, stayed_put}
+use Rattle.strm_pair.specs.Prelude.{none_there, TurnOutcome, stayed_put, Behaviour}
 use Rattle.std.specs.List.{AllByRecursion}
 use Rattle.strm_types.specs.declared.kinds.Band.{Band}
 use Rattle.strm_types.specs.declared.spots.Asks.{Asks}
@@ -38,33 +38,35 @@ abbrev pub spot_of : QueueName → ℕ → Spot
 spot_of name at = record { side = name.side; at = at; way = name.way }
 
 -- without such a module it is over
-pub turned-nowhere : (name : QueueName) (turn : Turn) (s : State ℕ) → place_named name.place (stream name.side s).modules ≡ None → module_turned plain name turn s ≡ stayed_put Idle s
-turned-nowhere name turn s none = ap (turned_named plain name turn s) none
+pub turned-nowhere : (K : Behaviour) (name : QueueName) (turn : Turn) (s : State ℕ) → place_named name.place (stream name.side s).modules ≡ None → module_turned K plain name turn s ≡ stayed_put Idle s
+turned-nowhere K name turn s none = ap (turned_named K plain name turn s) none
 
 -- with one it goes by what its first message asks
-pub turned-asks : (name : QueueName) (at : ℕ) (asks : Asks) (turn : Turn) (s : State ℕ) → AreIdle s → place_named name.place (stream name.side s).modules ≡ Some at
-    → asks ≡ at_place (module_asks name.way) asked.Empty at (stream name.side s).modules → module_turned plain name turn s ≡ asked_turn plain (spot_of name at) asks name turn s
-turned-asks name at asks turn s idle found is =
+pub turned-asks : (K : Behaviour) (name : QueueName) (at : ℕ) (asks : Asks) (turn : Turn) (s : State ℕ) → AreIdle s → place_named name.place (stream name.side s).modules ≡ Some at
+    → asks ≡ at_place (module_asks name.way) asked.Empty at (stream name.side s).modules → module_turned K plain name turn s ≡ asked_turn K plain (spot_of name at) asks name turn s
+turned-asks K name at asks turn s idle found is =
     let ps = (stream name.side s).modules in
     let low = found-low name.place ps at found in
     let rested : at_place module_rests false at ps ≡ true = rests-at (at - 1) ps (idle name.side) (omega (arith, low.0, low.1)) in
-    ap (turned_named plain name turn s) found
-    ∙ ap (λ b. cond {A = TurnOutcome ℕ} b (asked_turn plain (spot_of name at) (at_place (module_asks name.way) asked.Empty at ps) name turn s) (stayed_put Blocked s)) rested
-    ∙ ap (λ a. asked_turn plain (spot_of name at) a name turn s) (sym is)
+    ap (turned_named K plain name turn s) found
+    ∙ ap (λ b. cond {A = TurnOutcome ℕ} b (asked_turn K plain (spot_of name at) (at_place (module_asks name.way) asked.Empty at ps) name turn s) (stayed_put Blocked s)) rested
+    ∙ ap (λ a. asked_turn K plain (spot_of name at) a name turn s) (sym is)
 
-pub turned-waits : (name : QueueName) (at : ℕ) (band : Band) (turn : Turn) (s : State ℕ) → has_room_past name.side name.way at band.0 s ≡ false
-    → asked_turn plain (spot_of name at) (asked.Room band) name turn s ≡ stayed_at Blocked (spot_of name at) (writer_waits name.side name.way at band.0 s)
-turned-waits name at band turn s none = ap (λ b. cond {A = TurnOutcome ℕ} b (moved_within plain (spot_of name at) name turn s) (stayed_at Blocked (spot_of name at) (writer_waits name.side name.way at band.0 s))) none
+pub turned-waits : (K : Behaviour) (name : QueueName) (at : ℕ) (band : Band) (turn : Turn) (s : State ℕ)
+    → has_room_past name.side name.way at band.0 s ≡ false
+    → asked_turn K plain (spot_of name at) (asked.Room band) name turn s ≡ stayed_at Blocked (spot_of name at) (writer_waits name.side name.way at band.0 s)
+turned-waits K name at band turn s none = ap (λ b. cond {A = TurnOutcome ℕ} b (moved_within K plain (spot_of name at) name turn s) (stayed_at Blocked (spot_of name at) (writer_waits name.side name.way at band.0 s))) none
 
-pub turned-room : (name : QueueName) (at : ℕ) (band : Band) (turn : Turn) (s : State ℕ) → has_room_past name.side name.way at band.0 s ≡ true
-    → asked_turn plain (spot_of name at) (asked.Room band) name turn s ≡ moved_within plain (spot_of name at) name turn s
-turned-room name at band turn s room = ap (λ b. cond {A = TurnOutcome ℕ} b (moved_within plain (spot_of name at) name turn s) (stayed_at Blocked (spot_of name at) (writer_waits name.side name.way at band.0 s))) room
+pub turned-room : (K : Behaviour) (name : QueueName) (at : ℕ) (band : Band) (turn : Turn) (s : State ℕ)
+    → has_room_past name.side name.way at band.0 s ≡ true
+    → asked_turn K plain (spot_of name at) (asked.Room band) name turn s ≡ moved_within K plain (spot_of name at) name turn s
+turned-room K name at band turn s room = ap (λ b. cond {A = TurnOutcome ℕ} b (moved_within K plain (spot_of name at) name turn s) (stayed_at Blocked (spot_of name at) (writer_waits name.side name.way at band.0 s))) room
 
 -- where it may serve
-pub may-move : (name : QueueName) (at : ℕ) (s : State ℕ) → place_named name.place (stream name.side s).modules ≡ Some at
-    → at_place (λ p. first_size (messages_at name.way p)) 0 at (stream name.side s).modules ≤ 16777216 → ((turn : Turn) → module_turned plain name turn s ≡ moved_within plain (spot_of name at) name turn s)
-    → MayMove s s name (spot_of name at)
-may-move name at s found few moves =
+pub may-move : (K : Behaviour) (name : QueueName) (at : ℕ) (s : State ℕ) → place_named name.place (stream name.side s).modules ≡ Some at
+    → at_place (λ p. first_size (messages_at name.way p)) 0 at (stream name.side s).modules ≤ 16777216 → ((turn : Turn) → module_turned K plain name turn s ≡ moved_within K plain (spot_of name at) name turn s)
+    → MayMove K s s name (spot_of name at)
+may-move K name at s found few moves =
     let ps = (stream name.side s).modules in
     let low = found-low name.place ps at found in
     let size = index-map none_there (λ p. first_size (messages_at name.way p)) 0 (at - 1) ps (omega (arith, low.0, low.1)) in

@@ -8,7 +8,7 @@ use Rattle.strm_pair.specs.Prelude.{is_data_kind, is_data, bytes_left, Message, 
 use Rattle.strm_pair.specs.Prelude.{have_queues, same_module, named_from, places_of, Standing, module_name, MODULES}
 use Rattle.strm_pair.specs.Prelude.{moved_by, place_named, IsKeptAhead, MovesOn, Free, enough, State, Stream, stream, discipline_of, module_at}
 use Rattle.strm_pair.specs.Prelude.{none_there, ldterm_of, TurnOutcome, stayed_put, driver_serves, driver_turned, is_stopped_across, moved_across}
-use Rattle.strm_pair.specs.Prelude.{Block, StoreValue, free_d, free_m, list_at, message_of, least_free, QueuePair, queues_in}
+use Rattle.strm_pair.specs.Prelude.{Block, StoreValue, free_d, free_m, list_at, message_of, least_free, QueuePair, queues_in, Behaviour}
 use Rattle.std.specs.List.{AllByRecursion}
 use Rattle.std.proofs.Math.Nat.{le-min}
 use Rattle.strm_types.specs.declared.names.Place.TheVariants as places
@@ -98,9 +98,9 @@ least-enough t few = at (nat_le STOP_BLOCKS (free_m t)) refl (nat_le STOP_BLOCKS
         absurd (omega (arith, low, few))
 
 -- a turn of a module's queue
-pub serves-moves : (name : QueueName) (here : Spot) (old begun : State ℕ) (t : StoreValue) (bytes : ℕ) → MayMove old begun name here → bytes ≤ bytes_left here.way false (discipline_of (module_at here begun))
+pub serves-moves : (K : Behaviour) (name : QueueName) (here : Spot) (old begun : State ℕ) (t : StoreValue) (bytes : ℕ) → MayMove K old begun name here → bytes ≤ bytes_left here.way false (discipline_of (module_at here begun))
     → (bytes ≡ 0 → bytes_left here.way false (discipline_of (module_at here begun)) ≡ 0) → StopsFew here bytes begun t → (owner : ModuleName) → name.place ≡ places.Module owner → MovesOn old (free_in t) name (Moved bytes)
-serves-moves name here old begun t bytes may within some few owner place = at (nat_lt bytes left) refl
+serves-moves K name here old begun t bytes may within some few owner place = at (nat_lt bytes left) refl
   where
     left : ℕ
     left = bytes_left here.way false (discipline_of (module_at here begun))
@@ -137,7 +137,7 @@ serves-moves name here old begun t bytes may within some few owner place = at (n
 pub moves-taken : (names : List QueueName) (s : State ℕ) (free : Free) (name : QueueName) (turn : Turn) → MovesOn (record s { enabled = names }) free name turn → MovesOn s free name turn
 moves-taken names s free name (Moved bytes) moves = elim moves [
   | inl whole ↦ inl whole
-  | inr within ↦ inr (record { place = within.place; some = within.some; few = λ kept. within.few (kept-ahead name.way name.side s (record s { enabled = names }) (λ side. refl) kept) })
+  | inr within ↦ inr (record { place = within.place; some = within.some; few = λ kept. within.few (kept-ahead name.way name.side s (record s { enabled = names }) (λ side. refl) refl kept) })
 ]
 moves-taken names s free name Blocked moves = tt
 moves-taken names s free name Idle moves = tt
@@ -153,16 +153,16 @@ stays-moves name s free Blocked none = tt
 stays-moves name s free Idle none = tt
 
 -- a driver's goes whole
-pub driver-moves : (name : QueueName) (turn : Turn) (s : State ℕ) (free : Free) → name.place ≡ Driver → turn ≡ (driver_turned plain name.side s).turn → MovesOn s free name turn
-driver-moves name turn s free place is = subst (MovesOn s free name) (sym is) (at (stream name.side s).driver.queue.messages refl)
+pub driver-moves : (K : Behaviour) (name : QueueName) (turn : Turn) (s : State ℕ) (free : Free) → name.place ≡ Driver → turn ≡ (driver_turned K plain name.side s).turn → MovesOn s free name turn
+driver-moves K name turn s free place is = subst (MovesOn s free name) (sym is) (at (stream name.side s).driver.queue.messages refl)
   where
     by : (m : Message ℕ) (closed stopped : Bool) (one another : State ℕ) (t : TurnOutcome ℕ) → MovesOn s free name t.turn → MovesOn s free name (cond closed (stayed_put Blocked one) (cond stopped (stayed_put Blocked another) t)).turn
     by m true stopped one another t moves = tt
     by m false true one another t moves = tt
     by m false false one another t moves = moves
 
-    at : (ms : List (Message ℕ)) → (stream name.side s).driver.queue.messages ≡ ms → MovesOn s free name (driver_serves plain name.side ms s).turn
+    at : (ms : List (Message ℕ)) → (stream name.side s).driver.queue.messages ≡ ms → MovesOn s free name (driver_serves K plain name.side ms s).turn
     at [] first = tt
     at (m ∷ rest) first =
-        by m (not (is_open (stream (other name.side) s).opened)) (is_stopped_across name.side m s) _ _ (moved_across plain name.side m rest s)
+        by m (not (is_open (stream (other name.side) s).opened)) (is_stopped_across name.side m s) _ _ (moved_across K plain name.side m rest s)
         (inl (sym (ap (λ (pl : Place). whole_at pl name.way (stream name.side s)) place ∙ ap (λ (ms : List (Message ℕ)). Moved (first_size ms)) first)))

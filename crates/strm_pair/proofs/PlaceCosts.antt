@@ -3,7 +3,7 @@ use Rattle.strm_pair.proofs.Prelude.{ℕ, ◌≡◌, ◌≤◌, ◌+◌, Bool, t
 use Rattle.strm_pair.proofs.Prelude.{own, place-makes, bytes-sum, plain-is, few-bytes}
 use Rattle.strm_pair.specs.Prelude.{HOPS, Master, Slave, Spot, budget, cost_of, most, most_of, plain, Parcel, modules_on, is_data_kind, Message}
 use Rattle.strm_pair.specs.Prelude.{shape_of, put_at_head, put_at_module, put_behind, put_below, put_in, costs, spare, EachOnce, stands_of, State}
-use Rattle.strm_pair.specs.Prelude.{IsStore, StoreValue, block_at, in_hand, message_of, HasRoom, message_in}
+use Rattle.strm_pair.specs.Prelude.{IsStore, StoreValue, block_at, in_hand, message_of, HasRoom, message_in, Behaviour}
 use Rattle.strm_types.proofs.CostsOf.{cost-under}
 use Rattle.strm_laws.specs.StackCosts.{StandOnce, Stands}
 use Rattle.strm_laws.proofs.StackSpares.{behind-spare, head-spare, stack-falls}
@@ -21,16 +21,16 @@ plain-few s i store = at (is_data_kind (block_at 0 (in_hand s i)).kind) refl
     at false is = omega (arith, ap (λ (m : Message ℕ). length m.plain) (plain-is (in_hand s i) is), bytes-sum (in_hand s i), few-bytes s store 0 i)
 
 -- what a put takes of the books
-module _ (to : Spot) (m : Message ℕ) (s : State ℕ) (small : length m.plain ≤ 16777216) where
-  pub puts-spend : spare s ≤ spare (put_in plain to m s).state + own to (shape_of m) s
+module _ (K : Behaviour) (to : Spot) (m : Message ℕ) (s : State ℕ) (small : length m.plain ≤ 16777216) where
+  pub puts-spend : spare s ≤ spare (put_in K plain to m s).state + own to (shape_of m) s
   puts-spend = at (to.at == 0) refl
     where
       below : (stands : Bool) → nat_le to.at (modules_on to.side s) ≡ stands → (to.at == 0) ≡ false
-          → spare s ≤ spare (cond stands (put_at_module plain to m s) (put_behind to.way to m s)).state + own to (shape_of m) s
-      below true is inside = omega (arith, stack-falls plain to m s small, place-makes to m s inside is)
+          → spare s ≤ spare (cond stands (put_at_module K plain to m s) (put_behind to.way to m s)).state + own to (shape_of m) s
+      below true is inside = omega (arith, stack-falls K plain to m s small, place-makes to m s inside is)
       below false is inside = omega (arith, behind-spare to.way to m s)
 
-      at : (top : Bool) → (to.at == 0) ≡ top → spare s ≤ spare (cond top (put_at_head to.side to m s) (put_below plain to.way to m s)).state + own to (shape_of m) s
+      at : (top : Bool) → (to.at == 0) ≡ top → spare s ≤ spare (cond top (put_at_head to.side to m s) (put_below K plain to.way to m s)).state + own to (shape_of m) s
       at true is = omega (arith, head-spare to.side to m s)
       at false is = below (nat_le to.at (modules_on to.side s)) refl is
 

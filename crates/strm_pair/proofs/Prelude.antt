@@ -27,7 +27,7 @@ pub use Rattle.strm_laws.proofs.PutsOwn.{own, place-makes, place-own}
 pub use Rattle.strm_laws.proofs.Replay.{call-allowed, met, or_else-none, turn-allowed, unless-none}
 pub use Rattle.strm_laws.proofs.StackOnce.{none-once}
 pub use Rattle.strm_laws.proofs.StackSpares.{range-spare, same-spare, spare-low}
-pub use Rattle.strm_laws.proofs.StackStays.{keep-names, queue-names, serve-names}
+pub use Rattle.strm_laws.proofs.SameNames.{keep-names, queue-names, serve-names}
 pub use Rattle.strm_laws.proofs.Staying.{kept-ahead}
 pub use Rattle.strm_ldterm.proofs.Flushed.{tallied-append}
 pub use Rattle.strm_msg.proofs.Chains.{bytes-sum, control-body, control-front, data-all, data-behind, data-or-control, kind-is}

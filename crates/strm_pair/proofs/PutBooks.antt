@@ -3,7 +3,7 @@ use Rattle.strm_pair.proofs.Prelude.{ℕ, ◌≡◌, ◌<◌, ◌+◌, Bool, tru
 use Rattle.strm_pair.proofs.Prelude.{option_map, nat_lt, ◌&&◌, nat_tests, written-plain}
 use Rattle.strm_pair.specs.Prelude.{Book, Prio, Dir, MasterToSlave, SlaveToMaster, Side, Master, Slave, Down, Fates, Spot, with_written, plain}
 use Rattle.strm_pair.specs.Prelude.{cells_written, Carried, tallied, Message, part, direction_from, no_parts, put_message, delivered, in_range, spare}
-use Rattle.strm_pair.specs.Prelude.{State, book, with_book}
+use Rattle.strm_pair.specs.Prelude.{State, book, with_book, Behaviour}
 use Rattle.strm_types.specs.declared.books.TheConstants.{BOOK_MAX}
 use Rattle.strm_types.specs.Books as books
 use Rattle.strm_laws.specs.Calls.{message_put, put_at}
@@ -37,22 +37,22 @@ message-plain side prio control body s =
     ap (λ c. put_message prio c (option_map (cells_written plain dir (n + length (part control))) body)) (part-plain dir n control)
     ∙ ap (λ b. put_message prio control b) (part-plain dir (n + length (part control)) body)
 
-module _ (side : Side) (prio : Prio) (control body : Option (List ℕ)) (s : State ℕ) (some : no_parts control body ≡ false) where
+module _ (K : Behaviour) (side : Side) (prio : Prio) (control body : Option (List ℕ)) (s : State ℕ) (some : no_parts control body ≡ false) where
   -- what is delivered of a message
   abbrev sent : Message ℕ → Carried ℕ (State ℕ)
-  sent m = delivered plain (record { side = side; at = 1; way = Down }) m s
+  sent m = delivered K plain (record { side = side; at = 1; way = Down }) m s
 
   abbrev booked : Message ℕ → Carried ℕ (State ℕ)
   booked m = record { state = with_book (direction_from side) (with_written (length (part control) + length (part body)) (book (direction_from side) (sent m).state)) (sent m).state; gone = (sent m).gone }
 
-  put-is : put_at plain side prio control body s ≡ booked (put_message prio control body)
+  put-is : put_at K plain side prio control body s ≡ booked (put_message prio control body)
   put-is =
       ap (λ (b : Bool). cond b (record { state = s; gone = [] }) (booked (message_put plain side prio control body s))) some
       ∙ ap booked (message-plain side prio control body s)
 
   module _ (message : Message ℕ) (shows : message ≡ put_message prio control body) where
     pub put-state : (t u : State ℕ) (b : Book) (n : ℕ) → t ≡ (sent message).state → u ≡ with_book (direction_from side) b t → b ≡ with_written n (book (direction_from side) t) → n ≡ length (part control) + length (part body)
-        → u ≡ (put_at plain side prio control body s).state
+        → u ≡ (put_at K plain side prio control body s).state
     put-state t u b n led kept b_is n_is =
         kept
         ∙ ap (λ x. with_book (direction_from side) b x) led
@@ -61,15 +61,16 @@ module _ (side : Side) (prio : Prio) (control body : Option (List ℕ)) (s : Sta
         ∙ ap (λ m. (booked m).state) shows
         ∙ sym (ap (λ (x : Carried ℕ (State ℕ)). x.state) put-is)
 
-    pub put-told : (old new : Fates) → new ≡ tallied (sent message).gone old → new ≡ tallied (put_at plain side prio control body s).gone old
+    pub put-told : (old new : Fates) → new ≡ tallied (sent message).gone old → new ≡ tallied (put_at K plain side prio control body s).gone old
     put-told old new told =
         told
         ∙ ap (λ m. tallied (sent m).gone old) shows
         ∙ sym (ap (λ (x : Carried ℕ (State ℕ)). tallied x.gone old) put-is)
 
 -- what was written before stays in a delivery, and more is written than made
-pub sent-written : (to : Spot) (m : Message ℕ) (dir : Dir) (s : State ℕ) → (book dir (delivered plain to m s).state).written ≡ (book dir s).written
-sent-written to m dir s = (delivered-books plain to m s).written dir
+pub sent-written : (K : Behaviour) (to : Spot) (m : Message ℕ) (dir : Dir) (s : State ℕ) → (book dir (delivered K plain to m s).state).written
+    ≡ (book dir s).written
+sent-written K to m dir s = (delivered-books plain K to m s).written dir
 
 pub written-spare : (dir : Dir) (n : ℕ) (s : State ℕ) → spare (with_book dir (with_written n (book dir s)) s) ≡ spare s
 written-spare MasterToSlave n s = refl

@@ -9,7 +9,7 @@ use Rattle.strm_pair.specs.Prelude.{Took, tallied, toward, Goes, is_data_kind, a
 use Rattle.strm_pair.specs.Prelude.{is_held, direction_at, enable_some, is_open, IsKeptAhead, across_of, earlier_at, noted, passed_up, put_at_driver}
 use Rattle.strm_pair.specs.Prelude.{put_at_head, put_at_module, put_behind, put_below, put_in, is_there, State, stream, with_stream}
 use Rattle.strm_pair.specs.Prelude.{with_driver_queue, IsChain, Sent, MODULES, head_takes, FlushR, FlushRW, FlushW, shape_of, driver_own, at_place}
-use Rattle.strm_pair.specs.Prelude.{module_takes}
+use Rattle.strm_pair.specs.Prelude.{module_takes, Behaviour}
 use Rattle.strm_types.specs.declared.kinds.MsgKind.TheVariants.{Ioctl}
 use Rattle.strm_types.specs.Cells as cells
 use Rattle.strm_types.specs.Queue as plain
@@ -120,10 +120,12 @@ can-alone : (s : StoreValue) (m : ℕ) (keeps : ℕ → ℕ) → CanPut s m keep
 can-alone s m keeps can = record { apart = λ i. omega (arith, can.apart i) }
 
 -- the stacks stay where a head changes, or a driver
-kept-head : (p : Streams) (side : Side) (h : heads.Head) (i : ℕ) → kept_by (with_end side (record (end_at side p) { head = h }) p) i ≡ kept_by p i
+kept-head : (p : Streams) (side : Side) (h : heads.Head) (i : ℕ) → kept_by (with_end side (record (end_at side p) { head = h }) p) i
+    ≡ kept_by p i
 kept-head p side h i = kept-with side (record (end_at side p) { head = h }) p i ∙ sym (kept-parts side p i)
 
-kept-driver : (p : Streams) (side : Side) (d : Queue) (i : ℕ) → kept_by (with_end side (record (end_at side p) { driver = d }) p) i ≡ kept_by p i
+kept-driver : (p : Streams) (side : Side) (d : Queue) (i : ℕ) → kept_by (with_end side (record (end_at side p) { driver = d }) p) i
+    ≡ kept_by p i
 kept-driver p side d i = kept-with side (record (end_at side p) { driver = d }) p i ∙ sym (kept-parts side p i)
 
 -- a waiting writer is let go where the head says so
@@ -192,7 +194,7 @@ pub head-open : (to : Spot) (m : Message ℕ) (s : State ℕ) → to.at ≡ 0 �
 head-open to m s top is = at to.way is.below is.kept
   where
     at : (way : Way) → (way ≡ Down → 0 < to.at) → IsKeptAhead way to.side s → is_open (stream to.side s).opened ≡ true
-    at Up below kept = kept
+    at Up below kept = kept.opened
     at Down below kept = let some = below refl in absurd (omega (arith, some, top))
 
 -- a put at a driver, by what the driver does at its place
@@ -295,7 +297,8 @@ driver-by side s t p q d i to at across acts f f' store can chain is at_is acros
     })
 
 -- a message goes, and the streams stay
-pub swaps-put : (s t : StoreValue) (p : Streams) (m n k : ℕ) (made : List Sent) (ps : List (Parcel ℕ)) (f f' : Fates) (is : Took ℕ (State ℕ))
+pub swaps-put : (s t : StoreValue) (p : Streams) (m n k : ℕ) (made : List Sent) (ps : List (Parcel ℕ)) (f f' : Fates)
+    (is : Took ℕ (State ℕ))
     → IsStore s → CanPut s m (kept_by p) → AreBeside s p → Swaps s t m n made ps → n ≤ k → state_in s p ≡ is.state → ps ≡ is.sent → f' ≡ tallied is.gone f → PutBy s t p p m k made f f' is
 swaps-put s t p m n k made ps f f' is store can beside swaps le stays sends tells =
     let kept = put-stays s t m n (λ i. times_sent i made) (kept_by p) store can swaps.hands in
@@ -325,7 +328,8 @@ passed-put s p x sent_on f to beside chain on one = record {
 }
 
 -- what takes no more than so much takes no more than what is more
-put-more : (s t : StoreValue) (p q : Streams) (m takes all : ℕ) (sent_on : List Sent) (f f' : Fates) (is : Took ℕ (State ℕ)) → takes ≤ all
+put-more : (s t : StoreValue) (p q : Streams) (m takes all : ℕ) (sent_on : List Sent) (f f' : Fates) (is : Took ℕ (State ℕ)) → takes
+    ≤ all
     → PutBy s t p q m takes sent_on f f' is → PutBy s t p q m all sent_on f f' is
 put-more s t p q m takes all sent_on f f' is low put = record {
   state = put.state;
@@ -349,36 +353,36 @@ head-room s i to st chain top room =
     let at : (to.at == 0) ≡ true = grind (arith, nat_tests) in
     room-for s (own to (shape_of m) st) (head_takes m) (omega (arith, turned-low s i chain, head-own to (shape_of m) st at)) room
 
-pub head-put : (s t : StoreValue) (p q : Streams) (i : ℕ) (to : Spot) (sent_on : List Sent) (f f' : Fates) → let m = message_in s i in IsChain (in_hand s i) → to.at ≡ 0
-    → PutBy s t p q i (head_takes m) sent_on f f' (put_at_head to.side to m (state_in s p)) → PutIn s t p q i to sent_on f f' (put_in cells.plain to m (state_in s p))
-head-put s t p q i to sent_on f f' chain top put =
+pub head-put : (K : Behaviour) (s t : StoreValue) (p q : Streams) (i : ℕ) (to : Spot) (sent_on : List Sent) (f f' : Fates) → let m = message_in s i in IsChain (in_hand s i) → to.at ≡ 0
+    → PutBy s t p q i (head_takes m) sent_on f f' (put_at_head to.side to m (state_in s p)) → PutIn s t p q i to sent_on f f' (put_in K cells.plain to m (state_in s p))
+head-put K s t p q i to sent_on f f' chain top put =
     let m = message_in s i in
     let st = state_in s p in
     let at : (to.at == 0) ≡ true = grind (arith, nat_tests) in
-    subst (λ b. PutIn s t p q i to sent_on f f' (cond b (put_at_head to.side to m st) (put_below cells.plain to.way to m st))) (sym at)
+    subst (λ b. PutIn s t p q i to sent_on f f' (cond b (put_at_head to.side to m st) (put_below K cells.plain to.way to m st))) (sym at)
     (put-more s t p q i (head_takes m) (own to (shape_of m) st) sent_on f f' (put_at_head to.side to m st) (omega (arith, turned-low s i chain, head-own to (shape_of m) st at)) put)
 
 -- below the head, by whether a module stands at the place
-below-put : (s t : StoreValue) (p q : Streams) (i : ℕ) (to : Spot) (sent_on : List Sent) (f f' : Fates) (stands : Bool) → let m = message_in s i in let st = state_in s p in
+below-put : (K : Behaviour) (s t : StoreValue) (p q : Streams) (i : ℕ) (to : Spot) (sent_on : List Sent) (f f' : Fates) (stands : Bool) → let m = message_in s i in let st = state_in s p in
     (to.at ≡ 0 → ⊥) → nat_le to.at (modules_on to.side st) ≡ stands
-    → PutIn s t p q i to sent_on f f' (cond stands (put_at_module cells.plain to m st) (put_behind to.way to m st)) → PutIn s t p q i to sent_on f f' (put_in cells.plain to m st)
-below-put s t p q i to sent_on f f' stands inside place put =
+    → PutIn s t p q i to sent_on f f' (cond stands (put_at_module K cells.plain to m st) (put_behind to.way to m st)) → PutIn s t p q i to sent_on f f' (put_in K cells.plain to m st)
+below-put K s t p q i to sent_on f f' stands inside place put =
     let m = message_in s i in
     let st = state_in s p in
     let below : (to.at == 0) ≡ false = grind (arith, nat_tests) in
-    subst (λ b. PutIn s t p q i to sent_on f f' (cond b (put_at_head to.side to m st) (put_below cells.plain to.way to m st))) (sym below)
-    (subst (λ b. PutIn s t p q i to sent_on f f' (cond b (put_at_module cells.plain to m st) (put_behind to.way to m st))) (sym place) put)
+    subst (λ b. PutIn s t p q i to sent_on f f' (cond b (put_at_head to.side to m st) (put_below K cells.plain to.way to m st))) (sym below)
+    (subst (λ b. PutIn s t p q i to sent_on f f' (cond b (put_at_module K cells.plain to m st) (put_behind to.way to m st))) (sym place) put)
 
-pub module-put : (s t : StoreValue) (p q : Streams) (i : ℕ) (to : Spot) (sent_on : List Sent) (f f' : Fates) → let m = message_in s i in let st = state_in s p in
+pub module-put : (K : Behaviour) (s t : StoreValue) (p q : Streams) (i : ℕ) (to : Spot) (sent_on : List Sent) (f f' : Fates) → let m = message_in s i in let st = state_in s p in
     let ms = (stream to.side st).modules in (to.at ≡ 0 → ⊥) → nat_le to.at (modules_on to.side st) ≡ true
-    → PutBy s t p q i (at_place (module_takes to m) 0 to.at ms) sent_on f f' (put_at_module cells.plain to m st)
-    → PutIn s t p q i to sent_on f f' (put_in cells.plain to m st)
-module-put s t p q i to sent_on f f' inside stands put =
+    → PutBy s t p q i (at_place (module_takes to m) 0 to.at ms) sent_on f f' (put_at_module K cells.plain to m st)
+    → PutIn s t p q i to sent_on f f' (put_in K cells.plain to m st)
+module-put K s t p q i to sent_on f f' inside stands put =
     let m = message_in s i in
     let st = state_in s p in
     let below : (to.at == 0) ≡ false = grind (arith, nat_tests) in
-    below-put s t p q i to sent_on f f' true inside stands
-    (put-more s t p q i (at_place (module_takes to m) 0 to.at (stream to.side st).modules) (own to (shape_of m) st) sent_on f f' (put_at_module cells.plain to m st) (omega (arith, place-own to m st below stands)) put)
+    below-put K s t p q i to sent_on f f' true inside stands
+    (put-more s t p q i (at_place (module_takes to m) 0 to.at (stream to.side st).modules) (own to (shape_of m) st) sent_on f f' (put_at_module K cells.plain to m st) (omega (arith, place-own to m st below stands)) put)
 
 -- behind the modules
 abbrev pub behind_takes : Way → Spot → Message ℕ → ℕ
@@ -402,18 +406,19 @@ pub behind-room : (way : Way) (s : StoreValue) (i : ℕ) (to : Spot) (st : State
     → HasRoom s (own to (shape_of (message_in s i)) st) → HasRoom s (behind_takes way to (message_in s i))
 behind-room way s i to st is inside past room = subst (λ (n : ℕ). HasRoom s n) (behind-is way to (message_in s i) st is inside past) room
 
-pub behind-put : (way : Way) (s t : StoreValue) (p q : Streams) (i : ℕ) (to : Spot) (sent_on : List Sent) (f f' : Fates) → let m = message_in s i in let st = state_in s p in
+pub behind-put : (K : Behaviour) (way : Way) (s t : StoreValue) (p q : Streams) (i : ℕ) (to : Spot) (sent_on : List Sent) (f f' : Fates) → let m = message_in s i in let st = state_in s p in
     to.way ≡ way → (to.at ≡ 0 → ⊥) → nat_le to.at (modules_on to.side st) ≡ false
-    → PutBy s t p q i (behind_takes way to m) sent_on f f' (put_behind way to m st) → PutIn s t p q i to sent_on f f' (put_in cells.plain to m st)
-behind-put way s t p q i to sent_on f f' is inside past put =
+    → PutBy s t p q i (behind_takes way to m) sent_on f f' (put_behind way to m st) → PutIn s t p q i to sent_on f f' (put_in K cells.plain to m st)
+behind-put K way s t p q i to sent_on f f' is inside past put =
     let m = message_in s i in
     let st = state_in s p in
-    below-put s t p q i to sent_on f f' false inside past
+    below-put K s t p q i to sent_on f f' false inside past
     (put-more s t p q i (behind_takes way to m) (own to (shape_of m) st) sent_on f f' (put_behind to.way to m st) (omega (arith, behind-is way to m st is inside past))
     (subst (λ w. PutBy s t p q i (behind_takes way to m) sent_on f f' (put_behind w to m st)) (sym is) put))
 
 -- what a head sends down is made
-pub came-put : (s t u : StoreValue) (p q : Streams) (m n k : ℕ) (down : List (Parcel ℕ)) (made : List Sent) (f f' : Fates) (is : Took ℕ (State ℕ))
+pub came-put : (s t u : StoreValue) (p q : Streams) (m n k : ℕ) (down : List (Parcel ℕ)) (made : List Sent) (f f' : Fates)
+    (is : Took ℕ (State ℕ))
     → CanPut s m (kept_by p) → CameBy s t p q m down f f' is → Makes t u n made down → n ≤ k → PutBy s u p q m k made f f' is
 came-put s t u p q m n k down made f f' is can came makes le =
     let can' : CanPut s m (kept_by q) = record { apart = λ i. omega (arith, can.apart i, came.keeps i) } in

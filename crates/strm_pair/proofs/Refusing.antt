@@ -3,7 +3,7 @@ use Rattle.strm_pair.proofs.Prelude.{ℕ, ◌≡◌, ◌<◌, ◌≤◌, ◌+◌
 use Rattle.strm_pair.proofs.Prelude.{Option, None, Some, Result, Ok, Err, MatchOption, met, or_else-none, unless-none, both-true}
 use Rattle.strm_pair.specs.Prelude.{Caller, Put, Ioctl, Stop, Refusal, Prio, Einval, Enosr, IOCTL_MAX, plain, Config, QueueName, Request, PlainEntry}
 use Rattle.strm_pair.specs.Prelude.{is_enabled, judged, PairState, call_refused, needs, enough, has_room, in_range, refused_at_once, refused_by_state}
-use Rattle.strm_pair.specs.Prelude.{stop_of, State, StoreValue, free_d, free_m, HasRoom}
+use Rattle.strm_pair.specs.Prelude.{stop_of, State, StoreValue, free_d, free_m, HasRoom, Behaviour}
 use Rattle.strm_types.specs.declared.job_control.Verdict.{Verdict}
 use Rattle.strm_types.specs.declared.job_control.Verdict.TheVariants.{Allowed, Refused, Stopped}
 use Rattle.strm_types.specs.declared.signals.StopSignal.{StopSignal}
@@ -63,28 +63,28 @@ free-fits (Stopped signal) unfit is free = absurd (cc)
 free-fits (Refused refusal) unfit is free = absurd (cc)
 
 -- a call that isn't stopped leads to what it does, and one that is to nothing
-pub as-performed : (caller : Caller) (asked : Request) (s : State ℕ) → stop_of s caller asked ≡ None → performed plain caller asked s ≡ called plain caller asked s
-as-performed caller asked s free = sym (ap (λ stop. or_stopped stop s (performed plain caller asked s)) free)
+pub as-performed : (K : Behaviour) (caller : Caller) (asked : Request) (s : State ℕ) → stop_of s caller asked ≡ None → performed K plain caller asked s ≡ called K plain caller asked s
+as-performed K caller asked s free = sym (ap (λ stop. or_stopped stop s (performed K plain caller asked s)) free)
 
-pub as-stopped : (caller : Caller) (asked : Request) (s : State ℕ) (signal : StopSignal) → stop_of s caller asked ≡ Some signal → tells (Stop signal) s ≡ called plain caller asked s
-as-stopped caller asked s signal is = sym (ap (λ stop. or_stopped stop s (performed plain caller asked s)) is)
+pub as-stopped : (K : Behaviour) (caller : Caller) (asked : Request) (s : State ℕ) (signal : StopSignal) → stop_of s caller asked ≡ Some signal → tells (Stop signal) s ≡ called K plain caller asked s
+as-stopped K caller asked s signal is = sym (ap (λ stop. or_stopped stop s (performed K plain caller asked s)) is)
 
-module _ (v : PairState) (caller : Caller) (asked : Request) (at_once : refused_at_once v.state caller asked ≡ None) where
+module _ (K : Behaviour) (v : PairState) (caller : Caller) (asked : Request) (at_once : refused_at_once v.state caller asked ≡ None) where
   -- what is told by the answers of the three questions that come after
   abbrev told : Bool → Bool → Option Refusal
-  told room blocks = or_else (unless room JournalFull) (or_else (unless blocks Enosr) (refused_by_state v.state caller asked))
+  told room blocks = or_else (unless room JournalFull) (or_else (unless blocks Enosr) (refused_by_state K v.state caller asked))
 
-  asked-later : call_refused v caller asked ≡ told (has_room v.journal v.limits ((needs asked).brings + (needs asked).gives)) (enough (needs asked).blocks v.free)
+  asked-later : call_refused K v caller asked ≡ told (has_room v.journal v.limits ((needs asked).brings + (needs asked).gives)) (enough (needs asked).blocks v.free)
   asked-later = ap (λ first. or_else first (told (has_room v.journal v.limits ((needs asked).brings + (needs asked).gives)) (enough (needs asked).blocks v.free))) at_once
 
-  pub full-told : has_room v.journal v.limits ((needs asked).brings + (needs asked).gives) ≡ false → Some JournalFull ≡ call_refused v caller asked
+  pub full-told : has_room v.journal v.limits ((needs asked).brings + (needs asked).gives) ≡ false → Some JournalFull ≡ call_refused K v caller asked
   full-told is = sym (asked-later ∙ ap (λ room. told room (enough (needs asked).blocks v.free)) is)
 
   module _ (fits : has_room v.journal v.limits ((needs asked).brings + (needs asked).gives) ≡ true) where
-    pub few-told : enough (needs asked).blocks v.free ≡ false → Some Enosr ≡ call_refused v caller asked
+    pub few-told : enough (needs asked).blocks v.free ≡ false → Some Enosr ≡ call_refused K v caller asked
     few-told is = sym (asked-later ∙ ap (λ room. told room (enough (needs asked).blocks v.free)) fits ∙ ap (told true) is)
 
-    pub state-told : enough (needs asked).blocks v.free ≡ true → refused_by_state v.state caller asked ≡ call_refused v caller asked
+    pub state-told : enough (needs asked).blocks v.free ≡ true → refused_by_state K v.state caller asked ≡ call_refused K v caller asked
     state-told is = sym (asked-later ∙ ap (λ room. told room (enough (needs asked).blocks v.free)) fits ∙ ap (told true) is)
 
 -- a refusal is the same whatever stands for the bytes of an answer

@@ -2,7 +2,7 @@
 use Rattle.strm_pair.proofs.Prelude.{ℕ, suc, ◌≡◌, ◌≤◌, ◌+◌, true, List, [], ◌∷◌, length, length-append, refl, ap, ◌∙◌, subst, arith, None, Some}
 use Rattle.strm_pair.proofs.Prelude.{nat_lt, nat_le, slice_get, nat_tests, both-true, turn-allowed}
 use Rattle.strm_pair.specs.Prelude.{Turn, Turned, STOP_BLOCKS, QueueName, PlainEntry, room_used, turn_blocks, PairState, AddsEntry, RanTurns}
-use Rattle.strm_pair.specs.Prelude.{next_refused, queue_refused, enough, in_range, Restorable, stands_of}
+use Rattle.strm_pair.specs.Prelude.{next_refused, queue_refused, enough, in_range, Restorable, stands_of, Behaviour}
 use Rattle.strm_laws.specs.Pair.{Stops, refused_of}
 use Rattle.strm_laws.specs.Rest.{EchoesOnce, work}
 use Rattle.strm_laws.proofs.RestRuns.{echoed-runs, next-goes}
@@ -22,16 +22,16 @@ full-refuses p name full none =
     (turn-allowed p.state p.journal p.limits (enough (turn_blocks name.place) p.free) name none).2 in
     (let less = room.0 in grind (arith, nat_tests, full))
 
-pub one-more : (turns left : ℕ) (old mid new : PairState) (name : QueueName) (turn : Turn) → IsRunning turns left old mid → slice_get mid.state.enabled 0 ≡ Some name
-    → AddsEntry mid new (Turned name turn) → Stops mid new name turn → IsRunning (turns + 1) left old new
-one-more turns left old mid new name turn run first adds stops = record {
-  ran = subst (λ n. RanTurns n old new) (let e : suc turns ≡ turns + 1 = omega arith in e) (mid, (run.ran, record { name = name; turn = turn; first = first; adds = adds; stops = stops }));
+pub one-more : (K : Behaviour) (turns left : ℕ) (old mid new : PairState) (name : QueueName) (turn : Turn) → IsRunning K turns left old mid → slice_get mid.state.enabled 0 ≡ Some name
+    → AddsEntry K mid new (Turned name turn) → Stops mid new name turn → IsRunning K (turns + 1) left old new
+one-more K turns left old mid new name turn run first adds stops = record {
+  ran = subst (λ n. RanTurns K n old new) (let e : suc turns ≡ turns + 1 = omega arith in e) (mid, (run.ran, record { name = name; turn = turn; first = first; adds = adds; stops = stops }));
   entries = ap (λ (es : List PlainEntry). length es) adds.journal ∙ length-append mid.journal (Turned name turn ∷ []) ∙ (let same = run.entries in omega arith);
   limits = adds.limits ∙ run.limits;
   room = run.room;
 }
 
 -- Where turns come to rest, and blocks and books last, the next one isn't refused.
-pub next-allowed : (turns : ℕ) (old new : PairState) → RanTurns turns old new → Restorable old.state → EchoesOnce (stands_of old.state) → length old.journal + work old.state ≤ old.limits.journal_events
+pub next-allowed : (K : Behaviour) (turns : ℕ) (old new : PairState) → RanTurns K turns old new → Restorable old.state → EchoesOnce (stands_of old.state) → length old.journal + work old.state ≤ old.limits.journal_events
     → room_used old.journal ≤ old.limits.journal_bytes → in_range new.state ≡ true → enough STOP_BLOCKS new.free ≡ true → next_refused new ≡ None
-next-allowed turns old new ran good once events bytes range blocks = next-goes turns old new ran (echoed-runs turns old new ran once good).0.1 events bytes range blocks
+next-allowed K turns old new ran good once events bytes range blocks = next-goes K turns old new ran (echoed-runs K turns old new ran once good).0.1 events bytes range blocks

@@ -9,7 +9,7 @@ use Rattle.strm_pair.specs.Prelude.{IsKeptAhead, earlier_at, module_acted, noted
 use Rattle.strm_pair.specs.Prelude.{Standing, module_serves, State, book, stream, Begins, Ends, bytes_left, disciplined, HoldsOfPart, stood}
 use Rattle.strm_pair.specs.Prelude.{most_made, asks_on, called, discipline_of, module_at, treated, none_there, IsStore, StoreValue, Served, Sent}
 use Rattle.strm_pair.specs.Prelude.{AreIn, Handles, HasRoom, SamePool, Spends, Takes, sent_of, times_sent, parcels_in, later_cost, least_free}
-use Rattle.strm_pair.specs.Prelude.{stop_at, StaysAlone, FreesNone}
+use Rattle.strm_pair.specs.Prelude.{stop_at, StaysAlone, FreesNone, Behaviour}
 use Rattle.std.specs.Bool.{OnTrue}
 use Rattle.strm_types.specs.Deliver.{carried, in_turn}
 use Rattle.strm_types.proofs.CostsOf.{none-few}
@@ -209,10 +209,10 @@ all-cost : (here : Spot) (ls : List (Standing ℕ)) → map (turn_cost here true
 all-cost here [] = refl
 all-cost here (l ∷ ls) = ap (λ n. n ∷ map (turn_cost here true) ls) (one-cost here.way here l) ∙ ap (λ ns. stage_cost here.way (under_way l) ∷ ns) (all-cost here ls)
 
-sent-cost : (here : Spot) (sent : List (Parcel ℕ)) (s : State ℕ) → next_cost here (in_turn (carried (put_in plain) HOPS) sent s).state ≡ next_cost here s
-sent-cost here sent s =
-    let u = (in_turn (carried (put_in plain) HOPS) sent s).state in
-    ap (λ ns. slice_index_or ns (here.at - 1) 0) (all-cost here (stream here.side u).modules ∙ ap (map (stage_cost here.way)) (sent-stays sent s here.side) ∙ sym (all-cost here (stream here.side s).modules))
+sent-cost : (K : Behaviour) (here : Spot) (sent : List (Parcel ℕ)) (s : State ℕ) → next_cost here (in_turn (carried (put_in K plain) HOPS) sent s).state ≡ next_cost here s
+sent-cost K here sent s =
+    let u = (in_turn (carried (put_in K plain) HOPS) sent s).state in
+    ap (λ ns. slice_index_or ns (here.at - 1) 0) (all-cost here (stream here.side u).modules ∙ ap (map (stage_cost here.way)) (sent-stays K sent s here.side) ∙ sym (all-cost here (stream here.side s).modules))
 
 next-room : (s t : StoreValue) (again : Bool) (sent next next' : ℕ) → next' ≡ next → HasRoom s (sent + cond {A = ℕ} again next 0) → Spends s t sent 0 → OnTrue again (HasRoom t next')
 next-room s t true sent next next' same room spends = record { mblks = omega (arith, same, room.mblks, spends.mblks); dblks = omega (arith, same, room.dblks, spends.dblks) }
@@ -256,15 +256,15 @@ module _ (r s : StoreValue) (o p : Streams) (here : Spot) (again : Bool) (call :
           stays-few s t STOP_BLOCKS (blocks (subst (λ v. StaysAlone ComesToStand v (parcels_in s sent_on)) (sym a.state) (subst (λ ps. StaysAlone ComesToStand w.state ps) (sym a.sent) stays))) few
       at false is few = tt
 
-  pub calls-by : (t : StoreValue) (q : Streams) (f'' : Fates) → IsKeptAll r o → (StaysAlone ComesToStand (state_in s p) (parcels_in s sent_on) → FreesNone s t)
-      → (let u = in_turn (carried (put_in plain) HOPS) (parcels_in s sent_on) (state_in s p) in f'' ≡ tallied u.gone f')
-      → (let u = in_turn (carried (put_in plain) HOPS) (parcels_in s sent_on) (state_in s p) in state_in t q ≡ u.state)
+  pub calls-by : (K : Behaviour) (t : StoreValue) (q : Streams) (f'' : Fates) → IsKeptAll r o → (StaysAlone ComesToStand (state_in s p) (parcels_in s sent_on) → FreesNone s t)
+      → (let u = in_turn (carried (put_in K plain) HOPS) (parcels_in s sent_on) (state_in s p) in f'' ≡ tallied u.gone f')
+      → (let u = in_turn (carried (put_in K plain) HOPS) (parcels_in s sent_on) (state_in s p) in state_in t q ≡ u.state)
       → AreBeside t q → Handles s t (λ i. times_sent i sent_on) (kept_by p) (kept_by q) (λ _. 0)
-      → Takes s t (spare (state_in s p)) (spare (state_in t q)) takes 0 → SamePool s t → CallsAs r t o q here again call f f''
-  calls-by t q f'' all blocks told state beside hands spends pool =
+      → Takes s t (spare (state_in s p)) (spare (state_in t q)) takes 0 → SamePool s t → CallsAs K r t o q here again call f f''
+  calls-by K t q f'' all blocks told state beside hands spends pool =
       let st = state_in r o in
       let w = acts_in here again call st in
-      let on : List (Parcel ℕ) → State ℕ → Carried ℕ (State ℕ) = λ ps v. in_turn (carried (put_in plain) HOPS) ps v in
+      let on : List (Parcel ℕ) → State ℕ → Carried ℕ (State ℕ) = λ ps v. in_turn (carried (put_in K plain) HOPS) ps v in
       let is = ap (λ ps. on ps (state_in s p)) a.sent ∙ ap (on w.sent) a.state in
       let led_state = state ∙ ap (λ (u : Carried ℕ (State ℕ)). u.state) is in
       record {
@@ -276,7 +276,7 @@ module _ (r s : StoreValue) (o p : Streams) (here : Spot) (again : Bool) (call :
         beside = beside;
         hand = λ i. omega (arith, all i, a.hands.counts i, hands.counts i);
         room = next-room s t call.again (cost_of most (parcels_in s sent_on)) (next_cost here (state_in s p)) (next_cost here (state_in t q))
-            (ap (next_cost here) led_state ∙ sent-cost here w.sent w.state ∙ ap (next_cost here) (sym a.state)) a.room
+            (ap (next_cost here) led_state ∙ sent-cost K here w.sent w.state ∙ ap (next_cost here) (sym a.state)) a.room
             (record { mblks = omega (arith, spends.blocks.mblks, takes-most); dblks = omega (arith, spends.blocks.dblks, takes-most) });
         left = omega (arith, acted-spare, spends.spare, takes-few);
         pool = record { mblks = pool.mblks ∙ a.pool.mblks; dblks = pool.dblks ∙ a.pool.dblks };

@@ -215,7 +215,8 @@ never-both Slave k low high above below = omega (arith, low, below)
 pub stream-is : (s : StoreValue) (p : Streams) (side : Side) → stream side (state_in s p) ≡ stream_in s (end_at side p)
 stream-is s p side = get-map (stream_in s) side p.ends
 
-pub modules-are : (s : StoreValue) (p : Streams) (side : Side) → (stream side (state_in s p)).modules ≡ modules_in s (end_at side p).stack
+pub modules-are : (s : StoreValue) (p : Streams) (side : Side) → (stream side (state_in s p)).modules
+    ≡ modules_in s (end_at side p).stack
 modules-are s p side = ap (λ (x : streams.Stream ℕ). x.modules) (stream-is s p side)
 
 -- behind another stream of a side with the same stack the same modules stand there
@@ -250,8 +251,11 @@ head-held s p side r h is same held =
 pub stack-there : (p : Streams) (side : Side) (r : StreamEnd) (y : Stack) → r ≡ end_at side p
     → let q = with_end side (record r { stack = y }) p in ((end_at side q).stack ≡ y) × (q ≡ with_end side (record (end_at side p) { stack = (end_at side q).stack }) p)
 stack-there p side r y is =
-    let there = ap (λ (e : StreamEnd). e.stack) (get-set-same side (record r { stack = y }) p.ends) in
-    (there, ap (λ (e : StreamEnd). with_end side (record e { stack = y }) p) is ∙ ap (λ z. with_end side (record (end_at side p) { stack = z }) p) (sym there))
+    let there = ap (λ (e : StreamEnd). e.stack) (get-set-same side (record r { stack = y }) p.ends) in (
+      there,
+      ap (λ (e : StreamEnd). with_end side (record e { stack = y }) p) is ∙ ap (λ z. with_end side (record (end_at side p) { stack = z }) p)
+          (sym there),
+    )
 
 -- a stream that is put where it stands
 pub same-end : (side : Side) (p : Streams) → with_end side (end_at side p) p ≡ p
@@ -340,7 +344,8 @@ driver-held s t p side q held only hand mblks dblks = record {
 }
 
 -- the queue of a side's driver, as the state has it
-pub driver-is : (s : StoreValue) (p : Streams) (side : Side) → (stream side (state_in s p)).driver.queue ≡ queue_in s (end_at side p).driver
+pub driver-is : (s : StoreValue) (p : Streams) (side : Side) → (stream side (state_in s p)).driver.queue
+    ≡ queue_in s (end_at side p).driver
 driver-is s p side = ap (λ (x : streams.Stream ℕ). x.driver.queue) (stream-is s p side)
 
 -- and its head

@@ -29,11 +29,13 @@ abbrev pub is_ldterm : ModuleText → ℕ
 is_ldterm (texts.Ldterm l) = 1
 is_ldterm (texts.Ptem p) = 0
 is_ldterm texts.Pckt = 0
+is_ldterm (texts.Own o) = 0
 
 told-once : (m : ModuleText) → cond {A = ℕ} (same_module (module_name (module_now m)) names.Ldterm) 1 0 ≡ is_ldterm m
 told-once (texts.Ldterm l) = refl
 told-once (texts.Ptem p) = refl
 told-once texts.Pckt = refl
+told-once (texts.Own o) = refl
 
 times-ldterm : (ms : List ModuleText) (at : ℕ) → length ms ≤ at → times_there names.Ldterm (names_now ms) at ≡ sum_by is_ldterm ms
 times-ldterm [] at within = nothing-there names.Ldterm at
@@ -49,6 +51,7 @@ module _ (first k : ℕ) where
   own-few (texts.Ldterm l) = once-two first (first + 1) k (λ e. absurd (omega (arith, e)))
   own-few (texts.Ptem p) = omega arith
   own-few texts.Pckt = omega arith
+  own-few (texts.Own o) = omega arith
 
   all-few : (ms : List ModuleText) → sum_by (own_of first k) ms ≤ sum_by is_ldterm ms
   all-few ms = sum_by-le-sum_by (own_of first k) is_ldterm ms own-few
@@ -61,6 +64,7 @@ module _ {s t : StoreValue} {first : ℕ} {ms : List ModuleText} {xs : List AnyS
   free-for (texts.Ldterm l) few = so_far.free (omega (arith, so_far.own first, all-few first first ms, few))
   free-for (texts.Ptem p) few = tt
   free-for texts.Pckt few = tt
+  free-for (texts.Own o) few = tt
 
   module _ {u : StoreValue} {m : ModuleText} {x : AnyStanding} {is : Option Tables} (placed : IsPlaced t u first was is m x) (few : sum_by is_ldterm ms + is_ldterm m ≤ 1) where
     -- it has no list while another one has
@@ -123,6 +127,7 @@ module _ (f k : ℕ) where
       by (suc n) one = let at = once-is f k (omega (arith, one)) in (omega (arith, at), omega (arith, at))
   within-one (texts.Ptem p) some = absurd (omega (arith, some))
   within-one texts.Pckt some = absurd (omega (arith, some))
+  within-one (texts.Own o) some = absurd (omega (arith, some))
 
   pub own-within-two : (ms : List ModuleText) → 0 < sum_by (own_of f k) ms → (f ≤ k) × (k < f + 2)
   own-within-two [] some = absurd (omega (arith, some))
@@ -138,6 +143,7 @@ module _ (f k : ℕ) where
     both-one (texts.Ldterm l) = omega (arith, either-once f k low high, either-once f f (omega arith) (omega arith))
     both-one (texts.Ptem p) = refl
     both-one texts.Pckt = refl
+    both-one (texts.Own o) = refl
 
     pub own-both : (ms : List ModuleText) → sum_by (own_of f k) ms ≡ sum_by (own_of f f) ms
     own-both [] = refl

@@ -6,17 +6,21 @@ use Rattle.strm_pair.specs.Prelude.{MsgKind, Data, Way, Up, Down, Spot, plain, A
 use Rattle.strm_pair.specs.Prelude.{stages_done, treats, Begins, bytes_left, Discipline, Message, cells_of, data_message, is_held, size_of, act_among}
 use Rattle.strm_pair.specs.Prelude.{Outgoing, output_serves, posted, unchanged, first_size, is_none_left, left_with, Serving, opost, stood}
 use Rattle.strm_pair.specs.Prelude.{disciplined, IsKeptAhead, module_acted, Module, OfLdterm, Standing, module_serves, State, stream, asks_on, called}
-use Rattle.strm_pair.specs.Prelude.{discipline_of, led, module_at, none_there, treated, StaysAlone, stop_at}
+use Rattle.strm_pair.specs.Prelude.{discipline_of, led, module_at, none_there, treated, StaysAlone, stop_at, Behaviour}
+use Rattle.strm_pair.specs.Prelude.{HOPS, put_in, stands_of}
 use Rattle.std.proofs.Common.{◌*◌}
 use Rattle.std.specs.Bool.{OnTrue}
-use Rattle.strm_types.specs.Deliver.{onward}
+use Rattle.strm_types.specs.Deliver.{carried, onward}
 use Rattle.strm_types.specs.Input.{next_stage}
 use Rattle.strm_types.specs.LdtermServes.{ldterm_serves}
 use Rattle.strm_types.specs.OutputTurns.{with_given}
 use Rattle.strm_types.specs.Typing.{gathered_up}
+use Rattle.strm_types.proofs.DeliveryHolds.{carried-holds, in_turn-holds}
 use Rattle.strm_laws.specs.Puts.{SameButMade}
 use Rattle.strm_laws.proofs.PutParts.{acted-holds, sent-holds}
 use Rattle.strm_laws.proofs.PutsKeep.{same-itself, same-stays}
+use Rattle.strm_laws.proofs.SameNames.{serve-names}
+use Rattle.strm_laws.proofs.StackStays.{Stand, puts-stand, same-names}
 use Rattle.strm_laws.proofs.Staying.{SentOn}
 use Rattle.strm_ldterm.proofs.Spending.{next-works}
 use Rattle.strm_pair.specs.declared.service_calls.Call.{Call}
@@ -128,12 +132,31 @@ pub acted-same : (here : Spot) (again : Bool) (stop : Option ℕ) (s : State ℕ
 acted-same here again stop s =
     let stays = same-stays s in
     let t = called here again stop (stream here.side s).modules in
-    acted-holds (SameButMade s) stays.names stays.books here t s (stays.modules here.side t.state s (same-itself s))
+    acted-holds (SameButMade s) stays.names stays.books here t s
+    (stays.modules here.side t.state s (serve-names plain here 0 again stop (here.at - 1) (stream here.side s).modules) (same-itself s))
 
-pub led-same : (here : Spot) (again : Bool) (stop : Option ℕ) (s : State ℕ) → SameButMade s (led here again stop s).state
-led-same here again stop s =
+-- and which modules stand there
+pub acted-stands : (here : Spot) (again : Bool) (stop : Option ℕ) (s : State ℕ)
+    → stands_of (module_acted here (called here again stop (stream here.side s).modules) s).state ≡ stands_of s
+acted-stands here again stop s =
+    let t = called here again stop (stream here.side s).modules in
+    acted-holds (Stand (stands_of s)) (λ names v adds is. is) (λ dir n v is. is) here t s
+    (same-names here.side (record (stream here.side s) { modules = t.state }) s
+    (serve-names plain here 0 again stop (here.at - 1) (stream here.side s).modules))
+
+pub led-stands : (K : Behaviour) (here : Spot) (again : Bool) (stop : Option ℕ) (s : State ℕ) → stands_of (led K here again stop s).state
+    ≡ stands_of s
+led-stands K here again stop s =
     let w = module_acted here (called here again stop (stream here.side s).modules) s in
-    sent-holds (SameButMade s) (same-stays s) plain w.sent w.state (acted-same here again stop s)
+    let put = put_in K plain in
+    in_turn-holds (Stand (stands_of s)) (carried put HOPS) (carried-holds (Stand (stands_of s)) put (puts-stand (stands_of s) K plain) HOPS) w.sent
+    w.state
+    (acted-stands here again stop s)
+
+pub led-same : (K : Behaviour) (here : Spot) (again : Bool) (stop : Option ℕ) (s : State ℕ) → SameButMade s (led K here again stop s).state
+led-same K here again stop s =
+    let w = module_acted here (called here again stop (stream here.side s).modules) s in
+    sent-holds (SameButMade s) K (same-stays s) plain w.sent w.state (acted-same here again stop s)
 
 pub stopped-stays : (here : Spot) (again : Bool) (call : Call) (s : State ℕ) → TellsAs here again call s → here.at - 1 < length (stream here.side s).modules → Begins here.way again (discipline_of (module_at here s))
     → call.stopped ≡ true → call.bytes < bytes_left here.way again (discipline_of (module_at here s)) → IsKeptAhead here.way here.side s → StaysAlone ComesToStand (acts_in here again call s).state (acts_in here again call s).sent
@@ -145,6 +168,7 @@ stopped-stays here again call s tells low begins is less ahead =
     let bytes : treated here again (Some call.bytes) ps ≡ call.bytes = ap (λ o. treated here again o ps) (sym some) ∙ sym tells.bytes in
     let on = among-on here again call.bytes (here.at - 1) ps low begins ends (omega (arith, bytes, less)) in
     let behind = (module_acted here (called here again (Some call.bytes) ps) s).state in
-    let kept = kept-ahead here.way here.side s behind (acted-same here again (Some call.bytes) s).opened ahead in
+    let kept = kept-ahead here.way here.side s behind (acted-same here again (Some call.bytes) s).opened
+    (acted-stands here again (Some call.bytes) s) ahead in
     subst (λ o. StaysAlone ComesToStand (module_acted here (called here again o ps) s).state (module_acted here (called here again o ps) s).sent) (sym some)
     (sent-stays here behind (called here again (Some call.bytes) ps).sent on kept)

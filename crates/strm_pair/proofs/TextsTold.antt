@@ -17,6 +17,7 @@ module-told (texts.Ldterm l) good = record {
 }
 module-told (texts.Ptem p) good = tt
 module-told texts.Pckt good = tt
+module-told (texts.Own o) good = good.kind.few
 
 each-told : (ms : List ModuleText) → AllByRecursion GoodModule (map module_now ms) → AllByRecursion IsModuleText ms
 each-told [] good = tt

@@ -4,7 +4,7 @@ use Rattle.strm_pair.proofs.Prelude.{MatchOption, same-spare, kind-is}
 use Rattle.strm_pair.specs.Prelude.{Blocked, Idle, Side, Way, Up, most_of, shape_of, driver_place, AreIdle, Message, is_held, other, is_open}
 use Rattle.strm_pair.specs.Prelude.{has_room_past, writer_waits, left_with, spare, State, Stream, stream, stayed_put, is_stopped_across, with_driver}
 use Rattle.strm_pair.specs.Prelude.{moved_across, driver_serves, driver_turned, Block, StoreValue, block_at, list_at, token, PeekedFirst, Peek}
-use Rattle.strm_pair.specs.Prelude.{message_of, messages_on, OnlyQueue}
+use Rattle.strm_pair.specs.Prelude.{message_of, messages_on, OnlyQueue, Behaviour}
 use Rattle.strm_types.specs.Cells as cells
 use Rattle.strm_types.proofs.CostsOf.{most-few}
 use Rattle.strm_types.specs.Message.{band_of}
@@ -98,17 +98,18 @@ kept_back side band st =
     let waits = with_driver side (held_back (stream side st).driver.queue) st in
     writer_waits (other side) Up (driver_place (other side) waits) band waits
 
-serves-stopped : (side : Side) (m : Message ℕ) (rest : List (Message ℕ)) (st : State ℕ) → is_open (stream (other side) st).opened ≡ true → is_stopped_across side m st ≡ true
-    → driver_serves cells.plain side (m ∷ rest) st ≡ stayed_put Blocked (kept_back side (band_of m) st)
-serves-stopped side m rest st opened stop = rw (opened, stop) refl
+serves-stopped : (K : Behaviour) (side : Side) (m : Message ℕ) (rest : List (Message ℕ)) (st : State ℕ) → is_open (stream (other side) st).opened ≡ true → is_stopped_across side m st ≡ true
+    → driver_serves K cells.plain side (m ∷ rest) st ≡ stayed_put Blocked (kept_back side (band_of m) st)
+serves-stopped K side m rest st opened stop = rw (opened, stop) refl
 
-serves-moved : (side : Side) (m : Message ℕ) (rest : List (Message ℕ)) (st : State ℕ) → is_open (stream (other side) st).opened ≡ true → is_stopped_across side m st ≡ false
-    → driver_serves cells.plain side (m ∷ rest) st ≡ moved_across cells.plain side m rest st
-serves-moved side m rest st opened goes = rw (opened, goes) refl
+serves-moved : (K : Behaviour) (side : Side) (m : Message ℕ) (rest : List (Message ℕ)) (st : State ℕ) → is_open (stream (other side) st).opened ≡ true → is_stopped_across side m st ≡ false
+    → driver_serves K cells.plain side (m ∷ rest) st ≡ moved_across K cells.plain side m rest st
+serves-moved K side m rest st opened goes = rw (opened, goes) refl
 
-serves-closed : (side : Side) (m : Message ℕ) (rest : List (Message ℕ)) (st : State ℕ) → is_open (stream (other side) st).opened ≡ false
-    → driver_serves cells.plain side (m ∷ rest) st ≡ stayed_put Blocked (with_driver side (held_back (stream side st).driver.queue) st)
-serves-closed side m rest st closed = rw closed refl
+serves-closed : (K : Behaviour) (side : Side) (m : Message ℕ) (rest : List (Message ℕ)) (st : State ℕ) → is_open (stream (other side) st).opened
+    ≡ false
+    → driver_serves K cells.plain side (m ∷ rest) st ≡ stayed_put Blocked (with_driver side (held_back (stream side st).driver.queue) st)
+serves-closed K side m rest st closed = rw closed refl
 
 -- what is seen of both ends is what the state has
 opened-at : (s : StoreValue) (p : Streams) (side : Side) → (stream side (state_in s p)).opened ≡ (end_at side p).opened
@@ -118,15 +119,16 @@ stands-on : (s : StoreValue) (p : Streams) (side : Side) (e : StreamEnd) → e �
 stands-on s p side e is = ap (λ (q : plain.Queue ℕ). q.messages) (driver-is s p side) ∙ ap (λ (y : StreamEnd). messages_on s y.driver.list) (sym is)
 
 -- nothing stands there, or the other side isn't open
-pub turned-none : (s : StoreValue) (p : Streams) (side : Side) (e : StreamEnd) → e ≡ end_at side p → list_at s e.driver.list ≡ []
-    → driver_turned cells.plain side (state_in s p) ≡ stayed_put Idle (with_driver side (record (stream side (state_in s p)).driver.queue { want_read = true }) (state_in s p))
-turned-none s p side e is none = ap (λ ms. driver_serves cells.plain side ms (state_in s p)) (stands-on s p side e is ∙ ap (map message_of) none)
+pub turned-none : (K : Behaviour) (s : StoreValue) (p : Streams) (side : Side) (e : StreamEnd) → e ≡ end_at side p
+    → list_at s e.driver.list ≡ []
+    → driver_turned K cells.plain side (state_in s p) ≡ stayed_put Idle (with_driver side (record (stream side (state_in s p)).driver.queue { want_read = true }) (state_in s p))
+turned-none K s p side e is none = ap (λ ms. driver_serves K cells.plain side ms (state_in s p)) (stands-on s p side e is ∙ ap (map message_of) none)
 
-pub turned-closed : (s : StoreValue) (p : Streams) (side : Side) (e x : StreamEnd) → e ≡ end_at side p → x ≡ end_at (other side) p → is_open x.opened ≡ false
-    → (peek : Peek) → PeekedFirst s e.driver.list peek → driver_turned cells.plain side (state_in s p) ≡ stayed_put Blocked (with_driver side (held_back (stream side (state_in s p)).driver.queue) (state_in s p))
-turned-closed s p side e x e_is x_is closed peek seen =
-    ap (λ ms. driver_serves cells.plain side ms (state_in s p)) (stands-on s p side e e_is ∙ seen-before s e.driver.list peek seen)
-    ∙ serves-closed side (message_of seen.message) (map message_of seen.rest) (state_in s p) (ap is_open (opened-at s p (other side) ∙ ap (λ (y : StreamEnd). y.opened) (sym x_is)) ∙ closed)
+pub turned-closed : (K : Behaviour) (s : StoreValue) (p : Streams) (side : Side) (e x : StreamEnd) → e ≡ end_at side p → x ≡ end_at (other side) p → is_open x.opened ≡ false
+    → (peek : Peek) → PeekedFirst s e.driver.list peek → driver_turned K cells.plain side (state_in s p) ≡ stayed_put Blocked (with_driver side (held_back (stream side (state_in s p)).driver.queue) (state_in s p))
+turned-closed K s p side e x e_is x_is closed peek seen =
+    ap (λ ms. driver_serves K cells.plain side ms (state_in s p)) (stands-on s p side e e_is ∙ seen-before s e.driver.list peek seen)
+    ∙ serves-closed K side (message_of seen.message) (map message_of seen.rest) (state_in s p) (ap is_open (opened-at s p (other side) ∙ ap (λ (y : StreamEnd). y.opened) (sym x_is)) ∙ closed)
 
 -- whether the next queue above a driver has no room for a band
 abbrev full_above : Side → State ℕ → ℕ → Bool
@@ -143,15 +145,16 @@ module _ (s : StoreValue) (p : Streams) (side : Side) (e x : StreamEnd) (e_is : 
   stopped-is : is_stopped_across side (message_of seen.message) (state_in s p) ≡ stops
   stopped-is = sym (seen-stopped s e.driver.list peek seen (full_above side (state_in s p))) ∙ sym asked
 
-  pub turned-stopped : stops ≡ true → driver_turned cells.plain side (state_in s p) ≡ stayed_put Blocked (kept_back side peek.band.0 (state_in s p))
-  turned-stopped stop =
+  pub turned-stopped : (K : Behaviour) → stops ≡ true → driver_turned K cells.plain side (state_in s p)
+      ≡ stayed_put Blocked (kept_back side peek.band.0 (state_in s p))
+  turned-stopped K stop =
       let held = seen-held s e.driver.list peek seen (full_above side (state_in s p)) (sym asked ∙ stop) in
-      ap (λ ms. driver_serves cells.plain side ms (state_in s p)) stands
-      ∙ serves-stopped side (message_of seen.message) (map message_of seen.rest) (state_in s p) is-open-there (stopped-is ∙ stop)
+      ap (λ ms. driver_serves K cells.plain side ms (state_in s p)) stands
+      ∙ serves-stopped K side (message_of seen.message) (map message_of seen.rest) (state_in s p) is-open-there (stopped-is ∙ stop)
       ∙ ap (λ b. stayed_put Blocked (kept_back side b (state_in s p))) (held-band seen.message held ∙ sym seen.seen.band)
 
-  pub turned-moved : stops ≡ false → (m : Message ℕ) (rest : List (Message ℕ)) → (stream side (state_in s p)).driver.queue.messages ≡ m ∷ rest → driver_turned cells.plain side (state_in s p) ≡ moved_across cells.plain side m rest (state_in s p)
-  turned-moved goes m rest first =
+  pub turned-moved : (K : Behaviour) → stops ≡ false → (m : Message ℕ) (rest : List (Message ℕ)) → (stream side (state_in s p)).driver.queue.messages ≡ m ∷ rest → driver_turned K cells.plain side (state_in s p) ≡ moved_across K cells.plain side m rest (state_in s p)
+  turned-moved K goes m rest first =
       let same : message_of seen.message ≡ m = ap (λ ms. first_message ms m) (sym stands ∙ first) in
-      ap (λ ms. driver_serves cells.plain side ms (state_in s p)) first
-      ∙ serves-moved side m rest (state_in s p) is-open-there (ap (λ y. is_stopped_across side y (state_in s p)) (sym same) ∙ stopped-is ∙ goes)
+      ap (λ ms. driver_serves K cells.plain side ms (state_in s p)) first
+      ∙ serves-moved K side m rest (state_in s p) is-open-there (ap (λ y. is_stopped_across side y (state_in s p)) (sym same) ∙ stopped-is ∙ goes)

@@ -4,7 +4,7 @@ use Rattle.std.specs.Bool.{OnTrue}
 use Rattle.strm_pair.specs.Prelude.{Moved, Book, Both, STOP_BLOCKS, QueueName, Fates, Spot, plain, Fate, Took, tallied, made_of, at_place}
 use Rattle.strm_pair.specs.Prelude.{module_turn_ended, moved_on, IsKeptAhead, module_acted, spare, State, stream, Begins, Ends, bytes_left, most_made}
 use Rattle.strm_pair.specs.Prelude.{asks_on, called, discipline_of, led, module_at, treated, StoreValue, times_in, Sent, Served, Handles, HasRoom}
-use Rattle.strm_pair.specs.Prelude.{OnlyOwn, SamePool, AreChains, parcels_in, sent_of, times_sent, later_cost, least_free, stop_at}
+use Rattle.strm_pair.specs.Prelude.{OnlyOwn, SamePool, AreChains, parcels_in, sent_of, times_sent, later_cost, least_free, stop_at, Behaviour}
 use Rattle.strm_types.specs.Books.{with_made}
 use Rattle.strm_frame.specs.Serves.{stop_of}
 use Rattle.strm_pair.specs.AnyModules.{turn_cost}
@@ -71,7 +71,8 @@ pub record TellsAs (here : Spot) (again : Bool) (call : Call) (s : State ℕ) : 
   pub made : made_of (called here again (stop_in call) (stream here.side s).modules).gone ≤ most_made call.bytes
 
 -- A stack of modules served a call at a place.
-pub record StackServes (old new : StoreValue) (x y : Stack) (here : Spot) (again : Bool) (served : Served) (told told' : Fates) : Type 0 where
+pub record StackServes (old new : StoreValue) (x y : Stack) (here : Spot) (again : Bool) (served : Served) (told told' : Fates) : Type
+    0 where
   pub state : modules_in new y ≡ (called here again (stop_of served) (modules_in old x)).state
   pub notes : served.acts.notes.items ≡ (called here again (stop_of served) (modules_in old x)).notes
   pub sent : parcels_in new (sent_of served.acts.sent) ≡ (called here again (stop_of served) (modules_in old x)).sent
@@ -115,9 +116,10 @@ LeavesFew here again call s new =
     OnTrue call.stopped (call.bytes < bytes_left here.way again (discipline_of (module_at here s)) → IsKeptAhead here.way here.side s → least_free new < STOP_BLOCKS)
 
 -- A call did what it says, and what it sent is delivered.
-pub record CallsAs (old new : StoreValue) (p q : Streams) (here : Spot) (again : Bool) (call : Call) (told told' : Fates) : Type 0 where
-  pub state : state_in new q ≡ (led here again (stop_in call) (state_in old p)).state
-  pub tells : told' ≡ tallied (led here again (stop_in call) (state_in old p)).gone told
+pub record CallsAs (K : Behaviour) (old new : StoreValue) (p q : Streams) (here : Spot) (again : Bool) (call : Call)
+    (told told' : Fates) : Type 0 where
+  pub state : state_in new q ≡ (led K here again (stop_in call) (state_in old p)).state
+  pub tells : told' ≡ tallied (led K here again (stop_in call) (state_in old p)).gone told
   pub itself : TellsAs here again call (state_in old p)
   pub few : LeavesFew here again call (state_in old p) new
   pub some : OnTrue call.stopped (HasRoom old STOP_BLOCKS → 0 < call.bytes)
@@ -132,12 +134,12 @@ abbrev pub StopsFew : Spot → ℕ → State ℕ → StoreValue → Type 0
 StopsFew here bytes old new = bytes < bytes_left here.way false (discipline_of (module_at here old)) → IsKeptAhead here.way here.side old → least_free new < STOP_BLOCKS
 
 -- Calls treated so many bytes of a turn, one at least where the message has any, and it would end here. So much of the books was taken at most.
-pub record TreatsAs (here : Spot) (bytes : ℕ) (old new : State ℕ) (told told' : Fates) : Type 0 where
+pub record TreatsAs (K : Behaviour) (here : Spot) (bytes : ℕ) (old new : State ℕ) (told told' : Fates) : Type 0 where
   pub gone : List (Fate ℕ)
   pub within : bytes ≤ bytes_left here.way false (discipline_of (module_at here old))
   pub some : bytes ≡ 0 → bytes_left here.way false (discipline_of (module_at here old)) ≡ 0
   pub stands : here.at - 1 < length (stream here.side new).modules
-  pub moves : (name : QueueName) → moved_on plain here name bytes old
+  pub moves : (name : QueueName) → moved_on K plain here name bytes old
       ≡ record { turn = Moved bytes; state = module_turn_ended name here (not (bytes == 0)) new; gone = gone }
   pub tells : told' ≡ tallied gone told
   pub left : spare old ≤ spare new + (102 * bytes + 99)

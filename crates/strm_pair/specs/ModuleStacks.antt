@@ -17,6 +17,7 @@ rest-keeps : (s : StoreValue) (x : AnyModule) (queues : Option QueuePair) → Is
 rest-keeps s (kinds.Ldterm x) queues held rest i = own-rests s x queues Up i held rest
 rest-keeps s (kinds.Ptem x) queues held rest i = refl
 rest-keeps s (kinds.Pckt x) queues held rest i = refl
+rest-keeps s (kinds.Own o) queues held rest i = refl
 
 pub rests-keep : (s : StoreValue) (xs : List AnyStanding) → AllByRecursion (IsHeld s) xs → AllByRecursion (λ p. IsAtRest p) (map (module_in s) xs) → (i : ℕ) → all_of keeps xs i ≡ 0
 rests-keep s [] held rest i = omega arith
@@ -27,7 +28,8 @@ pub stack-frame : (s t : StoreValue) (x : Stack) → SameOwn s t (stack_owns x) 
 stack-frame s t x same held = stack-stays module_in IsHeld owns keeps any-frame s t x.modules.items same held
 
 -- where nothing of a turn is under way it keeps nothing
-pub stack-idle : (s : StoreValue) (x : Stack) → IsStackHeld s x → AllByRecursion (λ p. IsAtRest p) (modules_in s x) → (i : ℕ) → stack_keeps x i ≡ 0
+pub stack-idle : (s : StoreValue) (x : Stack) → IsStackHeld s x → AllByRecursion (λ p. IsAtRest p) (modules_in s x) → (i : ℕ)
+    → stack_keeps x i ≡ 0
 stack-idle s x held idle = rests-keep s x.modules.items held.each idle
 
 -- and the two lists that are for it show its queues

@@ -1,16 +1,18 @@
 -- What a pair over a store stands for, and what holds of each.
-use Rattle.std.specs.Prelude.{ℕ, ◌≡◌}
+use Rattle.std.specs.Prelude.{ℕ, ◌≡◌, true}
 use Rattle.strm_pair.specs.Prelude.{Config, Fates, plain, IsBase, told_by, FewBooked, PairState, AreWithinEntries, State, replay, IsLegal, StoreValue}
+use Rattle.strm_pair.specs.Prelude.{Behaviour}
 use Rattle.strm_pair.specs.declared.streams.Streams.{Streams}
 use Rattle.strm_pair.specs.declared.base.Base.{Base}
 use Rattle.strm_pair.specs.declared.journal.Journal.{Journal}
 use Rattle.strm_pair.specs.BaseTexts.{IsWritten, start_in}
+use Rattle.strm_laws.specs.Known.{all_known}
 use Rattle.strm_pair.specs.Pairs.{state_in, free_in, journal_of, AreHeld}
 use Rattle.strm_pair.specs.Starts.{Start}
 
 -- the state to which a journal leads from a base
-abbrev pub led_to : Start → Journal → State ℕ
-led_to base journal = replay plain base.state (journal_of journal)
+abbrev pub led_to : (K : Behaviour) → Start → Journal → State ℕ
+led_to K base journal = replay K plain base.state (journal_of journal)
 
 -- the sizes of a pair over a store, which gives its numbers of blocks
 abbrev pub sizes_over : StoreValue → Config → Config
@@ -31,21 +33,25 @@ pair_of s streams journal base limits fates = record {
 
 -- The blocks stand for the state to which the journal leads from the base, each entry of it is a legal step, and names a band that queues have; no more
 -- is booked than a ledger can hold; the numbers that are kept beside the blocks are those of the blocks, and nothing is in hand; what has gone is told
--- by its rules, from what had gone at the base on; and the sizes are those that the pair was made with.
-pub record IsKept (s : StoreValue) (streams : Streams) (journal : Journal) (base : Start) (limits : Config) (fates : Fates) : Type 0 where
+-- by its rules, from what had gone at the base on; there are modules of all names on the streams; and the sizes are those that the pair was made
+-- with.
+pub record IsKept (K : Behaviour) (s : StoreValue) (streams : Streams) (journal : Journal) (base : Start) (limits : Config)
+    (fates : Fates) : Type 0 where
   pub based : IsBase base.state base.fates
-  pub replayed : state_in s streams ≡ led_to base journal
-  pub legal : IsLegal plain base.state (journal_of journal)
+  pub replayed : state_in s streams ≡ led_to K base journal
+  pub legal : IsLegal K plain base.state (journal_of journal)
   pub within : AreWithinEntries (journal_of journal)
   pub few : FewBooked (state_in s streams)
-  pub told : fates ≡ told_by plain base.state (journal_of journal) base.fates
+  pub told : fates ≡ told_by K plain base.state (journal_of journal) base.fates
   pub held : AreHeld s streams
+  pub known : all_known K (state_in s streams) ≡ true
   pub mblks : s.mblks ≡ limits.mblks
   pub dblks : s.dblks ≡ limits.dblks
   pub events : journal.most_entries ≡ limits.journal_events
   pub bytes : journal.most_bytes ≡ limits.journal_bytes
 
 -- So it is of each pair from the base of its journal, whose text is written.
-pub record IsWhole (s : StoreValue) (streams : Streams) (journal : Journal) (base : Base) (limits : Config) (fates : Fates) : Type 0 where
-  pub kept : IsKept s streams journal (start_in base) limits fates
+pub record IsWhole (K : Behaviour) (s : StoreValue) (streams : Streams) (journal : Journal) (base : Base) (limits : Config)
+    (fates : Fates) : Type 0 where
+  pub kept : IsKept K s streams journal (start_in base) limits fates
   pub written : IsWritten base limits

@@ -44,6 +44,7 @@ pub use Rattle.strm_image.specs.declared.versions.QueueKind.{QueueKind}
 pub use Rattle.strm_image.specs.declared.versions.Version.{Version}
 pub use Rattle.strm_image.specs.declared.versions.Version.TheVariants.{First, Second}
 pub use Rattle.strm_laws.specs.Bases.{IsBase}
+pub use Rattle.strm_laws.specs.Behaviours.{Behaviour}
 pub use Rattle.strm_laws.specs.Calls.{Outcome}
 pub use Rattle.strm_laws.specs.Closes.{head_emptied}
 pub use Rattle.strm_laws.specs.Earlier.{before_among, before_at, before_by, before_driver, before_head, driver_place, modules_on, places_of}
@@ -59,12 +60,13 @@ pub use Rattle.strm_laws.specs.Pushes.{top_on, top_taken, with_modules}
 pub use Rattle.strm_laws.specs.Puts.{across_of, delivered, earlier_at, module_acted, noted, passed_up, put_at_driver, put_at_head, put_at_module}
 pub use Rattle.strm_laws.specs.Puts.{put_behind, put_below, put_in}
 pub use Rattle.strm_laws.specs.Refusals.{Free, blocks_asked, enough, has_room, in_range, refused_at_once, refused_by_state, stop_of, unfit}
-pub use Rattle.strm_laws.specs.Restorable.{AreWithinEntries, GoodStream, Restorable, is_part_kind}
+pub use Rattle.strm_laws.specs.GoodMessages.{is_part_kind}
+pub use Rattle.strm_laws.specs.Restorable.{AreWithinEntries, GoodStream, Restorable}
 pub use Rattle.strm_laws.specs.SideCosts.{costs}
 pub use Rattle.strm_laws.specs.Spares.{spare, spare_behind}
 pub use Rattle.strm_laws.specs.StackCosts.{EachOnce, module_takes, stands_of}
-pub use Rattle.strm_laws.specs.Stacked.{IsAtRest, KindRests, Module, OfLdterm, OfPckt, OfPtem, Standing, kind_line, kind_name, module_asks}
-pub use Rattle.strm_laws.specs.Stacked.{module_name, module_puts, module_serves, queues_of_modules, without_kind_line}
+pub use Rattle.strm_laws.specs.Stacked.{IsAtRest, KindRests, Module, OfLdterm, OfOwn, OfPckt, OfPtem, Standing, kind_line, kind_name}
+pub use Rattle.strm_laws.specs.Stacked.{module_asks, module_name, module_puts, module_serves, queues_of_modules, without_kind_line}
 pub use Rattle.strm_laws.specs.State.{AreOrdered, State, Stream, book, messages_in, opening, stream, stream_queues, with_book, with_driver_queue}
 pub use Rattle.strm_laws.specs.State.{with_head_queue, with_stream}
 pub use Rattle.strm_laws.specs.Step.{IsCall, IsLegal, after, replay}

@@ -2,8 +2,9 @@
 use Rattle.std.specs.Prelude.{ℕ, ◌≡◌, ◌-◌, true, List}
 use Rattle.strm_pair.specs.Prelude.{Fates, Spot, plain, Acted, Parcel, Took, tallied, Message, is_held, at_place, module_takes, Standing, module_puts}
 use Rattle.strm_pair.specs.Prelude.{State, StoreValue, FreesNone, Sent, Acts, Puts, once, Handles, SamePool, Shifts, Spends, message_in, times_sent}
-use Rattle.strm_pair.specs.Prelude.{parcels_in, AreChains, all_of, AreHeld, owns}
+use Rattle.strm_pair.specs.Prelude.{parcels_in, AreChains, all_of, AreHeld, owns, module_name, Behaviour}
 use Rattle.strm_types.specs.Modules.{put_among}
+use Rattle.strm_types.specs.Tables.{name_holds}
 use Rattle.strm_frame.specs.Stacks.{all_in}
 use Rattle.strm_pair.specs.declared.streams.Streams.{Streams}
 use Rattle.strm_pair.specs.AnyModules.{IsHeld, keeps, module_in}
@@ -34,13 +35,15 @@ pub record CameBy (old new : StoreValue) (p q : Streams) (message : ℕ) (down :
   pub blocks : is_held (message_in old message).kind ≡ true → FreesNone old new
 
 -- what the modules of a stack do with a message that is put at one of them
-abbrev pub taken_at : Spot → Message ℕ → List (Standing ℕ) → Acted ℕ (List (Standing ℕ))
-taken_at to m ms = put_among (module_puts plain 0) (to.at - 1) to m ms
+abbrev pub taken_at : (K : Behaviour) → Spot → Message ℕ → List (Standing ℕ) → Acted ℕ (List (Standing ℕ))
+taken_at K to m ms = put_among (module_puts K plain 0) (to.at - 1) to m ms
 
 -- A stack of modules took a message at a place.
-abbrev pub StackTakes : (old new : StoreValue) → (x y : Stack) → (message : ℕ) → Spot → Acts → (told told' : Fates) → Type 0
-StackTakes old new x y message to acts told told' =
+abbrev pub StackTakes : (K : Behaviour) (old new : StoreValue) → (x y : Stack) → (message : ℕ) → Spot → Acts → (told told' : Fates)
+    → Type 0
+StackTakes K old new x y message to acts told told' =
     let m = message_in old message in
     let ms = modules_in old x in
-    Puts (all_in module_in) (AreHeld IsHeld owns) (all_of owns) (all_of keeps) old new x.modules.items y.modules.items message (at_place (module_takes to m) 0 to.at ms)
-    acts told told' (taken_at to m ms)
+    Puts (all_in module_in) (AreHeld IsHeld owns) (all_of owns) (all_of keeps) old new x.modules.items y.modules.items
+    (at_place (λ p. name_holds (module_name p)) true to.at ms) message (at_place (module_takes to m) 0 to.at ms)
+    acts told told' (taken_at K to m ms)

@@ -1,6 +1,6 @@
 -- What a side of a pair is ready for (poll(2)): what its calls would be told as the state is.
 use Rattle.std.specs.Prelude.{Bool, true, false, not, ◌==◌, List, [], length, Option, None, Some}
-use Rattle.strm_pair.specs.Prelude.{Write, Side, Refusal, Slot, Answered, is_open, unfit, State, stream}
+use Rattle.strm_pair.specs.Prelude.{Write, Side, Refusal, Slot, Answered, is_open, unfit, State, stream, Behaviour}
 use Rattle.strm_types.specs.declared.events.Event.TheVariants.{Get, Read}
 use Rattle.strm_types.specs.declared.modes.Wanted.TheVariants.{Any}
 use Rattle.strm_types.specs.declared.refusals.Refusal.TheVariants.{Eagain}
@@ -19,14 +19,14 @@ is_answered _ = false
 
 module _ {C : Type 0} where
   -- The state doesn't make a call of a side wait: a read of a byte, which waits where one of more does, a get of any message, a write.
-  abbrev pub readiness : Side → State C → Ready
-  readiness side s =
+  abbrev pub readiness : (K : Behaviour) → Side → State C → Ready
+  readiness K side s =
       let t = stream side s in
       record {
         opened = is_open t.opened;
-        reads = not (is_eagain (unfit s (caller_of side) (Read 1)));
-        gets = not (is_eagain (unfit s (caller_of side) (Get Any 0 0)));
-        writes = not (is_eagain (unfit s (caller_of side) (Write [])));
+        reads = not (is_eagain (unfit K s (caller_of side) (Read 1)));
+        gets = not (is_eagain (unfit K s (caller_of side) (Get Any 0 0)));
+        writes = not (is_eagain (unfit K s (caller_of side) (Write [])));
         signals = not (length t.head.signals == 0);
         answered = is_answered t.head.ioctl;
         hung_up = t.head.hung_up;

@@ -1,13 +1,19 @@
 -- A pair that is made of an image (docs/IMAGES.md).
-use Rattle.std.specs.Prelude.{ℕ, ◌+◌, ◌-◌, List, [], Option, None, Some, Result, Ok, Err}
-use Rattle.strm_pair.specs.Prelude.{Config, Refusal, Fates, PairState, Version, laid_blocks, IsTextOf, Imaged, image, laid_on}
+use Rattle.std.specs.Prelude.{ℕ, ◌≡◌, ◌+◌, ◌-◌, true, List, [], Option, None, Some, Result, Ok, Err}
+use Rattle.strm_pair.specs.Prelude.{Config, Refusal, Fates, PairState, Version, laid_blocks, IsTextOf, Imaged, image, laid_on, Behaviour}
+use Rattle.strm_laws.specs.Known.{all_known}
 
--- bytes are the image of a state and of what has gone, in either version; or that of none
+-- bytes are the image of a state and of what has gone, in either version
 abbrev pub IsImageOf : List ℕ → Imaged → Type 0
 IsImageOf bytes x = (v : Version) × IsTextOf image bytes (v, x)
 
-abbrev pub IsNoImage : List ℕ → Type 0
-IsNoImage bytes = (x : Imaged) → IsImageOf bytes x → ⊥
+-- the same of a state on whose streams there are modules of all names; or that of none such
+pub record IsImageFor (K : Behaviour) (bytes : List ℕ) (x : Imaged) : Type 0 where
+  pub image : IsImageOf bytes x
+  pub known : all_known K x.state ≡ true
+
+abbrev pub IsNoImage : Behaviour → List ℕ → Type 0
+IsNoImage K bytes = (x : Imaged) → IsImageFor K bytes x → ⊥
 
 -- the refusal of a call that gives its store back where it is refused
 abbrev pub refusal_in : {A B : Type 0} → Result A (Refusal × B) → Option Refusal

@@ -2,8 +2,8 @@
 use Rattle.std.specs.Prelude.{ℕ, ◌≡◌, ◌<◌, true, List, [], ◌∷◌}
 use Rattle.std.proofs.Common.{sym, subst}
 use Rattle.strm_pair.specs.Prelude.{Side, Way, Down, Spot, plain, Parcel, Message, is_held, IsKeptAhead, put_in, State, StoreValue, FreesNone}
-use Rattle.strm_pair.specs.Prelude.{StaysAlone, message_in}
-use Rattle.strm_laws.proofs.Staying.{SentOn, kept-ahead, puts-go, puts-same}
+use Rattle.strm_pair.specs.Prelude.{StaysAlone, message_in, Behaviour}
+use Rattle.strm_laws.proofs.Staying.{SentOn, kept-ahead, puts-go, puts-same, puts-stand-there}
 use Rattle.strm_pair.specs.declared.streams.Streams.{Streams}
 use Rattle.strm_pair.specs.Pairs.{state_in}
 
@@ -28,7 +28,9 @@ sent-stays to s (x ∷ []) on kept = record {
 sent-stays to s (x ∷ y ∷ more) on kept = absurd on
 
 -- It waits there, or goes on as one.
-pub comes-on : (to : Spot) (m : Message ℕ) (s : State ℕ) → ComesToStand s to m → let t = put_in plain to m s in StaysAlone ComesToStand t.state t.sent
-comes-on to m s is =
-    let t = put_in plain to m s in
-    sent-stays to t.state t.sent (puts-go to m is.held s) (kept-ahead to.way to.side s t.state (puts-same to m s) is.kept)
+pub comes-on : (K : Behaviour) (to : Spot) (m : Message ℕ) (s : State ℕ) → ComesToStand s to m
+    → let t = put_in K plain to m s in StaysAlone ComesToStand t.state t.sent
+comes-on K to m s is =
+    let t = put_in K plain to m s in
+    sent-stays to t.state t.sent (puts-go to m is.held K s)
+    (kept-ahead to.way to.side s t.state (puts-same K to m s) (puts-stand-there K to m s) is.kept)

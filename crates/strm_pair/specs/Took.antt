@@ -1,7 +1,7 @@
 -- The first message of a driver's queue, taken off it, and a turn that moves it.
 use Rattle.std.specs.Prelude.{ℕ, ◌≡◌, Bool, not, ◌&&◌, ◌==◌, if◌then◌else◌, List, ◌∷◌}
 use Rattle.strm_pair.specs.Prelude.{Turn, Side, Fates, plain, Message, Queue, left_with, stream, with_driver, moved_across, StoreValue, in_hand}
-use Rattle.strm_pair.specs.Prelude.{message_of, IsChain, FreesBlocks}
+use Rattle.strm_pair.specs.Prelude.{message_of, IsChain, FreesBlocks, Behaviour}
 use Rattle.strm_types.specs.Queue.{relieved, relieves}
 use Rattle.strm_laws.specs.Turns.{turned_queue}
 use Rattle.strm_pair.specs.declared.streams.Streams.{Streams}
@@ -28,9 +28,10 @@ pub record TookFirst (side : Side) (old new : StoreValue) (p q : Streams) (i : �
   pub frees : FreesBlocks old new
 
 -- A turn moved the first message, with all that this gave rise to.
-pub record MovesAcross (side : Side) (old new : StoreValue) (p q : Streams) (turn : Turn) (told told' : Fates) : Type 0 where
-  pub message : Message ℕ
-  pub rest : List (Message ℕ)
-  pub first : (stream side (state_in old p)).driver.queue.messages ≡ message ∷ rest
-  pub answer : turn ≡ (moved_across plain side message rest (state_in old p)).turn
-  pub delivers : let is = moved_across plain side message rest (state_in old p) in Delivers old new p q told told' is.state is.gone 8
+pub record MovesAcross (K : Behaviour) (side : Side) (old new : StoreValue) (p q : Streams) (turn : Turn) (told told' : Fates) : Type 0
+  where
+    pub message : Message ℕ
+    pub rest : List (Message ℕ)
+    pub first : (stream side (state_in old p)).driver.queue.messages ≡ message ∷ rest
+    pub answer : turn ≡ (moved_across K plain side message rest (state_in old p)).turn
+    pub delivers : let is = moved_across K plain side message rest (state_in old p) in Delivers old new p q told told' is.state is.gone 8

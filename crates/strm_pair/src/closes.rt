@@ -8,6 +8,7 @@ ghost use Rattle.strm_laws.specs.Closes.{head_emptied, driver_emptied, ended, hu
 ghost use Rattle.strm_types.specs.Emptied.{of_all};
 ghost use Rattle.strm_laws.specs.Puts.{flushed_on};
 
+use crate::own::OwnModule;
 use crate::streams::Streams;
 use strm_blocks::Blocks;
 use strm_frame::clear_queue;
@@ -21,7 +22,7 @@ impl Streams {
 
     /// Flushes a side's stream: an M_FLUSH goes down from its head, with all that it gives rise to.
     #[inline(never)]
-    pub fn flush<B: Blocks>(
+    pub fn flush<B: Blocks, M: OwnModule>(
         &mut self,
         store: &mut B,
         side: Side,
@@ -31,7 +32,7 @@ impl Streams {
     ) -> Answer<u32>
         requires { MayDeliver (B.value store.old) self.old 6 }
         ensures answer { result ≡ Done }
-        ensures delivers { let s = B.value store.old in let is = flushed_on plain band side what (state_in s self.old) in
+        ensures delivers { let s = B.value store.old in let is = flushed_on M.does plain band side what (state_in s self.old) in
             Delivers s (B.value store.new) self.old self.new told.old told.new is.state is.gone 5 }
     {
         let message = make_flush(store, FlushAsked::of(what, band));
@@ -40,7 +41,7 @@ impl Streams {
             at: 1,
             way: Way::Down,
         };
-        self.deliver_alone(store, below, message, told);
+        self.deliver_alone::<B, M>(store, below, message, told);
         Answer::Done
     }
 

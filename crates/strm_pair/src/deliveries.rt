@@ -9,6 +9,7 @@ ghost use Rattle.strm_frame.specs.Outboxes.{message_in};
 ghost use Rattle.strm_pair.specs.Alone.{IsAlone};
 ghost use Rattle.strm_blocks.specs.Blocks.{token};
 
+use crate::own::OwnModule;
 use crate::streams::Streams;
 use strm_blocks::{Blocks, InHand};
 use strm_frame::deliver;
@@ -20,7 +21,7 @@ impl Streams {
 
     /// Delivers the one message in hand to a spot, with all that it gives rise to. Nothing is in hand behind it. As each module stands on a
     /// stream once at most, it takes few blocks, and little of the books.
-    pub(crate) fn deliver_alone<B: Blocks>(
+    pub(crate) fn deliver_alone<B: Blocks, M: OwnModule>(
         &mut self,
         store: &mut B,
         to: Spot,
@@ -30,11 +31,11 @@ impl Streams {
         requires alone { IsAlone (B.value store.old) self.old (token message) }
         requires room { let s = B.value store.old in
             MayTake s (spare (state_in s self.old)) (most_of to (message_in s (token message))) }
-        ensures leads { let s = B.value store.old in let is = delivered plain to (message_in s (token message)) (state_in s self.old) in
+        ensures leads { let s = B.value store.old in let is = delivered M.does plain to (message_in s (token message)) (state_in s self.old) in
             Leads s (B.value store.new) self.new told.old told.new is.state is.gone }
         ensures takes { let s = B.value store.old in let t = B.value store.new in
             Takes s t (spare (state_in s self.old)) (spare (state_in t self.new)) (most_of to (message_in s (token message))) 0 }
     {
-        deliver(store, self, HOPS, to, message, told);
+        deliver::<B, M, Streams>(store, self, HOPS, to, message, told);
     }
 }

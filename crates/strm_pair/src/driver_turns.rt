@@ -13,6 +13,7 @@ ghost use Rattle.strm_queue.specs.Stored.{messages_on, queue_in, IsReady};
 ghost use Rattle.strm_pty.specs.Does.{OnlyQueue};
 ghost use Rattle.strm_pair.specs.Took.{settled, settling_relieves, TookFirst, MovesAcross};
 
+use crate::own::OwnModule;
 use crate::streams::Streams;
 use strm_blocks::{Blocks, InHand};
 use strm_frame::TurnEnd;
@@ -70,10 +71,15 @@ impl Streams {
     }
 
     // A driver's first message goes up the other side's stream, with all that it gives rise to.
-    fn move_across<B: Blocks>(&mut self, store: &mut B, side: Side, told: &mut Fates) -> Turn
+    fn move_across<B: Blocks, M: OwnModule>(
+        &mut self,
+        store: &mut B,
+        side: Side,
+        told: &mut Fates,
+    ) -> Turn
         requires may { MayDeliver (B.value store.old) self.old 8 }
         requires some { is_none_left (messages_on (B.value store.old) (end_at side self.old).driver.list) ≡ false }
-        ensures { MovesAcross side (B.value store.old) (B.value store.new) self.old self.new result told.old told.new }
+        ensures { MovesAcross M.does side (B.value store.old) (B.value store.new) self.old self.new result told.old told.new }
     {
         let Some(message) = self.take_first(store, side) else {
             return Turn::Idle;
@@ -88,7 +94,7 @@ impl Streams {
             at: at as u8,
             way: Way::Up,
         };
-        self.deliver_alone(store, up, message, told);
+        self.deliver_alone::<B, M>(store, up, message, told);
         // Behind the delivery: this queue, and the one that is let go, are enabled behind all that the message has enabled.
         self.end_turn(store, side, size);
         Turn::Moved(size as u32)
@@ -114,15 +120,15 @@ impl Streams {
 
     /// A turn of a side's driver, which is off the list of enabled queues: its first message goes up the other side's stream,
     /// unless that isn't open or the next queue there is full.
-    pub(crate) fn turn_driver<B: Blocks>(
+    pub(crate) fn turn_driver<B: Blocks, M: OwnModule>(
         &mut self,
         store: &mut B,
         side: Side,
         told: &mut Fates,
     ) -> Turn
         requires { MayDeliver (B.value store.old) self.old 8 }
-        ensures turn { result ≡ (driver_turned plain side (state_in (B.value store.old) self.old)).turn }
-        ensures delivers { let s = B.value store.old in let is = driver_turned plain side (state_in s self.old) in
+        ensures turn { result ≡ (driver_turned M.does plain side (state_in (B.value store.old) self.old)).turn }
+        ensures delivers { let s = B.value store.old in let is = driver_turned M.does plain side (state_in s self.old) in
             Delivers s (B.value store.new) self.old self.new told.old told.new is.state is.gone 8 }
     {
         let Some(first) = store.peek(self.end(side).driver.list) else {
@@ -141,6 +147,6 @@ impl Streams {
             self.wait_past(above, Way::Up, at, first.band);
             return Turn::Blocked;
         }
-        self.move_across(store, side, told)
+        self.move_across::<B, M>(store, side, told)
     }
 }

@@ -2,6 +2,7 @@
 //! first one found.
 
 pub(crate) mod heads;
+pub(crate) mod known;
 pub(crate) mod made_kinds;
 pub(crate) mod made_messages;
 pub(crate) mod made_modules;

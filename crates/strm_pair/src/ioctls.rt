@@ -11,6 +11,7 @@ ghost use Rattle.strm_laws.specs.Pushes.{ioctl_dropped};
 ghost use Rattle.strm_laws.specs.State.{stream};
 ghost use Rattle.strm_blocks.specs.Blocks.{StoreValue};
 
+use crate::own::OwnModule;
 use crate::streams::Streams;
 use strm_blocks::Blocks;
 use strm_head::make_ioctl;
@@ -40,7 +41,7 @@ impl Streams {
     }
 
     // An ioctl of the next number is under way, and its M_IOCTL goes down from a side's head, with all that it gives rise to.
-    fn send_ioctl<B: Blocks>(
+    fn send_ioctl<B: Blocks, M: OwnModule>(
         &mut self,
         store: &mut B,
         side: Side,
@@ -51,7 +52,7 @@ impl Streams {
         requires may { MayDeliver (B.value store.old) self.old IOCTL_BLOCKS }
         requires small { length body.now ≤ IOCTL_MAX }
         requires numbered { self.old.next_ioctl < IOCTL_END }
-        ensures { let s = B.value store.old in let is = ioctl_sent plain side command body.now (state_in s self.old) in
+        ensures { let s = B.value store.old in let is = ioctl_sent M.does plain side command body.now (state_in s self.old) in
             Delivers s (B.value store.new) self.old self.new told.old told.new is.state is.gone 30 }
     {
         let message = make_ioctl(store, Ioc::asking(command, self.next_ioctl), body);
@@ -61,7 +62,7 @@ impl Streams {
             at: 1,
             way: Way::Down,
         };
-        self.deliver_alone(store, below, message, told);
+        self.deliver_alone::<B, M>(store, below, message, told);
     }
 
     /// Tells what became of the ioctl under way on a side's stream, once: its answer, with its bytes in `out`, or its number
@@ -99,7 +100,7 @@ impl Streams {
     /// An ioctl of the next number: the slave's head answers those of the foreground process group. Else the command is sent down from the
     /// side's head, with these bytes, and its answer is told if it came at once, else its number.
     #[inline(never)]
-    pub fn ioctl<B: Blocks>(
+    pub fn ioctl<B: Blocks, M: OwnModule>(
         &mut self,
         store: &mut B,
         side: Side,
@@ -113,16 +114,16 @@ impl Streams {
         requires numbered { self.old.next_ioctl < IOCTL_END }
         requires fresh { out.old.items ≡ [] }
         ensures answer { reply_in result out.new.items
-            ≡ (ioctl_called plain side command body.now (state_in (B.value store.old) self.old)).answer }
+            ≡ (ioctl_called M.does plain side command body.now (state_in (B.value store.old) self.old)).answer }
         ensures filled { answer_len result ≡ length out.new.items }
         ensures content { length out.new.items ≤ IOCTL_MAX }
-        ensures delivers { let s = B.value store.old in let is = ioctl_called plain side command body.now (state_in s self.old) in
+        ensures delivers { let s = B.value store.old in let is = ioctl_called M.does plain side command body.now (state_in s self.old) in
             Delivers s (B.value store.new) self.old self.new told.old told.new is.state is.gone 30 }
     {
         if asks_group(side, command) {
             return self.tell_group(side, command, body, out);
         }
-        self.send_ioctl(store, side, command, body, told);
+        self.send_ioctl::<B, M>(store, side, command, body, told);
         self.tell_ioctl(side, out)
     }
 

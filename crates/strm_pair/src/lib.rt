@@ -18,6 +18,8 @@ mod messages;
 mod module_turns;
 mod modules;
 mod named_queues;
+mod own;
+mod owned;
 mod pair;
 mod past;
 mod pushes;
@@ -33,6 +35,7 @@ mod streams;
 mod writes;
 mod zeros;
 
+pub use own::{NoModule, Own, OwnModule, pass_on};
 pub use pair::{Pair, Recorded};
 pub use readiness::Ready;
 pub use scheduler::Ran;

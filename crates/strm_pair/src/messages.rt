@@ -13,6 +13,7 @@ ghost use Rattle.strm_types.specs.PutMsg.{put_blocks, put_refusal};
 ghost use Rattle.strm_laws.specs.State.{with_book};
 ghost use Rattle.strm_pair.specs.Parts.{longest_part};
 
+use crate::own::OwnModule;
 use crate::streams::Streams;
 use crate::writes::with_written;
 use strm_blocks::Blocks;
@@ -44,7 +45,7 @@ impl Streams {
     /// Sends a message of these parts down from a side's head, with all that it gives rise to, and books their bytes as written.
     /// Without either part nothing is sent.
     #[inline(never)]
-    pub fn putmsg<B: Blocks>(
+    pub fn putmsg<B: Blocks, M: OwnModule>(
         &mut self,
         store: &mut B,
         side: Side,
@@ -58,7 +59,7 @@ impl Streams {
             (WRITE_BLOCKS + put_blocks (option_map (λ bytes. bytes.now) control) (option_map (λ bytes. bytes.now) body)) }
         ensures answer { result ≡ Done }
         ensures delivers { let c = option_map (λ bytes. bytes.now) control.entry in let b = option_map (λ bytes. bytes.now) body.entry in
-            let s = B.value store.old in let is = put_at plain side prio c b (state_in s self.old) in
+            let s = B.value store.old in let is = put_at M.does plain side prio c b (state_in s self.old) in
             Delivers s (B.value store.new) self.old self.new told.old told.new is.state is.gone 0 }
     {
         let Some(message) = make_message(store, prio, control, body) else {
@@ -69,7 +70,7 @@ impl Streams {
             at: 1,
             way: Way::Down,
         };
-        self.deliver_alone(store, below, message, told);
+        self.deliver_alone::<B, M>(store, below, message, told);
         let book = with_written(self.book_of(side), len_of(control) + len_of(body));
         self.keep_book(side, book);
         Answer::Done

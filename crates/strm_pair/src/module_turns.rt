@@ -17,6 +17,7 @@ ghost use Rattle.strm_pair.specs.declared.module_turns.Begun.TheVariants.{Over};
 ghost use Rattle.strm_pair.specs.ModuleTurned.{BeginsAs};
 
 use crate::named_queues::place_named;
+use crate::own::OwnModule;
 use crate::streams::Streams;
 use strm_blocks::Blocks;
 use strm_frame::TurnEnd;
@@ -77,9 +78,13 @@ impl Streams {
     /// Begins a turn of a module's queue, which is off the list of enabled queues. Where no module has such a queue, or nothing stands
     /// there, the turn is over as an idle one; where its first message may not go on, as a blocked one, and a writer waits for room
     /// where that is what it asks for. Nothing of a turn is under way.
-    pub(crate) fn begin_module_turn<B: Blocks>(&mut self, store: &B, name: QueueName) -> Begun
+    pub(crate) fn begin_module_turn<B: Blocks, M: OwnModule>(
+        &mut self,
+        store: &B,
+        name: QueueName,
+    ) -> Begun
         requires { AreAtRest (B.value store.now) self.old }
-        ensures begins { BeginsAs (state_in (B.value store.now) self.old) (state_in (B.value store.now) self.new)
+        ensures begins { BeginsAs M.does (state_in (B.value store.now) self.old) (state_in (B.value store.now) self.new)
             name result }
         ensures held { AreHeld (B.value store.now) self.new }
     {
@@ -122,24 +127,24 @@ impl Streams {
 
     /// A turn of a module's queue, which is off the list of enabled queues: its first message is treated, as far as the blocks that are
     /// free allow and for a byte at least where it has any, unless it may not go on.
-    pub(crate) fn turn_module<B: Blocks>(
+    pub(crate) fn turn_module<B: Blocks, M: OwnModule>(
         &mut self,
         store: &mut B,
         name: QueueName,
         told: &mut Fates,
     ) -> Turn
         requires { MayDeliver (B.value store.old) self.old STOP_BLOCKS }
-        ensures turn { result ≡ (module_turned plain name result (state_in (B.value store.old) self.old)).turn }
-        ensures leads { let s = B.value store.old in let is = module_turned plain name result (state_in s self.old) in
+        ensures turn { result ≡ (module_turned M.does plain name result (state_in (B.value store.old) self.old)).turn }
+        ensures leads { let s = B.value store.old in let is = module_turned M.does plain name result (state_in s self.old) in
             Leads s (B.value store.new) self.new told.old told.new is.state is.gone }
         ensures few { FewBooked (state_in (B.value store.new) self.new) }
         ensures stops { (owner : ModuleName) → name.place ≡ Module owner →
             MovesOn (state_in (B.value store.old) self.old) (free_in (B.value store.new)) name result }
     {
-        match self.begin_module_turn(store, name) {
+        match self.begin_module_turn::<B, M>(store, name) {
             Begun::Over(turn) => turn,
             Begun::Serves(here) => {
-                let bytes = self.call_on(store, here, told);
+                let bytes = self.call_on::<B, M>(store, here, told);
                 self.end_module_turn(store, name, here, bytes > 0);
                 Turn::Moved(bytes as u32)
             }

@@ -1,14 +1,16 @@
-//! The modules that may stand on a side's stream: ldterm (ldterm(7M)), ptem (ptem(7M)) and pckt (pckt(7M)), each as it is by itself.
+//! The modules that may stand on a side's stream: ldterm (ldterm(7M)), ptem (ptem(7M)), pckt (pckt(7M)) and those of a user's own, each as it is by
+//! itself.
 
-ghost use Rattle.std.specs.Prelude.{ℕ, ◌≡◌};
+ghost use Rattle.std.specs.Prelude.{ℕ, ◌≡◌, false, MatchOption};
 ghost use Rattle.strm_types.specs.Ptems.{new_ptem};
-ghost use Rattle.strm_laws.specs.Pushes.{kind_named};
+ghost use Rattle.strm_laws.specs.Pushes.{is_known};
 ghost use Rattle.strm_laws.specs.Stacked.{OfPtem, without_kind_line};
 ghost use Rattle.strm_blocks.specs.Blocks.{StoreValue};
-ghost use Rattle.strm_pair.specs.AnyModules.{IsBare, IsFresh, kind_in};
+ghost use Rattle.strm_pair.specs.AnyModules.{IsBare, IsMade, kind_in};
 
+use crate::own::{Own, OwnModule};
 use strm_blocks::{Blocks, InHand};
-use strm_frame::{Acts, Module, QueuePair, Served};
+use strm_frame::{Acts, Module, PutProcedure, QueuePair, Served};
 use strm_ldterm::Ldterm;
 use strm_pty::{Pckt, Ptem};
 use strm_types::{Asks, Fates, ModuleName, Spot, Way};
@@ -19,6 +21,7 @@ pub enum AnyModule {
     Ldterm(Ldterm),
     Ptem(Ptem),
     Pckt(Pckt),
+    Own(Own),
 }
 
 impl Default for AnyModule {
@@ -31,15 +34,18 @@ impl Default for AnyModule {
 }
 
 impl AnyModule {
-    /// One as its name makes it.
-    pub(crate) fn made(name: ModuleName) -> AnyModule
-        ensures made { (s : StoreValue) → kind_in s result ≡ kind_named name }
-        ensures fresh { IsFresh name result }
+    /// One as its name makes it. `None` where there are no modules of the name.
+    pub(crate) fn made<M: OwnModule>(name: ModuleName) -> Option<AnyModule>
+        ensures { MatchOption result (is_known M.does name ≡ false) (IsMade M.does name) }
     {
         match name {
-            ModuleName::Ldterm => AnyModule::Ldterm(Ldterm::new()),
-            ModuleName::Ptem => AnyModule::Ptem(Ptem::new()),
-            ModuleName::Pckt => AnyModule::Pckt(Pckt),
+            ModuleName::Ldterm => Some(AnyModule::Ldterm(Ldterm::new())),
+            ModuleName::Ptem => Some(AnyModule::Ptem(Ptem::new())),
+            ModuleName::Pckt => Some(AnyModule::Pckt(Pckt)),
+            ModuleName::Own(number) => match M::made(number) {
+                Some(own) => Some(AnyModule::Own(own)),
+                None => None,
+            },
         }
     }
 
@@ -56,8 +62,7 @@ impl AnyModule {
 
 impl Module for AnyModule {
     ghost use Rattle.strm_types.specs.Cells as cells;
-    ghost use Rattle.strm_types.specs.Tables.{name_does};
-    ghost use Rattle.strm_laws.proofs.PutsWithin.{module-within};
+    ghost use Rattle.strm_types.specs.Tables.{name_does, name_holds};
     ghost use Rattle.strm_laws.specs.Stacked as plain;
     ghost use Rattle.strm_types.specs.LdtermCalls.{Ends};
     ghost use Rattle.strm_laws.specs.TurnCalls.{discipline_of};
@@ -73,7 +78,7 @@ impl Module for AnyModule {
 
     ghost keeps = { λ x. any.kind_keeps x };
 
-    ghost puts = { λ here m x. plain.module_puts cells.plain 0 here m x };
+    ghost puts = { λ own here m x. plain.puts_by own cells.plain 0 here m x };
 
     ghost line_of = { plain.kind_line };
 
@@ -89,6 +94,8 @@ impl Module for AnyModule {
 
     ghost does = { λ p. name_does (plain.kind_name p) };
 
+    ghost holds = { λ p. name_holds (plain.kind_name p) };
+
     ghost turn_cost = { any.kind_cost };
 
     fn name(&self) -> ModuleName {
@@ -96,21 +103,7 @@ impl Module for AnyModule {
             AnyModule::Ldterm(ldterm) => Module::name(ldterm),
             AnyModule::Ptem(ptem) => Module::name(ptem),
             AnyModule::Pckt(pckt) => Module::name(pckt),
-        }
-    }
-
-    fn put<B: Blocks>(
-        &mut self,
-        queues: &mut Option<QueuePair>,
-        store: &mut B,
-        here: Spot,
-        message: InHand,
-        told: &mut Fates,
-    ) -> Acts {
-        match self {
-            AnyModule::Ldterm(ldterm) => ldterm.put(queues, store, here, message, told),
-            AnyModule::Ptem(ptem) => ptem.put(queues, store, here, message, told),
-            AnyModule::Pckt(pckt) => pckt.put(queues, store, here, message, told),
+            AnyModule::Own(own) => Module::name(own),
         }
     }
 
@@ -119,6 +112,7 @@ impl Module for AnyModule {
             AnyModule::Ldterm(ldterm) => ldterm.asks(queues, store, way),
             AnyModule::Ptem(ptem) => ptem.asks(queues, store, way),
             AnyModule::Pckt(pckt) => pckt.asks(queues, store, way),
+            AnyModule::Own(own) => own.asks(queues, store, way),
         }
     }
 
@@ -134,6 +128,7 @@ impl Module for AnyModule {
             AnyModule::Ldterm(ldterm) => ldterm.serve(queues, store, here, again, told),
             AnyModule::Ptem(ptem) => ptem.serve(queues, store, here, false, told),
             AnyModule::Pckt(pckt) => pckt.serve(queues, store, here, false, told),
+            AnyModule::Own(own) => own.serve(queues, store, here, false, told),
         }
     }
 
@@ -142,6 +137,7 @@ impl Module for AnyModule {
             AnyModule::Ldterm(ldterm) => Module::line_len(ldterm),
             AnyModule::Ptem(ptem) => Module::line_len(ptem),
             AnyModule::Pckt(pckt) => Module::line_len(pckt),
+            AnyModule::Own(own) => Module::line_len(own),
         }
     }
 
@@ -150,10 +146,9 @@ impl Module for AnyModule {
             AnyModule::Ldterm(ldterm) => Module::clear_line(ldterm),
             AnyModule::Ptem(ptem) => Module::clear_line(ptem),
             AnyModule::Pckt(pckt) => Module::clear_line(pckt),
+            AnyModule::Own(own) => Module::clear_line(own),
         }
     }
-
-    ghost within = { λ here m x. module-within cells.plain 0 here m x };
 
     ghost frame = { λ s t x queues others lists same held. any.module-frame s t x queues others lists same held };
 
@@ -165,7 +160,33 @@ impl Module for AnyModule {
 
     ghost turn_goes = { λ here again stop x may. any.serves-on here again stop x.part x.queues may };
 
-    ghost put_stays = { λ here m x way again may. any.puts-serve here m way again x.part x.queues may };
-
     ghost line_stays = { λ p way again may. any.line-serves way again p may };
+}
+
+impl<M: OwnModule> PutProcedure<M> for AnyModule {
+    ghost use Rattle.strm_types.specs.Cells as cells;
+    ghost use Rattle.strm_laws.proofs.PutsWithin.{module-within};
+    ghost use Rattle.strm_pair.specs.AnyModules as any;
+
+    ghost by = { λ here m x. M.does.puts cells.plain here m x };
+
+    fn put<B: Blocks>(
+        &mut self,
+        queues: &mut Option<QueuePair>,
+        store: &mut B,
+        here: Spot,
+        message: InHand,
+        told: &mut Fates,
+    ) -> Acts {
+        match self {
+            AnyModule::Ldterm(ldterm) => ldterm.put(queues, store, here, message, told),
+            AnyModule::Ptem(ptem) => ptem.put(queues, store, here, message, told),
+            AnyModule::Pckt(pckt) => pckt.put(queues, store, here, message, told),
+            AnyModule::Own(own) => PutProcedure::<M>::put(own, queues, store, here, message, told),
+        }
+    }
+
+    ghost within = { λ here m x. module-within M.does cells.plain 0 here m x };
+
+    ghost put_stays = { λ here m x way again may. any.puts-serve M.does here m way again x.part x.queues may };
 }

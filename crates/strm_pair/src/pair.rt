@@ -30,11 +30,12 @@ use crate::answers::own;
 use crate::base::Base;
 use crate::journal::Journal;
 use crate::ledgers::sum;
+use crate::own::{NoModule, OwnModule};
 use crate::past::Past;
 use crate::refusals::or_else;
 use crate::streams::{Streams, queue_tables};
 use std::alloc::Global;
-use std::marker::Model;
+use std::marker::{Model, PhantomData};
 use strm_blocks::Blocks;
 use strm_image::{IMAGE_BLOCK, IMAGE_FIXED};
 use strm_types::{
@@ -45,13 +46,14 @@ use strm_types::{
 /// A pair of a master and a slave, whose messages stand in a store of its own. Contracts see it as its plain state, its
 /// journal with the state that it began at, the sizes that it was made with, and the numbers of free blocks.
 #[derive(Drop)]
-pub struct Pair<B: Blocks + Drop> {
+pub struct Pair<B: Blocks + Drop, M: OwnModule = NoModule> {
     store: B,
     streams: Streams,
     journal: Journal,
     base: Base,
     limits: Config,
     fates: Fates,
+    of: PhantomData<M>,
 }
 
 /// What a pair's journal holds: the base at which it begins, as an image of version 2, its entries, and their bytes in order.
@@ -62,7 +64,7 @@ pub struct Recorded<'a> {
     pub bytes: &'a [u8],
 }
 
-impl<B: Blocks + Drop> Model for Pair<B> {
+impl<B: Blocks + Drop, M: OwnModule> Model for Pair<B, M> {
     ghost use Rattle.strm_laws.specs.Pair.{PairState};
 
     ghost Value = { PairState };
@@ -72,15 +74,15 @@ impl<B: Blocks + Drop> Model for Pair<B> {
 
     ghost view = { λ p. pair_of (B.value p.store) p.streams p.journal (start_in p.base) p.limits p.fates };
 
-    ghost invariant = { λ p. IsWhole (B.value p.store) p.streams p.journal p.base p.limits p.fates };
+    ghost invariant = { λ p. IsWhole M.does (B.value p.store) p.streams p.journal p.base p.limits p.fates };
 }
 
-impl<B: Blocks + Drop> Pair<B> {
+impl<B: Blocks + Drop, M: OwnModule> Pair<B, M> {
     /// A pair which nobody opened, over a store that holds nothing: its lists are empty, and nothing is in hand. The
     /// sizes of its journal are those of `sizes`, its numbers of blocks are the store's. The memory of the journal with its base, which is
     /// [`IMAGE_FIXED`] bytes and [`IMAGE_BLOCK`] for each message block, and of the queues' bands is reserved here, and no later call takes
     /// any to keep; where that is refused, the store comes back.
-    pub fn new(alloc: Global, sizes: Config, store: B) -> Result<Pair<B>, (NoMemory, B)>
+    pub fn new(alloc: Global, sizes: Config, store: B) -> Result<Pair<B, M>, (NoMemory, B)>
         requires lists { (B.value store).lists ≡ replicate LISTS [] }
         requires hand { (B.value store).hand ≡ [] }
         ensures { MatchResult result
@@ -113,6 +115,7 @@ impl<B: Blocks + Drop> Pair<B> {
             base,
             limits,
             fates,
+            of: PhantomData,
         })
     }
 
@@ -175,17 +178,17 @@ impl<B: Blocks + Drop> Pair<B> {
     /// (`restorable`); and every byte that stood there where the journal begins, or was booked since, has exactly one place, in its own direction,
     /// and no other byte has any (`once`, `own`). What [`Pair::count`] and [`Pair::is_full`] tell of a queue are the sums of its messages. It does nothing.
     pub fn audit(&self)
-        ensures replayed { self.now.state ≡ replay plain self.now.base self.now.journal }
-        ensures legal { IsLegal plain self.now.base self.now.journal }
+        ensures replayed { self.now.state ≡ replay M.does plain self.now.base self.now.journal }
+        ensures legal { IsLegal M.does plain self.now.base self.now.journal }
         ensures ordered { AreOrdered self.now.state }
         ensures blocks { IsPoolOf (messages_in self.now.state) self.now.limits self.now.free }
-        ensures told { self.now.fates ≡ told_by plain self.now.base self.now.journal self.now.base_fates }
+        ensures told { self.now.fates ≡ told_by M.does plain self.now.base self.now.journal self.now.base_fates }
         ensures balanced { (dir : Dir) → Balanced dir self.now.state self.now.fates }
         ensures restorable { Restorable self.now.state }
-        ensures once { (o : Origin) → places_of o self.now.base self.now.journal
-            ≡ (if is_booked o self.now.base (replay tagged (based self.now.base) self.now.journal) then 1 else 0) }
-        ensures own { (o : Origin) → own_places_of o self.now.base self.now.journal
-            ≡ (if is_booked o self.now.base (replay tagged (based self.now.base) self.now.journal) then 1 else 0) }
+        ensures once { (o : Origin) → places_of M.does o self.now.base self.now.journal
+            ≡ (if is_booked o self.now.base (replay M.does tagged (based self.now.base) self.now.journal) then 1 else 0) }
+        ensures own { (o : Origin) → own_places_of M.does o self.now.base self.now.journal
+            ≡ (if is_booked o self.now.base (replay M.does tagged (based self.now.base) self.now.journal) then 1 else 0) }
     {
         self.store.audit();
     }
@@ -199,12 +202,12 @@ impl<B: Blocks + Drop> Pair<B> {
     pub fn ledger(&self, direction: Dir) -> Ledger
         ensures ledger { result ≡ ledger_of direction self.now.state self.now.fates }
         ensures balance { result.written + result.made ≡ result.queued + (result.inline + sum_by (λ n. n) result.fates) }
-        ensures replayed { self.now.state ≡ replay plain self.now.base self.now.journal }
-        ensures told { self.now.fates ≡ told_by plain self.now.base self.now.journal self.now.base_fates }
-        ensures once { (o : Origin) → places_of o self.now.base self.now.journal
-            ≡ (if is_booked o self.now.base (replay tagged (based self.now.base) self.now.journal) then 1 else 0) }
-        ensures own { (o : Origin) → own_places_of o self.now.base self.now.journal
-            ≡ (if is_booked o self.now.base (replay tagged (based self.now.base) self.now.journal) then 1 else 0) }
+        ensures replayed { self.now.state ≡ replay M.does plain self.now.base self.now.journal }
+        ensures told { self.now.fates ≡ told_by M.does plain self.now.base self.now.journal self.now.base_fates }
+        ensures once { (o : Origin) → places_of M.does o self.now.base self.now.journal
+            ≡ (if is_booked o self.now.base (replay M.does tagged (based self.now.base) self.now.journal) then 1 else 0) }
+        ensures own { (o : Origin) → own_places_of M.does o self.now.base self.now.journal
+            ≡ (if is_booked o self.now.base (replay M.does tagged (based self.now.base) self.now.journal) then 1 else 0) }
     {
         self.audit();
         let book = self.streams.book(direction);
@@ -300,7 +303,7 @@ impl<B: Blocks + Drop> Pair<B> {
     // The verdict on a call.
     #[inline(always)]
     fn verdict(&self, caller: Caller, event: &Event<&[u8]>) -> Verdict
-        ensures { result ≡ call_verdict self.now caller (request event.now) }
+        ensures { result ≡ call_verdict M.does self.now caller (request event.now) }
     {
         let needs = event.needs();
         if let Some(refusal) = self.streams.unmet(caller.side, &needs) {
@@ -313,7 +316,7 @@ impl<B: Blocks + Drop> Pair<B> {
             return Verdict::Refused(Refusal::Enosr);
         }
         self.streams
-            .verdict(&self.store, caller, event, needs.access)
+            .verdict::<B, M>(&self.store, caller, event, needs.access)
     }
 
     // The refusal of a turn, if any.
@@ -340,10 +343,10 @@ impl<B: Blocks + Drop> Pair<B> {
         caller: Caller,
         event: &Event<&[u8]>,
     ) -> Result<Answer<ReadBytes>, Refusal>
-        ensures refused { MatchOption (call_refused self.old caller (request event.now)) (IsOk result)
+        ensures refused { MatchOption (call_refused M.does self.old caller (request event.now)) (IsOk result)
             (λ r. (result ≡ Err r) × (self.new ≡ self.old)) }
         ensures adds { IfOk result (λ answer.
-            AddsEntry self.old self.new (Called caller (request event.now) (map_answer (λ b. b.items) answer))) }
+            AddsEntry M.does self.old self.new (Called caller (request event.now) (map_answer (λ b. b.items) answer))) }
     {
         let mut out = Content::new();
         match self.call(caller, event, &mut out) {
@@ -365,10 +368,10 @@ impl<B: Blocks + Drop> Pair<B> {
         event: &Event<&[u8]>,
         out: &mut Content,
     ) -> Result<Answer<u32>, Refusal>
-        ensures refused { MatchOption (call_refused self.old caller (request event.now)) (IsOk result)
+        ensures refused { MatchOption (call_refused M.does self.old caller (request event.now)) (IsOk result)
             (λ r. (result ≡ Err r) × ((self.new ≡ self.old) × (out.new ≡ out.old))) }
         ensures adds { IfOk result (λ answer.
-            AddsEntry self.old self.new (Called caller (request event.now) (reply_in answer out.new.items))) }
+            AddsEntry M.does self.old self.new (Called caller (request event.now) (reply_in answer out.new.items))) }
         ensures filled { IfOk result (λ answer. answer_len answer ≡ length out.new.items) }
         ensures parts { IfOk result (λ answer. longest_part answer ≤ READ_MAX) }
     {
@@ -389,13 +392,15 @@ impl<B: Blocks + Drop> Pair<B> {
     pub fn turn(&mut self, name: QueueName) -> Result<Turn, Refusal>
         ensures refused { MatchOption (queue_refused self.old name) (IsOk result)
             (λ r. (result ≡ Err r) × (self.new ≡ self.old)) }
-        ensures adds { IfOk result (λ turn. AddsEntry self.old self.new (Turned name turn)) }
+        ensures adds { IfOk result (λ turn. AddsEntry M.does self.old self.new (Turned name turn)) }
         ensures stops { IfOk result (λ turn. Stops self.old self.new name turn) }
     {
         if let Some(refusal) = self.turn_refusal(name) {
             return Err(refusal);
         }
-        let turn = self.streams.turn(&mut self.store, name, &mut self.fates);
+        let turn = self
+            .streams
+            .turn::<B, M>(&mut self.store, name, &mut self.fates);
         self.journal.add_turn(name, turn);
         Ok(turn)
     }
@@ -407,9 +412,9 @@ impl<B: Blocks + Drop> Pair<B> {
         ensures base { result.base.now ≡ image.text (Second, imaged self.now.base self.now.base_fates) }
         ensures entries { entries_in result.entries.now result.bytes.now ≡ self.now.journal }
         ensures lengths { sum_by entry_len result.entries.now ≡ length result.bytes.now }
-        ensures replayed { self.now.state ≡ replay plain self.now.base self.now.journal }
-        ensures legal { IsLegal plain self.now.base self.now.journal }
-        ensures told { self.now.fates ≡ told_by plain self.now.base self.now.journal self.now.base_fates }
+        ensures replayed { self.now.state ≡ replay M.does plain self.now.base self.now.journal }
+        ensures legal { IsLegal M.does plain self.now.base self.now.journal }
+        ensures told { self.now.fates ≡ told_by M.does plain self.now.base self.now.journal self.now.base_fates }
         ensures ordered { AreOrdered self.now.state }
         ensures blocks { IsPoolOf (messages_in self.now.state) self.now.limits self.now.free }
     {

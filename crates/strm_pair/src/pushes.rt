@@ -18,6 +18,7 @@ ghost use Rattle.strm_pair.specs.Taken.{TookNone, TookTop, WithoutTop};
 
 use crate::earlier::note;
 use crate::ends::first_list;
+use crate::own::OwnModule;
 use crate::stacks::{Taken, module_count, push_named, take_top};
 use crate::streams::Streams;
 use strm_blocks::Blocks;
@@ -41,7 +42,7 @@ fn mode_on_push(name: ModuleName) -> Option<ReadMode>
 {
     match name {
         ModuleName::Ldterm => Some(ReadMode::MessageKeep),
-        ModuleName::Ptem | ModuleName::Pckt => None,
+        ModuleName::Ptem | ModuleName::Pckt | ModuleName::Own(_) => None,
     }
 }
 
@@ -51,7 +52,7 @@ fn mode_behind(name: Option<ModuleName>) -> Option<ReadMode>
 {
     match name {
         Some(ModuleName::Ldterm) => Some(ReadMode::ByteStream),
-        Some(ModuleName::Ptem | ModuleName::Pckt) | None => None,
+        Some(ModuleName::Ptem | ModuleName::Pckt | ModuleName::Own(_)) | None => None,
     }
 }
 
@@ -168,7 +169,7 @@ impl Streams {
     }
 
     // A side's head is told its read mode, and that TOSTOP isn't set, where there is a mode to tell, by an M_SETOPTS that comes up to it.
-    fn put_mode<B: Blocks>(
+    fn put_mode<B: Blocks, M: OwnModule>(
         &mut self,
         store: &mut B,
         side: Side,
@@ -189,13 +190,18 @@ impl Streams {
             at: 0,
             way: Way::Up,
         };
-        self.deliver_alone(store, head, message, told);
+        self.deliver_alone::<B, M>(store, head, message, told);
     }
 
     /// Pops the module that is on top of a side's stream: what it has goes, and the head is told its read mode. The ioctl under way ends as
     /// refused where its M_IOCTL went with the module, as nobody will answer it any more. Nothing where no module stands (streamio(7I): I_POP).
     #[inline(never)]
-    pub fn pop<B: Blocks>(&mut self, store: &mut B, side: Side, told: &mut Fates) -> Answer<u32>
+    pub fn pop<B: Blocks, M: OwnModule>(
+        &mut self,
+        store: &mut B,
+        side: Side,
+        told: &mut Fates,
+    ) -> Answer<u32>
         requires rests { AreAtRest (B.value store.old) self.old }
         requires room { HasRoom (B.value store.old) 1 }
         ensures answer { result ≡ Done }
@@ -204,7 +210,7 @@ impl Streams {
     {
         let seeking = self.end(side).head.number_sought();
         let taken = self.take_top(store, side, Rule::ModulePopped, seeking, told);
-        self.put_mode(store, side, mode_behind(taken.name), told);
+        self.put_mode::<B, M>(store, side, mode_behind(taken.name), told);
         self.drop_ioctl(side, taken.met);
         Answer::Done
     }
@@ -229,15 +235,15 @@ impl Streams {
     }
 
     // Pushes a module on the stack of a side, as its name makes it: one that may stand there.
-    fn put_on<B: Blocks>(&mut self, store: &B, side: Side, name: ModuleName)
+    fn put_on<B: Blocks, M: OwnModule>(&mut self, store: &B, side: Side, name: ModuleName)
         requires held { AreHeld (B.value store.now) self.old }
-        requires may_stand { may_stand (named_by (Some name)) (stream side (state_in (B.value store.now) self.old)).modules ≡ true }
-        ensures state { let s = state_in (B.value store.now) self.old in IfSome (named_by (Some name))
+        requires may_stand { may_stand (named_by M.does (Some name)) (stream side (state_in (B.value store.now) self.old)).modules ≡ true }
+        ensures state { let s = state_in (B.value store.now) self.old in IfSome (named_by M.does (Some name))
             (λ p. state_in (B.value store.now) self.new ≡ with_modules side (p ∷ (stream side s).modules) s) }
         ensures held { AreHeld (B.value store.now) self.new }
     {
         let end = self.ends.get_mut(side);
-        push_named(
+        push_named::<B, M>(
             &mut end.stack,
             &mut end.shelf,
             store,
@@ -261,7 +267,7 @@ impl Streams {
     /// Pushes a module on a side's stream, one that may stand there: the head is told its read mode, and what waits before the
     /// module may come to it (streamio(7I): I_PUSH).
     #[inline(never)]
-    pub fn push<B: Blocks>(
+    pub fn push<B: Blocks, M: OwnModule>(
         &mut self,
         store: &mut B,
         side: Side,
@@ -269,17 +275,17 @@ impl Streams {
         told: &mut Fates,
     ) -> Answer<u32>
         requires rests { AreAtRest (B.value store.old) self.old }
-        requires may_stand { may_stand (named_by name) (stream side (state_in (B.value store.old) self.old)).modules ≡ true }
+        requires may_stand { may_stand (named_by M.does name) (stream side (state_in (B.value store.old) self.old)).modules ≡ true }
         requires room { HasRoom (B.value store.old) 1 }
         ensures answer { result ≡ Done }
-        ensures leads { let s = B.value store.old in let is = pushed_named side (named_by name) (state_in s self.old) in
+        ensures leads { let s = B.value store.old in let is = pushed_named side (named_by M.does name) (state_in s self.old) in
             Leads s (B.value store.new) self.new told.old told.new is.state is.gone }
     {
         let Some(name) = name else {
             return Answer::Done;
         };
-        self.put_mode(store, side, mode_on_push(name), told);
-        self.put_on(store, side, name);
+        self.put_mode::<B, M>(store, side, mode_on_push(name), told);
+        self.put_on::<B, M>(store, side, name);
         self.come_from_driver(store, side, name);
         Answer::Done
     }

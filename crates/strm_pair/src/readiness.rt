@@ -3,6 +3,7 @@
 ghost use Rattle.std.specs.Prelude.{◌≡◌};
 ghost use Rattle.strm_pair.specs.Readiness.{is_answered, is_eagain, readiness};
 
+use crate::own::OwnModule;
 use crate::streams::Streams;
 use strm_blocks::Blocks;
 use strm_types::{Band, Refusal, Side, Slot, Wanted};
@@ -44,9 +45,9 @@ impl Streams {
     ghost use Rattle.strm_pair.specs.Pairs.{state_in, AreHeld};
 
     /// What a side is ready for.
-    pub fn ready<B: Blocks>(&self, store: &B, side: Side) -> Ready
+    pub fn ready<B: Blocks, M: OwnModule>(&self, store: &B, side: Side) -> Ready
         requires held { AreHeld (B.value store.now) self.now }
-        ensures { result ≡ readiness side (state_in (B.value store.now) self.now) }
+        ensures { result ≡ readiness M.does side (state_in (B.value store.now) self.now) }
     {
         let end = self.end(side);
         let at_end = self.is_at_end(store, side);

@@ -14,6 +14,7 @@ ghost use Rattle.strm_types.specs.Names.{is_never, is_open};
 ghost use Rattle.strm_laws.specs.State.{stream};
 
 use crate::ends::StreamEnd;
+use crate::own::{OwnModule, is_known};
 use crate::stacks::module_count;
 use crate::streams::Streams;
 use strm_blocks::Blocks;
@@ -144,15 +145,15 @@ impl Streams {
         )
     }
 
-    // Whether a module of a name may be pushed on a side's stream: there is room, and none of its name stands there.
-    fn may_push(&self, side: Side, name: Option<ModuleName>) -> bool
-        ensures { (s : StoreValue) → result ≡ may_stand (named_by name) (stream side (state_in s self.now)).modules }
+    // Whether a module of a name may be pushed on a side's stream: there are modules of the name, there is room, and none of its name stands there.
+    fn may_push<M: OwnModule>(&self, side: Side, name: Option<ModuleName>) -> bool
+        ensures { (s : StoreValue) → result ≡ may_stand (named_by M.does name) (stream side (state_in s self.now)).modules }
     {
         let Some(kind) = name else {
             return false;
         };
         let stack = &self.end(side).stack;
-        module_count(stack) < MODULES && !stack.has(kind)
+        is_known::<M>(kind) && (module_count(stack) < MODULES && !stack.has(kind))
     }
 
     // What job control makes of a caller's call that does this at the terminal.
@@ -167,7 +168,7 @@ impl Streams {
     /// The verdict of the state on a call that isn't refused at once, and that does this at the terminal: job control's, and then whether
     /// the call fits what is there.
     #[inline(always)]
-    pub fn verdict<B: Blocks>(
+    pub fn verdict<B: Blocks, M: OwnModule>(
         &self,
         store: &B,
         caller: Caller,
@@ -178,10 +179,10 @@ impl Streams {
         requires allowed { refused_at_once (state_in (B.value store.now) self.now) caller (request event.now) ≡ None }
         requires access { access ≡ (needs (request event.now)).access }
         ensures { let state = state_in (B.value store.now) self.now in
-            result ≡ judged (refused_by_state state caller (request event.now)) (stop_of state caller (request event.now)) }
+            result ≡ judged (refused_by_state M.does state caller (request event.now)) (stop_of state caller (request event.now)) }
     {
         match self.hold(caller, access) {
-            Verdict::Allowed => match self.unfit(store, caller, event) {
+            Verdict::Allowed => match self.unfit::<B, M>(store, caller, event) {
                 Some(refusal) => Verdict::Refused(refusal),
                 None => Verdict::Allowed,
             },
@@ -191,10 +192,15 @@ impl Streams {
 
     // What a call that isn't held is refused for, as it doesn't fit what is there.
     #[inline(always)]
-    fn unfit<B: Blocks>(&self, store: &B, caller: Caller, event: &Event<&[u8]>) -> Option<Refusal>
+    fn unfit<B: Blocks, M: OwnModule>(
+        &self,
+        store: &B,
+        caller: Caller,
+        event: &Event<&[u8]>,
+    ) -> Option<Refusal>
         requires held { AreHeld (B.value store.now) self.now }
         requires allowed { refused_at_once (state_in (B.value store.now) self.now) caller (request event.now) ≡ None }
-        ensures { result ≡ unfit (state_in (B.value store.now) self.now) caller (request event.now) }
+        ensures { result ≡ unfit M.does (state_in (B.value store.now) self.now) caller (request event.now) }
     {
         match event {
             Event::OpenMaster => self.opened_before(),
@@ -226,7 +232,9 @@ impl Streams {
             }
             Event::Ioctl { .. } => unless(self.end(caller.side).head.is_idle(), Refusal::Eagain),
             Event::IoctlResult { number } => self.end(caller.side).head.result_refusal(*number),
-            Event::Push { name } => { unless(self.may_push(caller.side, *name), Refusal::Einval) }
+            Event::Push { name } => {
+                unless(self.may_push::<M>(caller.side, *name), Refusal::Einval)
+            }
             Event::Pop | Event::Look => { unless(self.top(caller.side).is_some(), Refusal::Einval) }
             Event::Unlock | Event::Shut | Event::Flush { .. } => None,
             Event::Mode { .. } | Event::Nread | Event::Signals => None,

@@ -11,19 +11,19 @@ ghost use Rattle.strm_image.specs.HasImage.{counts_of};
 ghost use Rattle.strm_image.specs.Image.{Imaged, image};
 ghost use Rattle.strm_pair.specs.Restored.{IsImageOf, refusal_in, restored};
 
-use crate::Pair;
+use crate::{OwnModule, Pair};
 use std::alloc::Global;
 use strm_blocks::Blocks;
 use strm_types::{Config, Refusal};
 
 /// The pair that is made of the image of another one has its state, and its counts of what has gone by each rule. The image is one: it isn't
 /// refused with EINVAL.
-pub fn image_restores<B: Blocks + Drop, C: Blocks + Drop>(
+pub fn image_restores<B: Blocks + Drop, C: Blocks + Drop, M: OwnModule>(
     alloc: Global,
     sizes: Config,
-    pair: &Pair<B>,
+    pair: &Pair<B, M>,
     store: C,
-) -> Result<Pair<C>, (Refusal, C)>
+) -> Result<Pair<C, M>, (Refusal, C)>
     requires lists { (C.value store).lists ≡ replicate LISTS [] }
     requires hand { (C.value store).hand ≡ [] }
     ensures is_image { refusal_in result ≢ Some Einval }
@@ -36,23 +36,23 @@ pub fn image_restores<B: Blocks + Drop, C: Blocks + Drop>(
     Pair::restore(alloc, sizes, text.as_slice(), store)
 }
 
-/// The image of the pair that is made of a text of version 2 is that text.
-pub fn restored_has_image<B: Blocks + Drop>(
+/// The pair that is made of a text, and its image, which is that text where it is of version 2.
+pub fn restored_has_image<B: Blocks + Drop, M: OwnModule>(
     alloc: Global,
     sizes: Config,
     text: &[u8],
     store: B,
-) -> Result<Vec<u8>, Refusal>
+) -> Result<(Pair<B, M>, Vec<u8>), Refusal>
     requires lists { (B.value store).lists ≡ replicate LISTS [] }
     requires hand { (B.value store).hand ≡ [] }
-    ensures same { (x : Imaged) → IsTextOf image text.now (Second, x) → IfOk result (λ image. image.items ≡ text.now) }
+    ensures same { (x : Imaged) → IsTextOf image text.now (Second, x) → IfOk result (λ made. made.1.items ≡ text.now) }
 {
-    let pair = match Pair::restore(alloc, sizes, text, store) {
+    let pair = match Pair::<B, M>::restore(alloc, sizes, text, store) {
         Ok(pair) => pair,
         Err((why, _store)) => return Err(why),
     };
     match pair.image(alloc) {
-        Ok(image) => Ok(image),
+        Ok(image) => Ok((pair, image)),
         Err(_) => Err(Refusal::NoMemory),
     }
 }

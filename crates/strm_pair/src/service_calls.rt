@@ -9,6 +9,7 @@ ghost use Rattle.strm_laws.specs.TurnCalls.{discipline_of, module_at};
 ghost use Rattle.strm_frame.specs.Outboxes.{sent_of};
 ghost use Rattle.strm_pair.specs.ModuleServed.{ActsAs, BookTakes, CallsAs, IsKeptAll, MayBook, MayCall, StackServes, StopsFew, TreatsAs, between, call_of, with_more};
 
+use crate::own::OwnModule;
 use crate::stacks::place_at;
 use crate::streams::Streams;
 use strm_blocks::Blocks;
@@ -124,7 +125,7 @@ impl Streams {
     }
 
     // A call of a turn, and the delivery of what it sent.
-    fn call_module<B: Blocks>(
+    fn call_module<B: Blocks, M: OwnModule>(
         &mut self,
         store: &mut B,
         here: Spot,
@@ -134,7 +135,7 @@ impl Streams {
         requires may { MayCall (B.value store.old) self.old here again }
         requires low { here.at ≤ MODULES }
         requires books { MayBook here again (state_in (B.value store.old) self.old) }
-        ensures { CallsAs (B.value store.old) (B.value store.new) self.old self.new here again result told.old told.new }
+        ensures { CallsAs M.does (B.value store.old) (B.value store.new) self.old self.new here again result told.old told.new }
     {
         let served = self.act(store, here, again, told);
         store.audit();
@@ -143,13 +144,13 @@ impl Streams {
             stopped: served.stopped,
             again: served.again,
         };
-        deliver_all(store, self, HOPS, served.acts.sent, told);
+        deliver_all::<B, M, Streams>(store, self, HOPS, served.acts.sent, told);
         call
     }
 
     /// The calls of a turn, until one asks for no other: how many bytes they treated, one at least where the message has any. Where what they send
     /// is kept ahead they leave some of it only where few blocks are free behind them.
-    pub(crate) fn call_on<B: Blocks>(
+    pub(crate) fn call_on<B: Blocks, M: OwnModule>(
         &mut self,
         store: &mut B,
         here: Spot,
@@ -160,17 +161,17 @@ impl Streams {
         requires low { here.at ≤ MODULES }
         requires within { here.at ≤ length (stream here.side (state_in (B.value store.old) self.old)).modules }
         requires few { bytes_left here.way false (discipline_of (module_at here (state_in (B.value store.old) self.old))) ≤ 16777216 }
-        ensures treats { TreatsAs here result (state_in (B.value store.old) self.old)
+        ensures treats { TreatsAs M.does here result (state_in (B.value store.old) self.old)
             (state_in (B.value store.new) self.new) told.old told.new }
         ensures few { StopsFew here result (state_in (B.value store.old) self.old) (B.value store.new) }
         ensures beside { AreBeside (B.value store.new) self.new }
         ensures hand { IsKeptAll (B.value store.new) self.new }
         ensures pool { SamePool (B.value store.old) (B.value store.new) }
     {
-        let mut call = self.call_module(store, here, false, told);
+        let mut call = self.call_module::<B, M>(store, here, false, told);
         let mut bytes = call.bytes;
         while call.again {
-            call = self.call_module(store, here, true, told);
+            call = self.call_module::<B, M>(store, here, true, told);
             bytes += call.bytes;
         }
         bytes

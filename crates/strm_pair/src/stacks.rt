@@ -15,6 +15,7 @@ ghost use Rattle.strm_pair.specs.Taken.{TookNone, TookTop};
 
 use crate::ends::StreamEnd;
 use crate::modules::AnyModule;
+use crate::own::OwnModule;
 use arrayvec::ArrayVec;
 use strm_blocks::Blocks;
 use strm_frame::{Module, QueuePair, Standing, Tables};
@@ -136,7 +137,7 @@ fn queues_for(name: ModuleName, first: usize, shelf: &mut Option<Tables>) -> Opt
 
 /// Pushes a module on top of a stack, as its name makes it: one that may stand there (streamio(7I): I_PUSH). The queues of the
 /// stack stand on two lists, behind those of its stream's ends, which start from a number on.
-pub(crate) fn push_named<B: Blocks>(
+pub(crate) fn push_named<B: Blocks, M: OwnModule>(
     stack: &mut Stack,
     shelf: &mut Option<Tables>,
     store: &B,
@@ -144,21 +145,25 @@ pub(crate) fn push_named<B: Blocks>(
     first: usize,
 )
     requires small { first ≤ 4 }
-    requires may_stand { may_stand (named_by (Some name)) (modules_in (B.value store.now) stack.old) ≡ true }
+    requires may_stand { may_stand (named_by M.does (Some name)) (modules_in (B.value store.now) stack.old) ≡ true }
     requires held { IsStackHeld (B.value store.now) stack.old }
     requires owned { (k : ℕ) → 0 < stack_owns stack.old k → (first + 2 ≤ k) × (k < first + 4) }
     requires spare { (k : ℕ) → first + 2 ≤ k → k < first + 4 → stack_owns stack.old k ≡ 0 → list_at (B.value store.now) k ≡ [] }
     requires shelf { stack_owns stack.old (first + 2) ≡ 0 → is_some shelf.old ≡ true }
     ensures shelf { stack_owns stack.new (first + 2) ≡ 0 → is_some shelf.new ≡ true }
-    ensures modules { IfSome (named_by (Some name)) (λ p. modules_in (B.value store.now) stack.new ≡ p ∷ modules_in (B.value store.now) stack.old) }
+    ensures modules { IfSome (named_by M.does (Some name))
+        (λ p. modules_in (B.value store.now) stack.new ≡ p ∷ modules_in (B.value store.now) stack.old) }
     ensures held { IsStackHeld (B.value store.now) stack.new }
     ensures owned { (k : ℕ) → 0 < stack_owns stack.new k → (first + 2 ≤ k) × (k < first + 4) }
     ensures spare { (k : ℕ) → first + 2 ≤ k → k < first + 4 → stack_owns stack.new k ≡ 0 → list_at (B.value store.now) k ≡ [] }
     ensures keeps { (i : ℕ) → stack_keeps stack.new i ≡ stack_keeps stack.old i }
 {
     let _ = store;
+    let Some(module) = AnyModule::made::<M>(name) else {
+        unreachable!()
+    };
     let _ = stack.push(Standing {
-        module: AnyModule::made(name),
+        module,
         queues: queues_for(name, first + 2, shelf),
     });
 }

@@ -29,6 +29,7 @@ ghost use Rattle.strm_pair.specs.Effects.{MayPut};
 ghost use Rattle.strm_pair.specs.PutBy.{PutBy, CameBy, StackTakes};
 ghost use Rattle.strm_pair.specs.Staying.{KeepsBlocks};
 
+use crate::own::OwnModule;
 use crate::service_calls::Made;
 use crate::stacks::place_at;
 use crate::streams::Streams;
@@ -157,7 +158,7 @@ impl Streams {
     }
 
     // The stack of a side takes a message, and nothing else of the streams changes.
-    fn put_on_stack<B: Blocks>(
+    fn put_on_stack<B: Blocks, M: OwnModule>(
         &mut self,
         store: &mut B,
         to: Spot,
@@ -170,18 +171,18 @@ impl Streams {
         requires inside { 0 < to.at }
         requires within { to.at ≤ modules_on to.side (state_in (B.value store.old) self.old) }
         ensures streams { self.new ≡ with_end to.side (record (end_at to.side self.old) { stack = (end_at to.side self.new).stack }) self.old }
-        ensures takes { StackTakes (B.value store.old) (B.value store.new) (end_at to.side self.old).stack (end_at to.side self.new).stack
+        ensures takes { StackTakes M.does (B.value store.old) (B.value store.new) (end_at to.side self.old).stack (end_at to.side self.new).stack
             (token message) to result told.old told.new }
     {
         self.ends
             .get_mut(to.side)
             .stack
-            .put(store, to, message, told)
+            .put::<M, B>(store, to, message, told)
     }
 
     // A message that comes to a module of a side's stream. What it says of its queues goes by how the stream was before, and what it made
     // is booked.
-    fn put_module<B: Blocks>(
+    fn put_module<B: Blocks, M: OwnModule>(
         &mut self,
         store: &mut B,
         to: Spot,
@@ -198,14 +199,14 @@ impl Streams {
         ensures does { let s = B.value store.old in let m = message_in s (token message) in let st = state_in s self.old in
             let ms = (stream to.side st).modules in
             PutBy s (B.value store.new) self.old self.new (token message) (at_place (module_takes to m) 0 to.at ms)
-            (sent_of result) told.old told.new (put_at_module plain to m st) }
+            (sent_of result) told.old told.new (put_at_module M.does plain to m st) }
         ensures blocks { KeepsBlocks (B.value store.old) (B.value store.new) self.old to (token message) }
     {
         store.audit();
         let at = to.at as usize;
         let place = place_at(&self.end(to.side).stack, at);
         let before = Made::of(told);
-        let acts = self.put_on_stack(store, to, message, told);
+        let acts = self.put_on_stack::<B, M>(store, to, message, told);
         self.note(to.side, place, at, acts.notes.as_slice());
         self.book_made(before, told);
         acts.sent
@@ -282,7 +283,7 @@ impl Streams {
     }
 
     // A message that is put at a spot.
-    fn put<B: Blocks>(
+    fn put<B: Blocks, M: OwnModule>(
         &mut self,
         store: &mut B,
         to: Spot,
@@ -294,14 +295,14 @@ impl Streams {
             MayTake s (spare st) (costs (stands_of st) (spot_in s to (token message))).own }
         ensures does { let s = B.value store.old in let m = message_in s (token message) in let st = state_in s self.old in
             PutBy s (B.value store.new) self.old self.new (token message) (costs (stands_of st) (spot_in s to (token message))).own
-            (sent_of result) told.old told.new (put_in plain to m st) }
+            (sent_of result) told.old told.new (put_in M.does plain to m st) }
         ensures blocks { KeepsBlocks (B.value store.old) (B.value store.new) self.old to (token message) }
     {
         if to.at == 0 {
             return self.put_head(store, to, message, told);
         }
         if to.at as usize <= self.modules_on(to.side) {
-            return self.put_module(store, to, message, told);
+            return self.put_module::<B, M>(store, to, message, told);
         }
         match to.way {
             Way::Down => self.put_driver(store, to, message, told),
@@ -310,7 +311,7 @@ impl Streams {
     }
 }
 
-impl<B: Blocks> Stations<B> for Streams {
+impl<B: Blocks, M: OwnModule> Stations<B, M> for Streams {
     ghost use Rattle.std.specs.Prelude.{ℕ};
     ghost use Rattle.strm_laws.specs.State.{State};
     ghost use Rattle.strm_pair.specs.Pairs.{state_in, AreBeside, kept_by};
@@ -326,7 +327,7 @@ impl<B: Blocks> Stations<B> for Streams {
 
     ghost keeps = { kept_by };
 
-    ghost puts = { put_in plain };
+    ghost puts = { put_in M.does plain };
 
     ghost costs = { λ s. costs (stands_of s) };
 
@@ -336,12 +337,12 @@ impl<B: Blocks> Stations<B> for Streams {
 
     fn put_at(&mut self, store: &mut B, to: Spot, message: InHand, told: &mut Fates) -> Outbox {
         store.audit();
-        self.put(store, to, message, told)
+        self.put::<B, M>(store, to, message, told)
     }
 
     ghost frame = { streams-frame };
 
-    ghost costed = { puts-costed plain };
+    ghost costed = { puts-costed M.does plain };
 
-    ghost stays_on = { λ to m p is. comes-on to m p is };
+    ghost stays_on = { λ to m p is. comes-on M.does to m p is };
 }

@@ -22,6 +22,7 @@ ghost use Rattle.strm_pair.specs.Streams.{IsBlank, IsSide, stream_in};
 ghost use Rattle.strm_pair.specs.Parts.{longest_part};
 
 use crate::ends::{StreamEnd, first_list};
+use crate::own::OwnModule;
 use crate::stacks::Stack;
 use std::alloc::{AllocError, Global};
 use strm_blocks::Blocks;
@@ -196,7 +197,7 @@ impl Streams {
 
     /// Carries out a call that nothing refuses, and that doesn't stop its caller. What a read or a get gives stands in `out`, which is empty else.
     #[inline(always)]
-    pub fn carry_out<B: Blocks>(
+    pub fn carry_out<B: Blocks, M: OwnModule>(
         &mut self,
         store: &mut B,
         caller: Caller,
@@ -206,14 +207,14 @@ impl Streams {
     ) -> Answer<u32>
         requires rests { AreAtRest (B.value store.old) self.old }
         requires allowed { refused_at_once (state_in (B.value store.old) self.old) caller (request event.now) ≡ None }
-        requires fits { unfit (state_in (B.value store.old) self.old) caller (request event.now) ≡ None }
+        requires fits { unfit M.does (state_in (B.value store.old) self.old) caller (request event.now) ≡ None }
         requires room { HasRoom (B.value store.old) (blocks_asked (request event.now)) }
         ensures answer { reply_in result out.new.items
-            ≡ (performed plain caller (request event.now) (state_in (B.value store.old) self.old)).answer }
+            ≡ (performed M.does plain caller (request event.now) (state_in (B.value store.old) self.old)).answer }
         ensures filled { answer_len result ≡ length out.new.items }
         ensures content { length out.new.items ≤ content_max (request event.now) }
         ensures parts { longest_part result ≤ READ_MAX }
-        ensures leads { let s = B.value store.old in let is = performed plain caller (request event.now) (state_in s self.old) in
+        ensures leads { let s = B.value store.old in let is = performed M.does plain caller (request event.now) (state_in s self.old) in
             Leads s (B.value store.new) self.new told.old told.new is.state is.gone }
         ensures left { OnTrue (delivers (request event.now))
             (spare (state_in (B.value store.old) self.old) ≤ spare (state_in (B.value store.new) self.new) + 30) }
@@ -225,11 +226,11 @@ impl Streams {
             Event::Unlock => self.unlock(),
             Event::OpenSlave => self.open_slave(store),
             Event::Shut => self.shut(store, side, told),
-            Event::Flush { what, band } => self.flush(store, side, *what, *band, told),
-            Event::Push { name } => self.push(store, side, *name, told),
-            Event::Pop => self.pop(store, side, told),
+            Event::Flush { what, band } => self.flush::<B, M>(store, side, *what, *band, told),
+            Event::Push { name } => self.push::<B, M>(store, side, *name, told),
+            Event::Pop => self.pop::<B, M>(store, side, told),
             Event::Look => self.look(side),
-            Event::Write { bytes } => Answer::Count(self.write(store, side, bytes, told)),
+            Event::Write { bytes } => Answer::Count(self.write::<B, M>(store, side, bytes, told)),
             Event::Read { n } => {
                 self.read(store, side, *n, out, told);
                 Answer::Bytes(out.len() as u32)
@@ -238,7 +239,7 @@ impl Streams {
                 prio,
                 control,
                 body,
-            } => self.putmsg(store, side, *prio, *control, *body, told),
+            } => self.putmsg::<B, M>(store, side, *prio, *control, *body, told),
             Event::Get { wanted, cmax, dmax } => {
                 self.getmsg(store, side, *wanted, *cmax, *dmax, out, told)
             }
@@ -247,25 +248,32 @@ impl Streams {
                 Answer::Done
             }
             Event::Nread => self.nread(store, side),
-            Event::Ioctl { command, body } => self.ioctl(store, side, *command, body, out, told),
+            Event::Ioctl { command, body } => self.ioctl::<B, M>(
+                store, side, *command, body, out, told,
+            ),
             Event::IoctlResult { .. } => self.tell_ioctl(side, out),
             Event::Signals => self.take_signals(side, out),
         }
     }
 
     /// A turn of an enabled queue.
-    pub fn turn<B: Blocks>(&mut self, store: &mut B, name: QueueName, told: &mut Fates) -> Turn
+    pub fn turn<B: Blocks, M: OwnModule>(
+        &mut self,
+        store: &mut B,
+        name: QueueName,
+        told: &mut Fates,
+    ) -> Turn
         requires { MayDeliver (B.value store.old) self.old (turn_blocks name.place) }
-        ensures turn { result ≡ (turned plain name result (state_in (B.value store.old) self.old)).turn }
-        ensures leads { let s = B.value store.old in let is = turned plain name result (state_in s self.old) in
+        ensures turn { result ≡ (turned M.does plain name result (state_in (B.value store.old) self.old)).turn }
+        ensures leads { let s = B.value store.old in let is = turned M.does plain name result (state_in s self.old) in
             Leads s (B.value store.new) self.new told.old told.new is.state is.gone }
         ensures few { FewBooked (state_in (B.value store.new) self.new) }
         ensures stops { MovesOn (state_in (B.value store.old) self.old) (free_in (B.value store.new)) name result }
     {
         self.enabled.remove(name);
         match name.place {
-            Place::Driver => self.turn_driver(store, name.side, told),
-            Place::Module(_) => self.turn_module(store, name, told),
+            Place::Driver => self.turn_driver::<B, M>(store, name.side, told),
+            Place::Module(_) => self.turn_module::<B, M>(store, name, told),
             Place::Head => Turn::Idle,
         }
     }

@@ -14,6 +14,7 @@ ghost use Rattle.strm_laws.specs.Writes.{below_head, chunks_sent};
 ghost use Rattle.strm_blocks.specs.Blocks.{StoreValue};
 ghost use Rattle.strm_frame.specs.Hands.{HasRoom, Spends};
 
+use crate::own::OwnModule;
 use crate::streams::Streams;
 use strm_blocks::Blocks;
 use strm_head::write;
@@ -42,11 +43,18 @@ impl Streams {
     }
 
     // Makes an ordinary message of bytes, and delivers it from below a side's head.
-    fn send_chunk<B: Blocks>(&mut self, store: &mut B, side: Side, chunk: &[u8], told: &mut Fates)
+    fn send_chunk<B: Blocks, M: OwnModule>(
+        &mut self,
+        store: &mut B,
+        side: Side,
+        chunk: &[u8],
+        told: &mut Fates,
+    )
         requires rests { AreAtRest (B.value store.old) self.old }
         requires small { length chunk.now ≤ 256 }
         requires room { HasRoom (B.value store.old) 1 }
-        ensures delivers { let s = B.value store.old in let is = delivered plain (below_head side) (data_message chunk.now) (state_in s self.old) in
+        ensures delivers { let s = B.value store.old in
+            let is = delivered M.does plain (below_head side) (data_message chunk.now) (state_in s self.old) in
             Delivers s (B.value store.new) self.old self.new told.old told.new is.state is.gone 0 }
         ensures spends { Spends (B.value store.old) (B.value store.new) 1 0 }
     {
@@ -56,12 +64,12 @@ impl Streams {
             at: 1,
             way: Way::Down,
         };
-        self.deliver_alone(store, below, message, told);
+        self.deliver_alone::<B, M>(store, below, message, told);
     }
 
     // Sends so many chunks of the bytes, of at most 256 each, while band 0 of the first queue below the head isn't full, and says how
     // many bytes have gone. Each takes one block of each kind.
-    fn send_chunks<B: Blocks>(
+    fn send_chunks<B: Blocks, M: OwnModule>(
         &mut self,
         store: &mut B,
         side: Side,
@@ -72,9 +80,9 @@ impl Streams {
         requires rests { AreAtRest (B.value store.old) self.old }
         requires room { HasRoom (B.value store.old) chunks }
         ensures taken { result
-            ≡ (chunks_sent plain side (chunks_of chunks bytes.now) (state_in (B.value store.old) self.old)).taken }
+            ≡ (chunks_sent M.does plain side (chunks_of chunks bytes.now) (state_in (B.value store.old) self.old)).taken }
         ensures fits { result ≤ length bytes.now }
-        ensures delivers { let s = B.value store.old in let is = chunks_sent plain side (chunks_of chunks bytes.now) (state_in s self.old) in
+        ensures delivers { let s = B.value store.old in let is = chunks_sent M.does plain side (chunks_of chunks bytes.now) (state_in s self.old) in
             Delivers s (B.value store.new) self.old self.new told.old told.new is.state is.gone 0 }
     {
         if chunks == 0 {
@@ -84,15 +92,15 @@ impl Streams {
             return 0;
         }
         let (chunk, rest) = bytes.split_at(bytes.len().min(256));
-        self.send_chunk(store, side, chunk, told);
-        let more = self.send_chunks(store, side, rest, chunks - 1, told);
+        self.send_chunk::<B, M>(store, side, chunk, told);
+        let more = self.send_chunks::<B, M>(store, side, rest, chunks - 1, told);
         chunk.len() + more
     }
 
     /// Writes bytes down a side's stream, and answers how many were taken: they go down from the head in chunks of at most 256,
     /// each an ordinary message, while band 0 of the first queue below has room.
     #[inline(always)]
-    pub fn write<B: Blocks>(
+    pub fn write<B: Blocks, M: OwnModule>(
         &mut self,
         store: &mut B,
         side: Side,
@@ -100,13 +108,13 @@ impl Streams {
         told: &mut Fates,
     ) -> u32
         requires { MayDeliver (B.value store.old) self.old (chunk_count (length bytes.now)) }
-        ensures answer { Count result ≡ (wrote plain side bytes.now (state_in (B.value store.old) self.old)).answer }
-        ensures delivers { let s = B.value store.old in let is = wrote plain side bytes.now (state_in s self.old) in
+        ensures answer { Count result ≡ (wrote M.does plain side bytes.now (state_in (B.value store.old) self.old)).answer }
+        ensures delivers { let s = B.value store.old in let is = wrote M.does plain side bytes.now (state_in s self.old) in
             Delivers s (B.value store.new) self.old self.new told.old told.new is.state is.gone 0 }
     {
         store.audit();
         let chunks = chunk_count(bytes.len());
-        let taken = self.send_chunks(store, side, bytes, chunks, told);
+        let taken = self.send_chunks::<B, M>(store, side, bytes, chunks, told);
         let book = with_written(self.book_of(side), taken);
         self.keep_book(side, book);
         taken as u32

@@ -5,17 +5,15 @@ use crate::pckt::{self, Pckt};
 use crate::ptem::{self, Ptem};
 use arrayvec::ArrayVec;
 use strm_blocks::{Blocks, InHand};
-use strm_frame::{Acts, Module, Outbox, QueuePair, Served};
+use strm_frame::{Acts, Module, Outbox, PutProcedure, QueuePair, Served};
 use strm_types::{Asks, Fates, ModuleName, Spot, Way};
 
 impl Module for Pckt {
-    ghost use Rattle.std.specs.Prelude.{◌≡◌, refl, None, [], false};
+    ghost use Rattle.std.specs.Prelude.{◌≡◌, refl, None, [], true, false};
     ghost use Rattle.strm_types.specs.declared.names.ModuleName.TheVariants as names;
     ghost use Rattle.strm_types.specs.declared.spots.Asks.TheVariants.{Empty};
-    ghost use Rattle.strm_types.specs.Cells as cells;
     ghost use Rattle.strm_types.specs.Pckts as plain;
     ghost use Rattle.strm_types.specs.Tables.{pckt_does};
-    ghost use Rattle.strm_types.proofs.PcktWithin.{pckt-within};
     ghost use Rattle.strm_types.specs.Service.{acts_alone, unserved};
     ghost use Rattle.strm_frame.specs.StandingLaws.{none-same};
     ghost use Rattle.strm_pty.specs.Packs.{pckt_in, puts};
@@ -30,7 +28,7 @@ impl Module for Pckt {
 
     ghost keeps = { λ x i. 0 };
 
-    ghost puts = { λ here m x. acts_alone (puts here m) x };
+    ghost puts = { λ by here m x. acts_alone (puts here m) x };
 
     ghost line_of = { λ p. [] };
 
@@ -46,22 +44,12 @@ impl Module for Pckt {
 
     ghost does = { λ p. pckt_does };
 
+    ghost holds = { λ p. true };
+
     ghost turn_cost = { λ here again p. 0 };
 
     fn name(&self) -> ModuleName {
         ModuleName::Pckt
-    }
-
-    fn put<B: Blocks>(
-        &mut self,
-        _queues: &mut Option<QueuePair>,
-        store: &mut B,
-        here: Spot,
-        message: InHand,
-        told: &mut Fates,
-    ) -> Acts {
-        store.audit();
-        pckt::put(store, here, message, told)
     }
 
     fn asks<B: Blocks>(&self, _queues: &Option<QueuePair>, _store: &B, _way: Way) -> Asks {
@@ -95,8 +83,6 @@ impl Module for Pckt {
         0
     }
 
-    ghost within = { λ here m x. pckt-within cells.plain 0 here m };
-
     ghost frame = { λ s t x queues others lists same held. (refl, none-same queues others lists held) };
 
     ghost rested = { λ s t x queues others lists none held. (refl, none-same queues others lists held) };
@@ -107,18 +93,39 @@ impl Module for Pckt {
 
     ghost turn_goes = { λ here again stop x may. refl };
 
-    ghost put_stays = { λ here m x way again may. may };
-
     ghost line_stays = { λ p way again may. may };
 }
 
+impl PutProcedure<()> for Pckt {
+    ghost use Rattle.std.specs.Prelude.{[]};
+    ghost use Rattle.strm_types.specs.Cells as cells;
+    ghost use Rattle.strm_types.proofs.PcktWithin.{pckt-within};
+
+    ghost by = { λ here m x. record { state = x; notes = []; sent = []; gone = [] } };
+
+    fn put<B: Blocks>(
+        &mut self,
+        _queues: &mut Option<QueuePair>,
+        store: &mut B,
+        here: Spot,
+        message: InHand,
+        told: &mut Fates,
+    ) -> Acts {
+        store.audit();
+        pckt::put(store, here, message, told)
+    }
+
+    ghost within = { λ here m x. pckt-within cells.plain 0 here m };
+
+    ghost put_stays = { λ here m x way again may. may };
+}
+
 impl Module for Ptem {
-    ghost use Rattle.std.specs.Prelude.{◌≡◌, refl, None, [], false};
+    ghost use Rattle.std.specs.Prelude.{◌≡◌, refl, None, [], true, false};
     ghost use Rattle.strm_types.specs.declared.names.ModuleName.TheVariants as names;
     ghost use Rattle.strm_types.specs.declared.spots.Asks.TheVariants.{Empty};
     ghost use Rattle.strm_types.specs.Ptems as plain;
     ghost use Rattle.strm_types.specs.Tables.{ptem_does};
-    ghost use Rattle.strm_types.proofs.PtemWithin.{ptem-within};
     ghost use Rattle.strm_types.specs.Service.{acts_alone, unserved};
     ghost use Rattle.strm_frame.specs.StandingLaws.{none-same};
     ghost use Rattle.strm_pty.specs.Beside.{ptem_in};
@@ -133,7 +140,7 @@ impl Module for Ptem {
 
     ghost keeps = { λ x i. 0 };
 
-    ghost puts = { λ here m x. acts_alone (plain.ptem_puts here m) x };
+    ghost puts = { λ by here m x. acts_alone (plain.ptem_puts here m) x };
 
     ghost line_of = { λ p. [] };
 
@@ -149,22 +156,12 @@ impl Module for Ptem {
 
     ghost does = { λ p. ptem_does };
 
+    ghost holds = { λ p. true };
+
     ghost turn_cost = { λ here again p. 0 };
 
     fn name(&self) -> ModuleName {
         ModuleName::Ptem
-    }
-
-    fn put<B: Blocks>(
-        &mut self,
-        _queues: &mut Option<QueuePair>,
-        store: &mut B,
-        here: Spot,
-        message: InHand,
-        _told: &mut Fates,
-    ) -> Acts {
-        store.audit();
-        ptem::put(self, store, here, message)
     }
 
     fn asks<B: Blocks>(&self, _queues: &Option<QueuePair>, _store: &B, _way: Way) -> Asks {
@@ -198,8 +195,6 @@ impl Module for Ptem {
         0
     }
 
-    ghost within = { λ here m x. ptem-within here m x.part };
-
     ghost frame = { λ s t x queues others lists same held. (refl, none-same queues others lists held) };
 
     ghost rested = { λ s t x queues others lists none held. (refl, none-same queues others lists held) };
@@ -210,7 +205,29 @@ impl Module for Ptem {
 
     ghost turn_goes = { λ here again stop x may. refl };
 
-    ghost put_stays = { λ here m x way again may. may };
-
     ghost line_stays = { λ p way again may. may };
+}
+
+impl PutProcedure<()> for Ptem {
+    ghost use Rattle.std.specs.Prelude.{[]};
+    ghost use Rattle.strm_types.specs.Ptems as plain;
+    ghost use Rattle.strm_types.proofs.PtemWithin.{ptem-within};
+
+    ghost by = { λ here m x. record { state = x; notes = []; sent = []; gone = [] } };
+
+    fn put<B: Blocks>(
+        &mut self,
+        _queues: &mut Option<QueuePair>,
+        store: &mut B,
+        here: Spot,
+        message: InHand,
+        _told: &mut Fates,
+    ) -> Acts {
+        store.audit();
+        ptem::put(self, store, here, message)
+    }
+
+    ghost within = { λ here m x. ptem-within here m x.part };
+
+    ghost put_stays = { λ here m x way again may. may };
 }

@@ -6,7 +6,7 @@ use Rattle.strm_rows.proofs.Prelude.{Einval, Eagain, Ebadmsg, Enxio, Enosr, Eran
 use Rattle.strm_rows.proofs.Prelude.{caller_of, content_max, entries_in, came, gone, Fate, Goes, carried, Discard, MessageDiscard, chunk_count}
 use Rattle.strm_rows.proofs.Prelude.{Message, cells_of, size_of, is_held, is_high_priority, rank_of, band_of, data_message, driver_of, blocks_asked}
 use Rattle.strm_rows.proofs.Prelude.{blocks_taken, at_end, refused, turn_refused, State, Stream, with_stream, module_named, head_with, flow, queue}
-use Rattle.strm_rows.proofs.Prelude.{ordinary, proto, urgent, options}
+use Rattle.strm_rows.proofs.Prelude.{ordinary, proto, urgent, options, no_own}
 use Rattle.strm_types.specs.declared.events.Event.TheVariants.{Push, Flush, Read}
 use Rattle.strm_types.specs.declared.events.FlushQueues.TheVariants as flushes
 use Rattle.strm_types.specs.declared.names.ModuleName.TheVariants.{Ldterm}
@@ -106,10 +106,10 @@ sizes events bytes = record { mblks = 0; dblks = 0; journal_events = events; jou
 -- with a journal that has room and blocks that are free, with a journal that is full, with too few blocks, with both
 abbrev answers : Request → State ℕ → List (Option Refusal)
 answers asked s =
-    refused s [] (sizes 1 9999) true (caller Slave) asked
-    ∷ refused s [] (sizes 0 9999) true (caller Slave) asked
-    ∷ refused s [] (sizes 1 9999) false (caller Slave) asked
-    ∷ refused s [] (sizes 0 9999) false (caller Slave) asked
+    refused no_own s [] (sizes 1 9999) true (caller Slave) asked
+    ∷ refused no_own s [] (sizes 0 9999) true (caller Slave) asked
+    ∷ refused no_own s [] (sizes 1 9999) false (caller Slave) asked
+    ∷ refused no_own s [] (sizes 0 9999) false (caller Slave) asked
     ∷ []
 
 abbrev always : Refusal → List (Option Refusal)
@@ -143,7 +143,7 @@ pushes-want-room-in-the-books = refl
 
 -- where an ldterm stands, another one is refused and a ptem isn't, and it may be taken off and looked at
 abbrev stacked : State ℕ
-stacked = pair (end Open false [] []) (record (end Open false [] []) { modules = module_named Ldterm ∷ [] }) (book 0 0) (book 0 0)
+stacked = pair (end Open false [] []) (record (end Open false [] []) { modules = module_named no_own Ldterm ∷ [] }) (book 0 0) (book 0 0)
 
 pub one-ldterm-stands-on-a-stream : map (λ asked. answers asked stacked) (Push (Some Ldterm) ∷ Push (Some Ptem) ∷ Pop ∷ Look ∷ []) ≡ at_last (Some Einval) ∷ at_last None ∷ at_last None ∷ at_last None ∷ []
 one-ldterm-stands-on-a-stream = refl
@@ -210,7 +210,7 @@ input-of-the-slave-ends = refl
 
 -- a read is refused for an M_PROTO that waits, also at the end of input, where else it gives nothing
 abbrev read_at_end : ℕ → Bool → List (Message ℕ) → Option Refusal
-read_at_end n hung_up ms = refused (pair (end Open false [] []) (end Open hung_up ms []) (book 0 0) (book 0 0)) [] (sizes 1 9) true (caller Slave) (Read n)
+read_at_end n hung_up ms = refused no_own (pair (end Open false [] []) (end Open hung_up ms []) (book 0 0) (book 0 0)) [] (sizes 1 9) true (caller Slave) (Read n)
 
 pub reads-of-an-m-proto : read_at_end 1 false (proto ∷ []) ∷ read_at_end 1 true (proto ∷ []) ∷ read_at_end 0 false (proto ∷ []) ∷ read_at_end 1 false (ordinary [] ∷ proto ∷ []) ∷ read_at_end 1 false [] ∷ read_at_end 1 true [] ∷ []
     ≡ Some Ebadmsg ∷ Some Ebadmsg ∷ None ∷ None ∷ Some Eagain ∷ None ∷ []
@@ -218,7 +218,7 @@ unfolding is_held
 reads-of-an-m-proto = refl
 
 -- a read of an empty head waits for more, unless the input ends or it asks for none
-pub reads-at-the-end : map (λ s. refused s [] (sizes 1 9) true (caller Master) (Read 1)) (ending false Open [] ∷ ending false Closed (proto ∷ []) ∷ ending false Closed [] ∷ []) ≡ Some Eagain ∷ Some Eagain ∷ None ∷ []
+pub reads-at-the-end : map (λ s. refused no_own s [] (sizes 1 9) true (caller Master) (Read 1)) (ending false Open [] ∷ ending false Closed (proto ∷ []) ∷ ending false Closed [] ∷ []) ≡ Some Eagain ∷ Some Eagain ∷ None ∷ []
 unfolding is_held
 reads-at-the-end = refl
 
@@ -238,22 +238,22 @@ abbrev held_in_messages : State ℕ
 held_in_messages = with_stream Slave (record held.ends.slave { head = record held.ends.slave.head { read_mode = MessageDiscard; control_mode = Discard } }) held
 
 -- an M_PROTO is refused, and nothing goes; in the modes of the head some is given, some discarded and some dropped
-pub reads-take-away : gone plain held (Called (caller Slave) (Read 2) Done) ∷ gone plain held (Called (caller Master) (Read 9) Done) ∷ gone plain held_in_messages (Called (caller Slave) (Read 2) Done) ∷ []
+pub reads-take-away : gone no_own plain held (Called (caller Slave) (Read 2) Done) ∷ gone no_own plain held (Called (caller Master) (Read 9) Done) ∷ gone no_own plain held_in_messages (Called (caller Slave) (Read 2) Done) ∷ []
     ≡ [] ∷ read_of SlaveToMaster (1 ∷ []) [] [] ∷ read_of MasterToSlave (3 ∷ 4 ∷ []) (5 ∷ []) (1 ∷ 2 ∷ []) ∷ []
 unfolding size_of cells_of rank_of is_high_priority
 reads-take-away = refl
 
-pub flush-takes-away : gone plain held (Called (caller Master) (Flush flushes.Write (band 2)) Done) ≡ Goes MasterToSlave rules.Flushed [] ∷ Goes MasterToSlave rules.Flushed (1 ∷ 2 ∷ 3 ∷ 4 ∷ 5 ∷ []) ∷ []
+pub flush-takes-away : gone no_own plain held (Called (caller Master) (Flush flushes.Write (band 2)) Done) ≡ Goes MasterToSlave rules.Flushed [] ∷ Goes MasterToSlave rules.Flushed (1 ∷ 2 ∷ 3 ∷ 4 ∷ 5 ∷ []) ∷ []
 unfolding carried size_of cells_of is_data_kind is_high_priority band_of
 flush-takes-away = refl
 
-pub close-takes-away : gone plain held (Called (caller Slave) Shut Done) ≡ Goes MasterToSlave rules.EndClosed (1 ∷ 2 ∷ 3 ∷ 4 ∷ 5 ∷ []) ∷ []
+pub close-takes-away : gone no_own plain held (Called (caller Slave) Shut Done) ≡ Goes MasterToSlave rules.EndClosed (1 ∷ 2 ∷ 3 ∷ 4 ∷ 5 ∷ []) ∷ []
 unfolding size_of cells_of is_high_priority band_of
 close-takes-away = refl
 
-pub other-entries-take-nothing-away : map (λ e. gone plain held e) (Called (caller Slave) OpenSlave Done ∷ Called (caller Slave) Pop Done ∷ Called (caller Slave) (Write (97 ∷ [])) Done ∷ Turned (driver_of Master) Idle ∷ []) ≡ [] ∷ [] ∷ [] ∷ [] ∷ []
+pub other-entries-take-nothing-away : map (λ e. gone no_own plain held e) (Called (caller Slave) OpenSlave Done ∷ Called (caller Slave) Pop Done ∷ Called (caller Slave) (Write (97 ∷ [])) Done ∷ Turned (driver_of Master) Idle ∷ []) ≡ [] ∷ [] ∷ [] ∷ [] ∷ []
 unfolding carried chunk_count data_message is_held size_of cells_of rank_of is_high_priority band_of
 other-entries-take-nothing-away = refl
 
-pub other-entries-bring-nothing : map (λ e. came plain held e) (Called (caller Slave) Shut Done ∷ Called (caller Slave) (Flush flushes.Both None) Done ∷ Called (caller Slave) (Read 1) Done ∷ Turned (driver_of Master) Idle ∷ []) ≡ [] ∷ [] ∷ [] ∷ [] ∷ []
+pub other-entries-bring-nothing : map (λ e. came no_own plain held e) (Called (caller Slave) Shut Done ∷ Called (caller Slave) (Flush flushes.Both None) Done ∷ Called (caller Slave) (Read 1) Done ∷ Turned (driver_of Master) Idle ∷ []) ≡ [] ∷ [] ∷ [] ∷ [] ∷ []
 other-entries-bring-nothing = refl

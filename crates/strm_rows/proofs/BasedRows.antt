@@ -1,7 +1,7 @@
 -- Which numbers the bytes of a base have, counted by hand in the order of an image.
 use Rattle.strm_rows.proofs.Prelude.{ℕ, ◌≡◌, true, false, List, [], ◌∷◌, map, refl, Dir, MasterToSlave, SlaveToMaster, Open, new_book, Base, Made}
 use Rattle.strm_rows.proofs.Prelude.{Tagged, Written, Message, cells_of, weight_of, no_fates, Up, Down, Standing, module_line, ldterm_stands, State}
-use Rattle.strm_rows.proofs.Prelude.{Stream, opening, module_named, head_with, options, ordinary, proto, queue, urgent, fresh}
+use Rattle.strm_rows.proofs.Prelude.{Stream, opening, module_named, head_with, options, ordinary, proto, queue, urgent, fresh, no_own}
 use Rattle.strm_types.specs.declared.names.ModuleName.TheVariants as names
 use Rattle.strm_types.specs.Standings.{messages_at}
 use Rattle.strm_laws.specs.Based.{based}
@@ -17,7 +17,7 @@ line = ldterm_stands (record fresh { line = 97 ∷ 98 ∷ []; read_queue = queue
 
 abbrev base : State ℕ
 base = record {
-  ends = record { master = end (ordinary (65 ∷ 66 ∷ []) ∷ []) [] (proto ∷ []); slave = end (urgent ∷ []) (module_named names.Ptem ∷ line ∷ []) (ordinary (101 ∷ 102 ∷ []) ∷ []) };
+  ends = record { master = end (ordinary (65 ∷ 66 ∷ []) ∷ []) [] (proto ∷ []); slave = end (urgent ∷ []) (module_named no_own names.Ptem ∷ line ∷ []) (ordinary (101 ∷ 102 ∷ []) ∷ []) };
   locked = false;
   enabled = [];
   next_ioctl = 1;

@@ -1,7 +1,7 @@
 -- What the definitions of flushes and closes compute, case by case, as worked out by hand from the manual pages.
 use Rattle.strm_rows.proofs.Prelude.{ℕ, ◌≡◌, Bool, true, false, List, [], ◌∷◌, map, refl, replicate, Option, None, Some, Done, Bytes, Caller, Both}
 use Rattle.strm_rows.proofs.Prelude.{Band, Dir, MasterToSlave, SlaveToMaster, Openness, Never, Open, Closed, QueueName, Side, Master, Slave, Rule}
-use Rattle.strm_rows.proofs.Prelude.{new_book, called, plain, Fate, Goes, Carried, carried, closed_at, is_data_kind, caller_of, Message}
+use Rattle.strm_rows.proofs.Prelude.{new_book, called, plain, Fate, Goes, Carried, carried, closed_at, is_data_kind, caller_of, Message, no_own}
 use Rattle.strm_rows.proofs.Prelude.{is_high_priority, band_of, size_of, cells_of, driver_of, Queue, Flow, new_queue, State, Stream, head_with, flow}
 use Rattle.strm_rows.proofs.Prelude.{queue, ordinary, proto, urgent, options}
 use Rattle.strm_types.specs.declared.events.Event.TheVariants as events
@@ -114,34 +114,34 @@ abbrev leads : State ℕ → List (Fate ℕ) → Carried ℕ (State ℕ)
 leads s gone = record { state = s; gone = gone }
 
 -- FLUSHW: the side's own driver, and then the head across
-pub flush-of-the-masters-writes : flushed_on plain None Master Write (ones Open Open) ≡ leads (pair (end Open (one 1) none) (end Open none (one 4))) (down 2 ∷ down 3 ∷ [])
+pub flush-of-the-masters-writes : flushed_on no_own plain None Master Write (ones Open Open) ≡ leads (pair (end Open (one 1) none) (end Open none (one 4))) (down 2 ∷ down 3 ∷ [])
 unfolding carried is_data_kind size_of cells_of
 flush-of-the-masters-writes = refl
 
-pub flush-of-the-slaves-writes : flushed_on plain None Slave Write (ones Open Open) ≡ leads (pair (end Open none (one 2)) (end Open (one 3) none)) (up 4 ∷ up 1 ∷ [])
+pub flush-of-the-slaves-writes : flushed_on no_own plain None Slave Write (ones Open Open) ≡ leads (pair (end Open none (one 2)) (end Open (one 3) none)) (up 4 ∷ up 1 ∷ [])
 unfolding carried is_data_kind size_of cells_of
 flush-of-the-slaves-writes = refl
 
 -- FLUSHR: the driver across, and then the side's own head
-pub flush-of-the-masters-reads : flushed_on plain None Master Read (ones Open Open) ≡ leads (pair (end Open none (one 2)) (end Open (one 3) none)) (up 4 ∷ up 1 ∷ [])
+pub flush-of-the-masters-reads : flushed_on no_own plain None Master Read (ones Open Open) ≡ leads (pair (end Open none (one 2)) (end Open (one 3) none)) (up 4 ∷ up 1 ∷ [])
 unfolding carried is_data_kind size_of cells_of
 flush-of-the-masters-reads = refl
 
-pub flush-of-the-slaves-reads : flushed_on plain None Slave Read (ones Open Open) ≡ leads (pair (end Open (one 1) none) (end Open none (one 4))) (down 2 ∷ down 3 ∷ [])
+pub flush-of-the-slaves-reads : flushed_on no_own plain None Slave Read (ones Open Open) ≡ leads (pair (end Open (one 1) none) (end Open none (one 4))) (down 2 ∷ down 3 ∷ [])
 unfolding carried is_data_kind size_of cells_of
 flush-of-the-slaves-reads = refl
 
 -- FLUSHRW: first what was written, then what is to be read
-pub flush-of-both : map (λ side. flushed_on plain None side Both (ones Open Open)) (Master ∷ Slave ∷ []) ≡ leads (pair (end Open none none) (end Open none none)) (down 2 ∷ down 3 ∷ up 4 ∷ up 1 ∷ []) ∷ leads (pair (end Open none none) (end Open none none)) (up 4 ∷ up 1 ∷ down 2 ∷ down 3 ∷ []) ∷ []
+pub flush-of-both : map (λ side. flushed_on no_own plain None side Both (ones Open Open)) (Master ∷ Slave ∷ []) ≡ leads (pair (end Open none none) (end Open none none)) (down 2 ∷ down 3 ∷ up 4 ∷ up 1 ∷ []) ∷ leads (pair (end Open none none) (end Open none none)) (up 4 ∷ up 1 ∷ down 2 ∷ down 3 ∷ []) ∷ []
 unfolding carried is_data_kind size_of cells_of
 flush-of-both = refl
 
 -- what a driver sends up reaches no head of a side that isn't open
-pub flush-towards-a-side-that-is-closed : map (λ slave. flushed_on plain None Master Write (ones Open slave)) (Never ∷ Closed ∷ []) ≡ leads (pair (end Open (one 1) none) (end Never (one 3) (one 4))) (down 2 ∷ []) ∷ leads (pair (end Open (one 1) none) (end Closed (one 3) (one 4))) (down 2 ∷ []) ∷ []
+pub flush-towards-a-side-that-is-closed : map (λ slave. flushed_on no_own plain None Master Write (ones Open slave)) (Never ∷ Closed ∷ []) ≡ leads (pair (end Open (one 1) none) (end Never (one 3) (one 4))) (down 2 ∷ []) ∷ leads (pair (end Open (one 1) none) (end Closed (one 3) (one 4))) (down 2 ∷ []) ∷ []
 unfolding carried is_data_kind size_of cells_of
 flush-towards-a-side-that-is-closed = refl
 
-pub flush-on-a-side-that-is-closed : flushed_on plain None Slave Both (ones Open Closed) ≡ leads (pair (end Open none none) (end Closed (one 3) none)) (up 4 ∷ up 1 ∷ down 2 ∷ [])
+pub flush-on-a-side-that-is-closed : flushed_on no_own plain None Slave Both (ones Open Closed) ≡ leads (pair (end Open none none) (end Closed (one 3) none)) (up 4 ∷ up 1 ∷ down 2 ∷ [])
 unfolding carried is_data_kind size_of cells_of
 flush-on-a-side-that-is-closed = refl
 
@@ -149,7 +149,7 @@ flush-on-a-side-that-is-closed = refl
 abbrev banded : Stream ℕ
 banded = end Open none (queue several [])
 
-pub flush-call : map (λ asked. called plain (caller Master) asked (pair banded (end Open none none))) (events.Flush Write (band 2) ∷ events.Flush Write None ∷ events.Flush Read (band 2) ∷ []) ≡
+pub flush-call : map (λ asked. called no_own plain (caller Master) asked (pair banded (end Open none none))) (events.Flush Write (band 2) ∷ events.Flush Write None ∷ events.Flush Read (band 2) ∷ []) ≡
     record { answer = Done; state = pair (end Open none (queue (urgent ∷ options ∷ ordinary (7 ∷ 8 ∷ []) ∷ []) [])) (end Open none none); came = []; gone = fate rules.Flushed MasterToSlave (1 ∷ 2 ∷ 3 ∷ 4 ∷ 5 ∷ []) ∷ fate rules.Flushed MasterToSlave [] ∷ [] }
     ∷ record { answer = Done; state = pair (end Open none (queue (options ∷ []) [])) (end Open none none); came = []; gone = fate rules.Flushed MasterToSlave (9 ∷ 1 ∷ 2 ∷ 3 ∷ 4 ∷ 5 ∷ 7 ∷ 8 ∷ []) ∷ fate rules.Flushed MasterToSlave [] ∷ [] }
     ∷ record { answer = Done; state = pair banded (end Open none none); came = []; gone = fate rules.Flushed SlaveToMaster [] ∷ fate rules.Flushed SlaveToMaster [] ∷ [] }
@@ -158,7 +158,7 @@ unfolding carried is_data_kind is_high_priority size_of cells_of
 flush-call = refl
 
 -- pops and looks where no module stands change nothing
-pub other-calls-change-nothing : map (λ asked. called plain (caller Slave) asked (ones Open Open)) (events.Pop ∷ events.Look ∷ []) ≡ replicate 2 (record { answer = Done; state = ones Open Open; came = []; gone = [] })
+pub other-calls-change-nothing : map (λ asked. called no_own plain (caller Slave) asked (ones Open Open)) (events.Pop ∷ events.Look ∷ []) ≡ replicate 2 (record { answer = Done; state = ones Open Open; came = []; gone = [] })
 other-calls-change-nothing = refl
 
 -- writers that are let go
@@ -183,7 +183,7 @@ unfolding is_high_priority band_of size_of cells_of
 flush-of-a-driver-enables-nothing = refl
 
 -- a writer in a band that is flushed, and one in a band that isn't
-pub flush-of-a-full-band : map (λ n. (flushed_on plain (band n) Master Write (pair (end Open none none) (end Open full none))).state.enabled) (0 ∷ 1 ∷ []) ≡ (driver_of Master ∷ []) ∷ [] ∷ []
+pub flush-of-a-full-band : map (λ n. (flushed_on no_own plain (band n) Master Write (pair (end Open none none) (end Open full none))).state.enabled) (0 ∷ 1 ∷ []) ≡ (driver_of Master ∷ []) ∷ [] ∷ []
 unfolding carried is_data_kind is_high_priority band_of size_of cells_of
 flush-of-a-full-band = refl
 
@@ -215,10 +215,10 @@ close-of-the-master-alone = refl
 pub close-forgets-a-hangup : (ended Master (hung_up_at Master (ones Open Open))).ends.master.head.hung_up ∷ (hung_up_at Master (ones Open Open)).ends.master.head.hung_up ∷ [] ≡ false ∷ true ∷ []
 close-forgets-a-hangup = refl
 
-pub close-call : called plain (caller Slave) events.Shut (ones Open Open) ≡ record { answer = Done; state = pair (end Open (one 1) (one 2)) (end Closed (new_queue 5120 1024) (one 4)); came = []; gone = fate rules.EndClosed MasterToSlave (3 ∷ []) ∷ [] }
+pub close-call : called no_own plain (caller Slave) events.Shut (ones Open Open) ≡ record { answer = Done; state = pair (end Open (one 1) (one 2)) (end Closed (new_queue 5120 1024) (one 4)); came = []; gone = fate rules.EndClosed MasterToSlave (3 ∷ []) ∷ [] }
 unfolding size_of cells_of
 close-call = refl
 
 -- a read of an empty head changes nothing, whether or not it wants to be read
-pub read-of-an-empty-head-changes-nothing : called plain (caller Slave) (events.Read 5) (pair (end Open none none) (end Open (rested false [] []) none)) ≡ record { answer = Bytes []; state = pair (end Open none none) (end Open (rested false [] []) none); came = []; gone = [] }
+pub read-of-an-empty-head-changes-nothing : called no_own plain (caller Slave) (events.Read 5) (pair (end Open none none) (end Open (rested false [] []) none)) ≡ record { answer = Bytes []; state = pair (end Open none none) (end Open (rested false [] []) none); came = []; gone = [] }
 read-of-an-empty-head-changes-nothing = refl

@@ -5,7 +5,7 @@ use Rattle.strm_types.specs.declared.names.ModuleName.TheVariants as names
 use Rattle.strm_types.specs.Budgets.{Table, budget, most, own_at}
 use Rattle.strm_types.specs.Costs.{head_takes, pckt_takes, up_takes}
 use Rattle.strm_types.specs.Shapes.{Shape, Held, Asking, Acking, FlushR, FlushW, FlushRW, FlushMixed, Packed, Passing, shape_of}
-use Rattle.strm_types.specs.Tables.{ToDriver, ToReaders, driver_does, head_does, ldterm_does, name_does, pckt_does, ptem_does}
+use Rattle.strm_types.specs.Tables.{ToDriver, ToReaders, driver_does, head_does, ldterm_does, name_does, own_does, pckt_does, ptem_does}
 use Rattle.strm_laws.specs.SideCosts.{costs}
 use Rattle.strm_laws.specs.StackCosts.{Stands}
 
@@ -60,8 +60,12 @@ ptem-takes = refl
 pub pckt-takes : map (owns pckt_does) (Up ∷ Down ∷ []) ≡ (1 ∷ 1 ∷ 0 ∷ 1 ∷ 2 ∷ 2 ∷ 2 ∷ 1 ∷ 0 ∷ []) ∷ (0 ∷ 0 ∷ 0 ∷ 0 ∷ 0 ∷ 0 ∷ 0 ∷ 0 ∷ 0 ∷ []) ∷ []
 pckt-takes = refl
 
-pub packets-are-made : map (λ name. map (λ shape. (name_does name Up shape).makes) shapes) (names.Ldterm ∷ names.Ptem ∷ names.Pckt ∷ [])
-    ≡ (0 ∷ 0 ∷ 0 ∷ 0 ∷ 0 ∷ 0 ∷ 0 ∷ 0 ∷ 0 ∷ []) ∷ (0 ∷ 0 ∷ 0 ∷ 0 ∷ 0 ∷ 0 ∷ 0 ∷ 0 ∷ 0 ∷ []) ∷ (1 ∷ 1 ∷ 0 ∷ 1 ∷ 1 ∷ 1 ∷ 1 ∷ 1 ∷ 0 ∷ []) ∷ []
+pub own-takes : map (owns own_does) (Up ∷ Down ∷ []) ≡ (0 ∷ 0 ∷ 0 ∷ 0 ∷ 0 ∷ 0 ∷ 0 ∷ 0 ∷ 0 ∷ []) ∷ (0 ∷ 0 ∷ 0 ∷ 0 ∷ 0 ∷ 0 ∷ 0 ∷ 0 ∷ 0 ∷ []) ∷ []
+own-takes = refl
+
+pub packets-are-made : map (λ name. map (λ shape. (name_does name Up shape).makes) shapes) (names.Ldterm ∷ names.Ptem ∷ names.Pckt ∷ names.Own 5 ∷ [])
+    ≡ (0 ∷ 0 ∷ 0 ∷ 0 ∷ 0 ∷ 0 ∷ 0 ∷ 0 ∷ 0 ∷ []) ∷ (0 ∷ 0 ∷ 0 ∷ 0 ∷ 0 ∷ 0 ∷ 0 ∷ 0 ∷ 0 ∷ []) ∷ (1 ∷ 1 ∷ 0 ∷ 1 ∷ 1 ∷ 1 ∷ 1 ∷ 1 ∷ 0 ∷ [])
+    ∷ (0 ∷ 0 ∷ 0 ∷ 0 ∷ 0 ∷ 0 ∷ 0 ∷ 0 ∷ 0 ∷ []) ∷ []
 packets-are-made = refl
 
 pub heads-and-drivers-take : map (λ shape. (head_does shape).own) shapes ∷ map (λ shape. (driver_does Up shape).own) shapes ∷ map (λ shape. (driver_does Down shape).own) shapes ∷ []
@@ -78,6 +82,10 @@ pub what-goes-on : (ldterm_does Up Acking).emits ∷ (ptem_does Down Asking).emi
     ≡ ((Up, FlushR) ∷ (Up, Held) ∷ (Up, Passing) ∷ (Up, Acking) ∷ []) ∷ ((Up, Acking) ∷ (Down, Asking) ∷ (Up, Passing) ∷ []) ∷ ((Up, Held) ∷ (Up, FlushW) ∷ [])
     ∷ ((Down, FlushRW) ∷ []) ∷ ((Down, FlushW) ∷ []) ∷ []
 what-goes-on = refl
+
+pub own-answers-or-passes : (own_does Down Asking).emits ∷ (own_does Up Asking).emits ∷ (own_does Down FlushRW).emits ∷ (own_does Up Held).emits ∷ []
+    ≡ ((Up, Acking) ∷ (Up, Passing) ∷ (Down, Asking) ∷ []) ∷ ((Up, Asking) ∷ []) ∷ ((Down, FlushRW) ∷ []) ∷ ((Up, Held) ∷ []) ∷ []
+own-answers-or-passes = refl
 
 -- How many blocks a delivery takes at most by them: where ldterm stands above ptem on the slave's stream, and pckt on the master's, and where each
 -- place has the same module.
@@ -102,6 +110,23 @@ master-budgets = refl
 pub repeated-budgets : budgets repeated Slave 1 Down ∷ budgets repeated Slave 3 Up ∷ budgets repeated Master 1 Down ∷ budgets repeated Master 3 Up ∷ [] ≡ (0 ∷ 10 ∷ 0 ∷ 3 ∷ 5 ∷ 6 ∷ 0 ∷ 0 ∷ 0 ∷ []) ∷ (0 ∷ 7 ∷ 0 ∷ 0 ∷ 6 ∷ 6 ∷ 0 ∷ 0 ∷ 0 ∷ []) ∷ (0 ∷ 1 ∷ 0 ∷ 6 ∷ 2 ∷ 6 ∷ 0 ∷ 0 ∷ 0 ∷ []) ∷ (3 ∷ 3 ∷ 0 ∷ 3 ∷ 12 ∷ 12 ∷ 12 ∷ 3 ∷ 0 ∷ []) ∷ []
 unfolding budget
 repeated-budgets = refl
+
+-- where modules of a user's own stand between ldterm and ptem, and alone, whatever their numbers
+abbrev between : ℕ → Stands
+between n = record { master = names.Pckt ∷ names.Own n ∷ []; slave = names.Ldterm ∷ names.Own n ∷ names.Ptem ∷ [] }
+
+abbrev alone : ℕ → ℕ → ℕ → Stands
+alone a b c = record { master = []; slave = names.Own a ∷ names.Own b ∷ names.Own c ∷ [] }
+
+pub between-budgets : (n : ℕ) → budgets (between n) Slave 1 Down ∷ budgets (between n) Slave 4 Up ∷ budgets (between n) Master 1 Down ∷ []
+    ≡ (0 ∷ 8 ∷ 0 ∷ 3 ∷ 3 ∷ 4 ∷ 0 ∷ 0 ∷ 0 ∷ []) ∷ (0 ∷ 3 ∷ 2 ∷ 2 ∷ 2 ∷ 2 ∷ 0 ∷ 0 ∷ 0 ∷ []) ∷ (0 ∷ 1 ∷ 0 ∷ 4 ∷ 2 ∷ 4 ∷ 0 ∷ 0 ∷ 0 ∷ []) ∷ []
+unfolding budget
+between-budgets n = refl
+
+pub alone-budgets : (a b c : ℕ) → budgets (alone a b c) Slave 1 Down ∷ budgets (alone a b c) Slave 4 Up ∷ []
+    ≡ (0 ∷ 1 ∷ 0 ∷ 3 ∷ 2 ∷ 3 ∷ 0 ∷ 0 ∷ 0 ∷ []) ∷ (0 ∷ 1 ∷ 0 ∷ 1 ∷ 1 ∷ 1 ∷ 0 ∷ 0 ∷ 0 ∷ []) ∷ []
+unfolding budget
+alone-budgets a b c = refl
 
 -- with too few hops left that is beyond what any call asks
 pub budgets-of-few-hops : map (λ hops. budget (costs terminal) hops (record { to = record { side = Slave; at = 1; way = Down }; shape = Asking })) (0 ∷ 1 ∷ 5 ∷ 6 ∷ 7 ∷ [])

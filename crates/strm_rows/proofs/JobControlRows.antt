@@ -1,7 +1,7 @@
 -- Job control at a slave whose foreground group is 5 (POSIX, General Terminal Interface, "Terminal Access Control"): who is in the background,
 -- and what becomes of reads, gets, writes and puts from there.
 use Rattle.strm_rows.proofs.Prelude.{ℕ, ◌≡◌, Bool, true, false, List, [], ◌∷◌, map, replicate, refl, None, Some, Done, Bytes, Nak, Caller, Shut, Look}
-use Rattle.strm_rows.proofs.Prelude.{Write, Put, Get, Nread, Pop, TIOCGPGRP, TIOCSPGRP, Any, Open, Master, Slave, Einval, Eagain, Eio, Enosr}
+use Rattle.strm_rows.proofs.Prelude.{Write, Put, Get, Nread, Pop, TIOCGPGRP, TIOCSPGRP, Any, Open, Master, Slave, Einval, Eagain, Eio, Enosr, no_own}
 use Rattle.strm_rows.proofs.Prelude.{JournalFull, plain, Request, Head, new_head, caller_of, called, refused, refused_by_state, State, new_stream}
 use Rattle.strm_rows.proofs.Prelude.{opening, with_stream, Config}
 use Rattle.strm_types.specs.declared.answers.Answer.TheVariants.{Stop}
@@ -74,7 +74,7 @@ pub other-calls-are-free : verdicts (terminal 5 true false) (Flush flushes.Both 
 other-calls-are-free = refl
 
 -- a caller that is stopped or refused isn't told what waits; one that goes on is
-pub what-waits-is-not-told : map (λ caller. judged (refused_by_state (terminal 5 true false) caller (Read 10)) (stop_of (terminal 5 true false) caller (Read 10))) (in_group 7 ∷ ignoring 7 ∷ in_group 5 ∷ [])
+pub what-waits-is-not-told : map (λ caller. judged (refused_by_state no_own (terminal 5 true false) caller (Read 10)) (stop_of (terminal 5 true false) caller (Read 10))) (in_group 7 ∷ ignoring 7 ∷ in_group 5 ∷ [])
     ≡ Stopped Ttin ∷ Refused Eio ∷ Refused Eagain ∷ []
 what-waits-is-not-told = refl
 
@@ -82,12 +82,12 @@ abbrev sizes : ℕ → ℕ → ℕ → Config
 sizes blocks events bytes = record { mblks = blocks; dblks = blocks; journal_events = events; journal_bytes = bytes }
 
 -- a full journal and want of blocks are told before
-pub room-is-asked-before : refused (terminal 5 true false) [] (sizes 0 1 9) true (in_group 7) (Read 10) ∷ refused (terminal 5 true false) [] (sizes 9 9 99) false (in_group 7) (Write (120 ∷ [])) ∷ refused (terminal 5 true false) [] (sizes 9 9 99) true (in_group 7) (Write (120 ∷ [])) ∷ []
+pub room-is-asked-before : refused no_own (terminal 5 true false) [] (sizes 0 1 9) true (in_group 7) (Read 10) ∷ refused no_own (terminal 5 true false) [] (sizes 9 9 99) false (in_group 7) (Write (120 ∷ [])) ∷ refused no_own (terminal 5 true false) [] (sizes 9 9 99) true (in_group 7) (Write (120 ∷ [])) ∷ []
     ≡ Some JournalFull ∷ Some Enosr ∷ None ∷ []
 room-is-asked-before = refl
 
 -- a caller that is stopped: nothing changes, comes or goes
-pub stopped-calls-change-nothing : map (λ asked. called plain (in_group 7) asked (terminal 5 true false)) (Read 10 ∷ Write (120 ∷ []) ∷ [])
+pub stopped-calls-change-nothing : map (λ asked. called no_own plain (in_group 7) asked (terminal 5 true false)) (Read 10 ∷ Write (120 ∷ []) ∷ [])
     ≡ tells (Stop Ttin) (terminal 5 true false) ∷ tells (Stop Ttou) (terminal 5 true false) ∷ []
 stopped-calls-change-nothing = refl
 
@@ -96,10 +96,10 @@ stopped-calls-change-nothing = refl
 abbrev behind : ℕ → State ℕ
 behind group = record (terminal group true false) { next_ioctl = 2 }
 
-pub group-is-told-and-set : map (λ asked. called plain (in_group 7) asked (terminal 5 true false)) (Ioctl TIOCGPGRP [] ∷ Ioctl TIOCGPGRP (9 ∷ []) ∷ Ioctl TIOCSPGRP (1 ∷ 2 ∷ 3 ∷ 4 ∷ []) ∷ Ioctl TIOCSPGRP (0 ∷ 0 ∷ 0 ∷ 0 ∷ []) ∷ Ioctl TIOCSPGRP (0 ∷ 0 ∷ 7 ∷ []) ∷ Ioctl TIOCSPGRP [] ∷ [])
+pub group-is-told-and-set : map (λ asked. called no_own plain (in_group 7) asked (terminal 5 true false)) (Ioctl TIOCGPGRP [] ∷ Ioctl TIOCGPGRP (9 ∷ []) ∷ Ioctl TIOCSPGRP (1 ∷ 2 ∷ 3 ∷ 4 ∷ []) ∷ Ioctl TIOCSPGRP (0 ∷ 0 ∷ 0 ∷ 0 ∷ []) ∷ Ioctl TIOCSPGRP (0 ∷ 0 ∷ 7 ∷ []) ∷ Ioctl TIOCSPGRP [] ∷ [])
     ≡ tells (Bytes (0 ∷ 0 ∷ 0 ∷ 5 ∷ [])) (behind 5) ∷ tells (Bytes (0 ∷ 0 ∷ 0 ∷ 5 ∷ [])) (behind 5) ∷ tells Done (behind 16909060) ∷ tells Done (behind 0) ∷ tells (Nak Einval) (behind 5) ∷ tells (Nak Einval) (behind 5) ∷ []
 group-is-told-and-set = refl
 
 -- the group and TOSTOP go with the slave's close
-pub close-takes-the-group : map (λ t. t.head.group ∷ []) (stream Slave (called plain (in_group 5) Shut (terminal 5 true false)).state ∷ []) ≡ (0 ∷ []) ∷ []
+pub close-takes-the-group : map (λ t. t.head.group ∷ []) (stream Slave (called no_own plain (in_group 5) Shut (terminal 5 true false)).state ∷ []) ≡ (0 ∷ []) ∷ []
 close-takes-the-group = refl

@@ -10,6 +10,8 @@ pub mod RefusedRows
 pub mod StateRows
 pub mod StackedRows
 pub mod PushRows
+pub mod CodePage
+pub mod OwnRows
 pub mod StepRows
 pub mod QueueRows
 pub mod DeliverRows

@@ -1,6 +1,6 @@
 -- Turns of modules' queues, as worked out by hand from the STREAMS Programming Guide, ldterm(7M) and termio(7I).
 use Rattle.strm_rows.proofs.Prelude.{ℕ, ◌≡◌, Bool, true, false, List, [], ◌∷◌, ◌++◌, map, refl, None, Some, Turn, Moved, Blocked, Idle, Turned, Open}
-use Rattle.strm_rows.proofs.Prelude.{Driver, QueueName, Master, Slave, Up, Down, new_book, plain, carried, Message, band_of, cells_of}
+use Rattle.strm_rows.proofs.Prelude.{Driver, QueueName, Master, Slave, Up, Down, new_book, plain, carried, Message, band_of, cells_of, no_own}
 use Rattle.strm_rows.proofs.Prelude.{data_message, is_high_priority, rank_of, size_of, driver_of, Flow, Queue, Standing, ldterm_stands, State, Stream}
 use Rattle.strm_rows.proofs.Prelude.{new_stream, TurnOutcome, turned, whole_turn, head_with, ordinary, fresh, module_named}
 use Rattle.strm_types.specs.declared.names.Place.TheVariants as places
@@ -58,12 +58,12 @@ seen t = record {
 }
 
 -- without a module of the name nothing is done
-pub no-module : module_turned plain writing (Moved 2) (pair (stacked (busy [] false) [] (busy [] false)))
+pub no-module : module_turned no_own plain writing (Moved 2) (pair (stacked (busy [] false) [] (busy [] false)))
     ≡ record { turn = Idle; state = pair (stacked (busy [] false) [] (busy [] false)); gone = [] }
 no-module = refl
 
 -- an empty queue wants to be read
-pub empty-queue : seen (module_turned plain writing (Moved 0) (pair (stacked (busy [] false) (module_with (busy [] false) (busy [] false) ∷ []) (busy [] false))))
+pub empty-queue : seen (module_turned no_own plain writing (Moved 0) (pair (stacked (busy [] false) (module_with (busy [] false) (busy [] false) ∷ []) (busy [] false))))
     ≡ record { turn = Idle; cells = [] ∷ [] ∷ [] ∷ [] ∷ []; waits = (false ∷ []) ∷ (false ∷ []) ∷ (false ∷ []) ∷ (false ∷ []) ∷ []; wants = false ∷ false ∷ true ∷ false ∷ []; enabled = []; made = 0 }
 unfolding cells_of
 empty-queue = refl
@@ -72,7 +72,7 @@ empty-queue = refl
 abbrev full : List (Message ℕ)
 full = ordinary (1 ∷ 2 ∷ 3 ∷ []) ∷ []
 
-pub full-below : seen (module_turned plain writing (Moved 2) (pair (stacked (busy [] false) (module_with (busy [] false) (busy (ordinary (7 ∷ 8 ∷ []) ∷ []) false) ∷ []) (busy full false))))
+pub full-below : seen (module_turned no_own plain writing (Moved 2) (pair (stacked (busy [] false) (module_with (busy [] false) (busy (ordinary (7 ∷ 8 ∷ []) ∷ []) false) ∷ []) (busy full false))))
     ≡ record {
       turn = Blocked;
       cells = [] ∷ [] ∷ ((7 ∷ 8 ∷ []) ∷ []) ∷ ((1 ∷ 2 ∷ 3 ∷ []) ∷ []) ∷ [];
@@ -85,7 +85,7 @@ unfolding cells_of band_of is_high_priority size_of
 full-below = refl
 
 -- so at the head for what goes up
-pub full-above : seen (module_turned plain reading (Moved 2) (pair (stacked (busy full false) (module_with (busy (ordinary (7 ∷ 8 ∷ []) ∷ []) false) (busy [] false) ∷ []) (busy [] false))))
+pub full-above : seen (module_turned no_own plain reading (Moved 2) (pair (stacked (busy full false) (module_with (busy (ordinary (7 ∷ 8 ∷ []) ∷ []) false) (busy [] false) ∷ []) (busy [] false))))
     ≡ record {
       turn = Blocked;
       cells = ((1 ∷ 2 ∷ 3 ∷ []) ∷ []) ∷ ((7 ∷ 8 ∷ []) ∷ []) ∷ [] ∷ [] ∷ [];
@@ -99,7 +99,7 @@ full-above = refl
 
 -- What goes down whole stands at the driver. A writer that waited at the queue is let go, but none stands before it; where more
 -- stands there, the queue is enabled again.
-pub goes-down : seen (module_turned plain writing (Moved 2) (pair (stacked (busy [] false) (module_with (busy [] false) (busy (ordinary (7 ∷ 8 ∷ []) ∷ ordinary (9 ∷ []) ∷ []) true) ∷ []) (busy [] false))))
+pub goes-down : seen (module_turned no_own plain writing (Moved 2) (pair (stacked (busy [] false) (module_with (busy [] false) (busy (ordinary (7 ∷ 8 ∷ []) ∷ ordinary (9 ∷ []) ∷ []) true) ∷ []) (busy [] false))))
     ≡ record {
       turn = Moved 2;
       cells = [] ∷ [] ∷ ((9 ∷ []) ∷ []) ∷ ((7 ∷ 8 ∷ []) ∷ []) ∷ [];
@@ -112,7 +112,7 @@ unfolding carried cells_of band_of is_high_priority size_of rank_of
 goes-down = refl
 
 -- An answer that says more than the message has isn't that of the turn.
-pub no-more-than-there-is : (module_turned plain writing (Moved 9) (pair (stacked (busy [] false) (module_with (busy [] false) (busy (ordinary (7 ∷ 8 ∷ []) ∷ []) false) ∷ []) (busy [] false)))).turn ≡ Moved 2
+pub no-more-than-there-is : (module_turned no_own plain writing (Moved 9) (pair (stacked (busy [] false) (module_with (busy [] false) (busy (ordinary (7 ∷ 8 ∷ []) ∷ []) false) ∷ []) (busy [] false)))).turn ≡ Moved 2
 unfolding carried cells_of band_of is_high_priority size_of rank_of
 no-more-than-there-is = refl
 
@@ -121,7 +121,7 @@ no-more-than-there-is = refl
 abbrev typed : State ℕ
 typed = pair (stacked (busy [] false) (module_with (busy (ordinary (97 ∷ 10 ∷ 98 ∷ []) ∷ []) true) (busy [] false) ∷ []) (busy [] false))
 
-pub lines-go-up : seen (module_turned plain reading (Moved 3) typed)
+pub lines-go-up : seen (module_turned no_own plain reading (Moved 3) typed)
     ≡ record {
       turn = Moved 3;
       cells = ((97 ∷ 10 ∷ []) ∷ []) ∷ [] ∷ ((97 ∷ 10 ∷ 98 ∷ []) ∷ []) ∷ [] ∷ [];
@@ -134,7 +134,7 @@ unfolding carried cells_of band_of is_high_priority size_of rank_of data_message
 lines-go-up = refl
 
 -- it stops within the message: what is left is put back, and the queue is enabled again
-pub stops-within : seen (module_turned plain reading (Moved 2) typed)
+pub stops-within : seen (module_turned no_own plain reading (Moved 2) typed)
     ≡ record {
       turn = Moved 2;
       cells = ((97 ∷ 10 ∷ []) ∷ []) ∷ ((98 ∷ []) ∷ []) ∷ ((97 ∷ 10 ∷ []) ∷ []) ∷ [] ∷ [];
@@ -147,17 +147,17 @@ unfolding carried cells_of band_of is_high_priority size_of rank_of data_message
 stops-within = refl
 
 -- It goes no further than to the message's end.
-pub goes-to-the-end : (module_turned plain reading (Moved 9) typed).turn ≡ Moved 3
+pub goes-to-the-end : (module_turned no_own plain reading (Moved 9) typed).turn ≡ Moved 3
 unfolding carried cells_of band_of is_high_priority size_of rank_of data_message
 goes-to-the-end = refl
 
 -- With too few calls the turn isn't at its end.
-pub too-few-calls : map (λ n. (calls plain (record { side = Slave; at = 1; way = Up }) n false 3 typed).ended) (0 ∷ 1 ∷ 2 ∷ []) ≡ false ∷ false ∷ true ∷ []
+pub too-few-calls : map (λ n. (calls no_own plain (record { side = Slave; at = 1; way = Up }) n false 3 typed).ended) (0 ∷ 1 ∷ 2 ∷ []) ≡ false ∷ false ∷ true ∷ []
 unfolding carried cells_of band_of is_high_priority size_of rank_of data_message
 too-few-calls = refl
 
 -- no turn begins in a module while one is under way
-pub under-way : (module_turned plain writing (Moved 1) (pair (stacked (busy [] false) (ldterm_stands (record fresh { read_queue = busy [] false; write_queue = busy (ordinary (7 ∷ []) ∷ []) false; in_work = Some (ordinary (1 ∷ [])) }) ∷ []) (busy [] false)))).turn ≡ Blocked
+pub under-way : (module_turned no_own plain writing (Moved 1) (pair (stacked (busy [] false) (ldterm_stands (record fresh { read_queue = busy [] false; write_queue = busy (ordinary (7 ∷ []) ∷ []) false; in_work = Some (ordinary (1 ∷ [])) }) ∷ []) (busy [] false)))).turn ≡ Blocked
 unfolding cells_of band_of is_high_priority size_of
 under-way = refl
 
@@ -174,7 +174,7 @@ names-found = refl
 
 -- a module without queues stands in no one's way: what it stands above is found, and the queue past it is asked for room
 abbrev above_one : Stream ℕ
-above_one = stacked (busy [] false) (module_named names.Ptem ∷ module_with (busy [] false) (busy full false) ∷ module_named names.Ptem ∷ []) (busy [] false)
+above_one = stacked (busy [] false) (module_named no_own names.Ptem ∷ module_with (busy [] false) (busy full false) ∷ module_named no_own names.Ptem ∷ []) (busy [] false)
 
 pub name-found-below : map (λ place. place_named place above_one.modules) (places.Module names.Ldterm ∷ Driver ∷ []) ≡ Some 2 ∷ None ∷ []
 name-found-below = refl
@@ -198,7 +198,7 @@ whole-of-none = refl
 abbrev typed_on : State ℕ
 typed_on = record typed { enabled = reading ∷ driver_of Slave ∷ [] }
 
-pub journal-turns-modules : seen (turned plain reading (Moved 3) typed_on)
+pub journal-turns-modules : seen (turned no_own plain reading (Moved 3) typed_on)
     ≡ record {
       turn = Moved 3;
       cells = ((97 ∷ 10 ∷ []) ∷ []) ∷ [] ∷ ((97 ∷ 10 ∷ 98 ∷ []) ∷ []) ∷ [] ∷ [];
@@ -211,16 +211,16 @@ unfolding carried cells_of band_of is_high_priority size_of rank_of data_message
 journal-turns-modules = refl
 
 -- the state behind its entry, which is a step with the answer that it stores and no other one
-pub entry-leads-behind-the-turn : map (λ bytes. map cells_of (after plain typed_on (Turned reading (Moved bytes))).ends.slave.head.queue.messages) (2 ∷ 0 ∷ [])
+pub entry-leads-behind-the-turn : map (λ bytes. map cells_of (after no_own plain typed_on (Turned reading (Moved bytes))).ends.slave.head.queue.messages) (2 ∷ 0 ∷ [])
     ≡ ((97 ∷ 10 ∷ []) ∷ []) ∷ [] ∷ []
 unfolding carried cells_of band_of is_high_priority size_of rank_of data_message
 entry-leads-behind-the-turn = refl
 
-pub entry-is-a-step : IsTurn plain typed_on reading (Moved 3) (after plain typed_on (Turned reading (Moved 3)))
+pub entry-is-a-step : IsTurn no_own plain typed_on reading (Moved 3) (after no_own plain typed_on (Turned reading (Moved 3)))
 unfolding carried cells_of band_of is_high_priority size_of rank_of data_message
 entry-is-a-step = record { enabled = refl; in_range = refl; answered = refl; leads = refl }
 
-pub idle-entry-is-no-step : IsTurn plain typed_on reading Idle (after plain typed_on (Turned reading Idle)) → ⊥
+pub idle-entry-is-no-step : IsTurn no_own plain typed_on reading Idle (after no_own plain typed_on (Turned reading Idle)) → ⊥
 unfolding carried cells_of band_of is_high_priority size_of rank_of data_message
 idle-entry-is-no-step = λ step. let answered = step.answered in (cc)
 

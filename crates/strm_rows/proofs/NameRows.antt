@@ -6,7 +6,7 @@ use Rattle.strm_types.specs.declared.names.ModuleName.TheVariants as names
 use Rattle.strm_types.specs.declared.names.Place.TheVariants as places
 use Rattle.strm_types.specs.declared.names.Place.{Place}
 use Rattle.strm_types.specs.declared.names.Place.TheVariants.{Head}
-use Rattle.strm_types.specs.Names.{other, is_master, direction_from, side_from, is_open, is_never, has_service, direction_of, is_enabled, enable, enable_if, enable_some, without, times}
+use Rattle.strm_types.specs.Names.{other, is_master, direction_from, side_from, is_open, is_never, has_service, direction_of, is_enabled, enable, enable_if, enable_some, have_queues, same_module, without, times}
 
 pub refusals-have-numbers : map number_of (Einval ∷ Eagain ∷ Enxio ∷ Ebadmsg ∷ Enosr ∷ Erange ∷ JournalFull ∷ NoMinor ∷ NoMemory ∷ StillShared ∷ Eio ∷ []) ≡ 1 ∷ 2 ∷ 3 ∷ 4 ∷ 5 ∷ 6 ∷ 7 ∷ 8 ∷ 9 ∷ 10 ∷ 11 ∷ []
 refusals-have-numbers = refl
@@ -41,6 +41,14 @@ never-open = refl
 
 pub names-of-drivers-and-heads : driver_of Slave ∷ head_of Slave ∷ [] ≡ named Slave Driver Down ∷ named Slave Head Up ∷ []
 names-of-drivers-and-heads = refl
+
+-- modules of a user's own are told apart by their numbers, and have no queues
+pub own-numbers : map (λ name. same_module (names.Own 7) name) (names.Own 7 ∷ names.Own 8 ∷ names.Ldterm ∷ names.Pckt ∷ [])
+    ≡ true ∷ false ∷ false ∷ false ∷ []
+own-numbers = refl
+
+pub own-has-no-queues : map have_queues (names.Own 0 ∷ names.Own 255 ∷ names.Ldterm ∷ []) ≡ false ∷ false ∷ true ∷ []
+own-has-no-queues = refl
 
 -- each name is itself alone
 pub names-are-apart : map (λ name. times name all_names) all_names ≡ replicate 12 1

@@ -1,7 +1,7 @@
 -- What pckt does with what is put at it, as worked out by hand from pckt(7M) and sys/stream.h.
 use Rattle.strm_rows.proofs.Prelude.{ℕ, ◌≡◌, true, false, List, [], ◌∷◌, ◌++◌, map, refl, replicate, Option, None, Some, Data, Proto, Sig, Ctl, Ioctl}
 use Rattle.strm_rows.proofs.Prelude.{Setopts, Iocack, Iocnak, Pcproto, Pcsig, Read, Flush, Stop, Start, Hangup, Error, MasterToSlave, SlaveToMaster}
-use Rattle.strm_rows.proofs.Prelude.{Master, Slave, Way, Up, Down, Spot, Tagged, Base, Made, Written, plain, tagged, Acted, Comes, Parcel}
+use Rattle.strm_rows.proofs.Prelude.{Master, Slave, Way, Up, Down, Spot, Tagged, Base, Made, Written, plain, tagged, Acted, Comes, Parcel, no_own}
 use Rattle.strm_rows.proofs.Prelude.{kind_number, Message, band_of, cells_of, is_high_priority, put_in, State, new_stream, opening, with_book}
 use Rattle.strm_rows.proofs.Prelude.{with_stream, module_named, header, ordinary, proto, urgent, without_parts}
 use Rattle.strm_types.specs.declared.names.ModuleName.TheVariants as names
@@ -174,7 +174,7 @@ stop-is-one-byte = refl
 -- In a pair what is made is numbered from what was made before in the direction of what goes up, and booked there.
 
 abbrev below_pckt : ℕ → State Tagged
-below_pckt made = with_book SlaveToMaster (record { written = 5; made = 60 }) (with_book MasterToSlave (record { written = 3; made = made }) (with_stream Slave (record new_stream { modules = module_named names.Pckt ∷ [] }) opening))
+below_pckt made = with_book SlaveToMaster (record { written = 5; made = 60 }) (with_book MasterToSlave (record { written = 3; made = made }) (with_stream Slave (record new_stream { modules = module_named no_own names.Pckt ∷ [] }) opening))
 
 abbrev made_before : ℕ → ℕ → Tagged
 made_before n b = record { byte = b; origin = Made MasterToSlave n }
@@ -182,7 +182,7 @@ made_before n b = record { byte = b; origin = Made MasterToSlave n }
 abbrev stops : Message Tagged
 stops = record { kind = Stop; band = 0; control = None; body = None; plain = [] }
 
-pub packet-is-booked : put_in tagged (record { side = Slave; at = 1; way = Up }) stops (below_pckt 40)
+pub packet-is-booked : put_in no_own tagged (record { side = Slave; at = 1; way = Up }) stops (below_pckt 40)
     ≡ record {
       state = below_pckt 41;
       sent = record { to = record { side = Slave; at = 0; way = Up }; message = packet_of 0 (made_before 40 135) None } ∷ [];

@@ -1,6 +1,7 @@
 -- The words of std, and the lemmas of crates below, that several proofs name, passed on from one place. Declares nothing.
 pub use Rattle.std.proofs.Common.{Bool, List, [], false, if◌then◌else◌, length, map, refl, replicate, suc, take, true, ℕ, ◌++◌, ◌-◌, ◌∷◌, ◌≡◌}
 pub use Rattle.std.specs.Prelude.{None, Option, Some, filter, ◌==◌}
+pub use Rattle.strm_laws.proofs.NoOwn.{none as no_own}
 pub use Rattle.strm_laws.proofs.Samples.{flow, fresh, head_with, header, options, ordinary, proto, queue, urgent, without_parts}
 pub use Rattle.strm_laws.specs.Calls.{called}
 pub use Rattle.strm_laws.specs.Closes.{closed_at}

@@ -1,5 +1,5 @@
 -- Pushes, pops and closes of streams with modules, worked out by hand (streamio(7I): I_PUSH, I_POP, I_LOOK; ldterm(7M); close(2)).
-use Rattle.strm_rows.proofs.Prelude.{ℕ, ◌≡◌, true, false, List, [], ◌∷◌, map, refl, replicate, None, Some, Option, Done, Name, ByteStream}
+use Rattle.strm_rows.proofs.Prelude.{ℕ, ◌≡◌, true, false, List, [], ◌∷◌, map, refl, replicate, None, Some, Option, Done, Name, ByteStream, no_own}
 use Rattle.strm_rows.proofs.Prelude.{MessageDiscard, MessageKeep, Open, Closed, QueueName, Master, Slave, Up, Down, MasterToSlave}
 use Rattle.strm_rows.proofs.Prelude.{SlaveToMaster, EndClosed, ModulePopped, new_book, closed_at, Carried, Goes, carried, Message, cells_of, size_of}
 use Rattle.strm_rows.proofs.Prelude.{is_held, band_of, is_high_priority, driver_of, module_named, Flow, at_end, Standing, module_line, module_name}
@@ -50,48 +50,50 @@ abbrev writes : QueueName
 writes = record { side = Slave; place = places.Module names.Ldterm; way = Down }
 
 -- the module that is pushed stands on top, and the head reads messages from now on
-pub push-stands-on-top : map module_line (pushed Slave (module_named names.Ldterm) (pair [] (holding [] [] [] (9 ∷ []) ∷ []) [])).state.ends.slave.modules ≡ [] ∷ (9 ∷ []) ∷ []
+pub push-stands-on-top : map module_line (pushed Slave (module_named no_own names.Ldterm) (pair [] (holding [] [] [] (9 ∷ []) ∷ []) [])).state.ends.slave.modules ≡ [] ∷ (9 ∷ []) ∷ []
 unfolding carried cells_of size_of
 push-stands-on-top = refl
 
-pub push-sets-the-mode : (pushed Slave (module_named names.Ldterm) (pair [] [] [])).state.ends.slave.head.read_mode ≡ MessageKeep
+pub push-sets-the-mode : (pushed Slave (module_named no_own names.Ldterm) (pair [] [] [])).state.ends.slave.head.read_mode ≡ MessageKeep
 unfolding carried cells_of size_of
 push-sets-the-mode = refl
 
-pub push-lets-nothing-go : (pushed Slave (module_named names.Ldterm) (pair (one 7) [] [])).gone ≡ []
+pub push-lets-nothing-go : (pushed Slave (module_named no_own names.Ldterm) (pair (one 7) [] [])).gone ≡ []
 unfolding carried cells_of size_of
 push-lets-nothing-go = refl
 
 -- what waits on the other side's driver may come, where anything waits there; and nothing where it is the master's stream that grows
-pub push-lets-come : map (λ waits. (pushed Slave (module_named names.Ldterm) (pair waits [] [])).state.enabled) ([] ∷ one 7 ∷ []) ≡ [] ∷ (driver_of Master ∷ []) ∷ []
+pub push-lets-come : map (λ waits. (pushed Slave (module_named no_own names.Ldterm) (pair waits [] [])).state.enabled) ([] ∷ one 7 ∷ []) ≡ [] ∷ (driver_of Master ∷ []) ∷ []
 unfolding carried cells_of size_of
 push-lets-come = refl
 
-pub push-on-the-other-side : (pushed Master (module_named names.Ldterm) (pair (one 7) [] [])).state.enabled ≡ driver_of Slave ∷ []
+pub push-on-the-other-side : (pushed Master (module_named no_own names.Ldterm) (pair (one 7) [] [])).state.enabled ≡ driver_of Slave ∷ []
 unfolding carried cells_of size_of
 push-on-the-other-side = refl
 
 -- a module below with messages is let come before the driver
-pub push-above-a-module : (pushed Slave (module_named names.Ldterm) (pair (one 7) (holding (one 3) [] [] [] ∷ []) [])).state.enabled ≡ reads ∷ []
+pub push-above-a-module : (pushed Slave (module_named no_own names.Ldterm) (pair (one 7) (holding (one 3) [] [] [] ∷ []) [])).state.enabled
+    ≡ reads ∷ []
 unfolding carried cells_of size_of
 push-above-a-module = refl
 
-pub push-by-name : map (λ name. map module_line (pushed_named Slave (named_by name) (pair [] [] [])).state.ends.slave.modules)
+pub push-by-name : map (λ name. map module_line (pushed_named Slave (named_by no_own name) (pair [] [] [])).state.ends.slave.modules)
     (None ∷ Some names.Ldterm ∷ Some names.Ptem ∷ Some names.Pckt ∷ []) ≡ [] ∷ ([] ∷ []) ∷ ([] ∷ []) ∷ ([] ∷ []) ∷ []
 unfolding carried cells_of size_of
 push-by-name = refl
 
 -- one of a name stands once, beside others
-pub stands-once : map (λ ps. may_stand {C = ℕ} (named_by (Some names.Ldterm)) ps) ([] ∷ (module_named names.Ldterm ∷ []) ∷ []) ≡ true ∷ false ∷ []
+pub stands-once : map (λ ps. may_stand {C = ℕ} (named_by no_own (Some names.Ldterm)) ps) ([] ∷ (module_named no_own names.Ldterm ∷ []) ∷ [])
+    ≡ true ∷ false ∷ []
 stands-once = refl
 
-pub others-may-stand : map (λ name. map (λ ps. may_stand {C = ℕ} (named_by (Some name)) ps) ((module_named names.Ldterm ∷ []) ∷ (module_named names.Ptem ∷ []) ∷ (module_named names.Pckt ∷ []) ∷ []))
+pub others-may-stand : map (λ name. map (λ ps. may_stand {C = ℕ} (named_by no_own (Some name)) ps) ((module_named no_own names.Ldterm ∷ []) ∷ (module_named no_own names.Ptem ∷ []) ∷ (module_named no_own names.Pckt ∷ []) ∷ []))
     (names.Ldterm ∷ names.Ptem ∷ names.Pckt ∷ []) ≡ (false ∷ true ∷ true ∷ []) ∷ (true ∷ false ∷ true ∷ []) ∷ (true ∷ true ∷ false ∷ []) ∷ []
 others-may-stand = refl
 
 -- a ptem is pushed as it is made, tells the head nothing and lets nothing come; its pop takes nothing with it
 abbrev with_ptem : Carried ℕ (State ℕ)
-with_ptem = pushed_named Slave (named_by (Some names.Ptem)) (pair (one 7) (holding (one 3) [] (one 4) (5 ∷ []) ∷ []) [])
+with_ptem = pushed_named Slave (named_by no_own (Some names.Ptem)) (pair (one 7) (holding (one 3) [] (one 4) (5 ∷ []) ∷ []) [])
 
 pub ptem-stands-on-top : map module_name with_ptem.state.ends.slave.modules ≡ names.Ptem ∷ names.Ldterm ∷ []
 ptem-stands-on-top = refl
@@ -125,7 +127,7 @@ unfolding carried cells_of size_of
 popped-queues-have-no-turn = refl
 
 abbrev head_popped : heads.Head ℕ
-head_popped = (popped Slave (with_stream Slave (record (end [] (module_named names.Ldterm ∷ []) []) { head = record (head_with (queue [] []) false) { read_mode = MessageKeep; tostop = true } }) (pair [] (module_named names.Ldterm ∷ []) []))).state.ends.slave.head
+head_popped = (popped Slave (with_stream Slave (record (end [] (module_named no_own names.Ldterm ∷ []) []) { head = record (head_with (queue [] []) false) { read_mode = MessageKeep; tostop = true } }) (pair [] (module_named no_own names.Ldterm ∷ []) []))).state.ends.slave.head
 
 pub pop-sets-the-mode : head_popped ≡ head_with (queue [] []) false
 unfolding carried cells_of size_of
@@ -168,7 +170,7 @@ unfolding carried cells_of size_of
 other-slots-stay = refl
 
 -- what stands on the read queue, on a module below or on the other side is another matter
-pub only-below-the-top : map (λ ps. slot_of (popped Slave (let s = waiting (Waiting 7 TCSETSW) [] in (with_stream Slave (record s.ends.slave { modules = ps }) s)))) ((holding (asked 7 ∷ []) [] [] [] ∷ []) ∷ (module_named names.Ptem ∷ holding [] [] (asked 7 ∷ []) [] ∷ []) ∷ [] ∷ []) ≡ Waiting 7 TCSETSW ∷ Waiting 7 TCSETSW ∷ Waiting 7 TCSETSW ∷ []
+pub only-below-the-top : map (λ ps. slot_of (popped Slave (let s = waiting (Waiting 7 TCSETSW) [] in (with_stream Slave (record s.ends.slave { modules = ps }) s)))) ((holding (asked 7 ∷ []) [] [] [] ∷ []) ∷ (module_named no_own names.Ptem ∷ holding [] [] (asked 7 ∷ []) [] ∷ []) ∷ [] ∷ []) ≡ Waiting 7 TCSETSW ∷ Waiting 7 TCSETSW ∷ Waiting 7 TCSETSW ∷ []
 unfolding carried cells_of size_of
 only-below-the-top = refl
 
@@ -176,7 +178,7 @@ pub only-on-its-side : slot_of (popped Master (waiting (Waiting 7 TCSETSW) (aske
 unfolding carried cells_of size_of
 only-on-its-side = refl
 
-pub look-names-the-top : map (λ ps. name_told (top_on Slave (pair [] ps []))) ([] ∷ (module_named names.Ldterm ∷ []) ∷ (module_named names.Ptem ∷ module_named names.Ldterm ∷ []) ∷ []) ≡ Done ∷ Name names.Ldterm ∷ Name names.Ptem ∷ []
+pub look-names-the-top : map (λ ps. name_told (top_on Slave (pair [] ps []))) ([] ∷ (module_named no_own names.Ldterm ∷ []) ∷ (module_named no_own names.Ptem ∷ module_named no_own names.Ldterm ∷ []) ∷ []) ≡ Done ∷ Name names.Ldterm ∷ Name names.Ptem ∷ []
 look-names-the-top = refl
 
 -- A close takes the head's messages, then each module's from the top; the slave's driver keeps what it has.

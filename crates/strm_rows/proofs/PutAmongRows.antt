@@ -1,6 +1,6 @@
 -- What puts at the modules of a pair's streams compute, and the nearest earlier queues there, as worked out by hand.
 use Rattle.strm_rows.proofs.Prelude.{ℕ, ◌≡◌, ◌∷◌, List, [], map, refl, true, false, None, Some, MasterToSlave, SlaveToMaster, Open, QueueName, Side}
-use Rattle.strm_rows.proofs.Prelude.{Master, Slave, Way, Up, Down, Flushed, Spot, plain, new_book, Fate, Goes, Parcel, Took, is_data_kind}
+use Rattle.strm_rows.proofs.Prelude.{Master, Slave, Way, Up, Down, Flushed, Spot, plain, new_book, Fate, Goes, Parcel, Took, is_data_kind, no_own}
 use Rattle.strm_rows.proofs.Prelude.{flush_message, Message, band_of, cells_of, is_high_priority, rank_of, size_of, driver_of, put_in, Flow, Standing}
 use Rattle.strm_rows.proofs.Prelude.{ldterm_stands, State, Stream, flow, head_with, header, ordinary, queue, without_parts, fresh}
 use Rattle.strm_types.specs.declared.names.ModuleName.TheVariants as names
@@ -96,23 +96,23 @@ abbrev with_enabled : List QueueName → List (Standing ℕ) → State ℕ
 with_enabled names modules = record (with_slave modules) { enabled = names }
 
 -- M_DATA waits on the queue of its way at the module of its place, which is enabled
-pub data-goes-down-to-the-first : put_in plain (spot Slave 1 Down) (ordinary (7 ∷ [])) (with_slave (bare ∷ bare ∷ []))
+pub data-goes-down-to-the-first : put_in no_own plain (spot Slave 1 Down) (ordinary (7 ∷ [])) (with_slave (bare ∷ bare ∷ []))
     ≡ took (with_enabled (ldterm Slave Down ∷ []) (with_these [] (one 7) ∷ bare ∷ [])) [] []
 unfolding rank_of is_high_priority band_of
 data-goes-down-to-the-first = refl
 
-pub data-goes-up-to-the-lowest : map (λ ms. put_in plain (spot Slave 2 Up) (ordinary (7 ∷ [])) (with_slave ms)) ((bare ∷ bare ∷ []) ∷ (bare ∷ []) ∷ [])
+pub data-goes-up-to-the-lowest : map (λ ms. put_in no_own plain (spot Slave 2 Up) (ordinary (7 ∷ [])) (with_slave ms)) ((bare ∷ bare ∷ []) ∷ (bare ∷ []) ∷ [])
     ≡ took (with_enabled (ldterm Slave Up ∷ []) (bare ∷ with_these (one 7) [] ∷ [])) [] []
     ∷ took (with_slave (bare ∷ [])) (parcel Slave 1 Up (ordinary (7 ∷ [])) ∷ []) [] ∷ []
 unfolding rank_of is_high_priority band_of
 data-goes-up-to-the-lowest = refl
 
 -- behind the modules, on the way up, it goes on to the lowest one; on the way down the driver takes it
-pub passed-to-the-lowest : map (λ s. (put_in plain (spot Slave 4 Up) (ordinary (7 ∷ [])) s).sent) stacks
+pub passed-to-the-lowest : map (λ s. (put_in no_own plain (spot Slave 4 Up) (ordinary (7 ∷ [])) s).sent) stacks
     ≡ (parcel Slave 0 Up (ordinary (7 ∷ [])) ∷ []) ∷ (parcel Slave 1 Up (ordinary (7 ∷ [])) ∷ []) ∷ (parcel Slave 2 Up (ordinary (7 ∷ [])) ∷ []) ∷ []
 passed-to-the-lowest = refl
 
-pub driver-takes-behind-them : put_in plain (spot Slave 2 Down) (ordinary (7 ∷ [])) (with_slave (bare ∷ []))
+pub driver-takes-behind-them : put_in no_own plain (spot Slave 2 Down) (ordinary (7 ∷ [])) (with_slave (bare ∷ []))
     ≡ took (pair (end [] [] []) (end [] (bare ∷ []) (one 7)) (driver_of Slave ∷ [])) [] []
 unfolding rank_of is_high_priority band_of
 driver-takes-behind-them = refl
@@ -121,24 +121,24 @@ driver-takes-behind-them = refl
 abbrev asks : Message ℕ
 asks = without_parts kinds.Ioctl (header 5 7 0)
 
-pub ioctl-passes : map (λ to. put_in plain to asks (with_slave (bare ∷ bare ∷ []))) (spot Slave 1 Down ∷ spot Slave 2 Down ∷ spot Slave 2 Up ∷ spot Slave 1 Up ∷ [])
+pub ioctl-passes : map (λ to. put_in no_own plain to asks (with_slave (bare ∷ bare ∷ []))) (spot Slave 1 Down ∷ spot Slave 2 Down ∷ spot Slave 2 Up ∷ spot Slave 1 Up ∷ [])
     ≡ took (with_slave (bare ∷ bare ∷ [])) (parcel Slave 2 Down asks ∷ []) [] ∷ took (with_slave (bare ∷ bare ∷ [])) (parcel Slave 3 Down asks ∷ []) []
     ∷ took (with_slave (bare ∷ bare ∷ [])) (parcel Slave 1 Up asks ∷ []) [] ∷ took (with_slave (bare ∷ bare ∷ [])) (parcel Slave 0 Up asks ∷ []) [] ∷ []
 ioctl-passes = refl
 
 -- the driver answers from its place behind them
-pub driver-answers-to-the-lowest : map (λ (t : Took ℕ (State ℕ)). map (λ (p : Parcel ℕ). p.to) t.sent) (put_in plain (spot Slave 1 Down) asks (with_slave []) ∷ put_in plain (spot Slave 3 Down) asks (with_slave (bare ∷ bare ∷ [])) ∷ [])
+pub driver-answers-to-the-lowest : map (λ (t : Took ℕ (State ℕ)). map (λ (p : Parcel ℕ). p.to) t.sent) (put_in no_own plain (spot Slave 1 Down) asks (with_slave []) ∷ put_in no_own plain (spot Slave 3 Down) asks (with_slave (bare ∷ bare ∷ [])) ∷ [])
     ≡ (spot Slave 0 Up ∷ []) ∷ (spot Slave 2 Up ∷ []) ∷ []
 driver-answers-to-the-lowest = refl
 
 -- M_FLUSH: what waits at the module of the place goes, and the message goes on
-pub flush-at-the-second : put_in plain (spot Slave 2 Up) (flush_message (1 ∷ [])) (with_slave (with_these (one 1) (one 2) ∷ with_these (one 3) (one 4) ∷ []))
+pub flush-at-the-second : put_in no_own plain (spot Slave 2 Up) (flush_message (1 ∷ [])) (with_slave (with_these (one 1) (one 2) ∷ with_these (one 3) (one 4) ∷ []))
     ≡ took (with_slave (with_these (one 1) (one 2) ∷ with_these [] (one 4) ∷ [])) (parcel Slave 1 Up (flush_message (1 ∷ [])) ∷ [])
     (Goes MasterToSlave Flushed (3 ∷ []) ∷ [])
 unfolding is_data_kind cells_of size_of
 flush-at-the-second = refl
 
-pub flush-at-the-first : put_in plain (spot Slave 1 Down) (flush_message (2 ∷ [])) (with_slave (with_these (one 1) (one 2) ∷ with_these (one 3) (one 4) ∷ []))
+pub flush-at-the-first : put_in no_own plain (spot Slave 1 Down) (flush_message (2 ∷ [])) (with_slave (with_these (one 1) (one 2) ∷ with_these (one 3) (one 4) ∷ []))
     ≡ took (with_slave (with_these (one 1) [] ∷ with_these (one 3) (one 4) ∷ [])) (parcel Slave 2 Down (flush_message (2 ∷ [])) ∷ [])
     (Goes SlaveToMaster Flushed (2 ∷ []) ∷ [])
 unfolding is_data_kind cells_of size_of
@@ -148,7 +148,7 @@ flush-at-the-first = refl
 abbrev waited_for : Standing ℕ
 waited_for = holding (flow 9 1 true ∷ []) (one 1) []
 
-pub room-enables-the-one-before : map (λ (p : Parcel ℕ). (put_in plain p.to p.message (with_slave (waited_for ∷ waited_for ∷ []))).state.enabled) (parcel Slave 1 Up (flush_message (1 ∷ [])) ∷ parcel Slave 2 Up (flush_message (1 ∷ [])) ∷ [])
+pub room-enables-the-one-before : map (λ (p : Parcel ℕ). (put_in no_own plain p.to p.message (with_slave (waited_for ∷ waited_for ∷ []))).state.enabled) (parcel Slave 1 Up (flush_message (1 ∷ [])) ∷ parcel Slave 2 Up (flush_message (1 ∷ [])) ∷ [])
     ≡ (ldterm Slave Up ∷ []) ∷ (driver_of Master ∷ []) ∷ []
 unfolding is_data_kind cells_of size_of band_of is_high_priority
 room-enables-the-one-before = refl

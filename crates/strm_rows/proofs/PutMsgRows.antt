@@ -1,5 +1,6 @@
 -- What putmsg(2) and putpmsg(2) send and are refused for, as worked out by hand from the manual pages.
 use Rattle.strm_rows.proofs.Prelude.{ℕ, ◌≡◌, Bool, true, false, List, [], ◌∷◌, map, refl, replicate, Option, None, Some, Done, Book, Called, Caller}
+use Rattle.strm_rows.proofs.Prelude.{no_own}
 use Rattle.strm_rows.proofs.Prelude.{Put, Get, Mode, Nread, MsgKind, Data, Proto, Pcproto, Discard, Prio, Any, SlaveToMaster, Openness, Never, Open}
 use Rattle.strm_rows.proofs.Prelude.{Closed, QueueName, Side, Master, Slave, Refusal, Einval, Eagain, Enxio, Erange, new_book, Request, payload_of}
 use Rattle.strm_rows.proofs.Prelude.{called, Tagged, plain, tagged, cells_written, carried, Goes, caller_of, content_max, entries_in, room_of, came}
@@ -76,27 +77,27 @@ full = pair (end Open false (queue (ordinary (7 ∷ 8 ∷ []) ∷ []) marks)) (e
 -- band 0 has to wait; another band, high priority, and what isn't sent have not
 
 abbrev waits : Request → Option Refusal
-waits asked = refused_by_state full (caller Master) asked
+waits asked = refused_by_state no_own full (caller Master) asked
 
 pub put-waits-for-its-band : map waits (Put (banded 0) None (Some (97 ∷ [])) ∷ Put (banded 0) (Some []) None ∷ Put (banded 1) None (Some (97 ∷ [])) ∷ Put High (Some (97 ∷ [])) None ∷ Put (banded 0) None None ∷ []) ≡ Some Eagain ∷ Some Eagain ∷ None ∷ None ∷ None ∷ []
 unfolding band_of size_of cells_of is_high_priority
 put-waits-for-its-band = refl
 
 -- not one byte below the mark, nor on the other side
-pub put-waits-at-the-mark : refused_by_state full (caller Slave) (Put (banded 0) None (Some (97 ∷ []))) ∷ refused_by_state (pair (end Open false (queue (ordinary (7 ∷ []) ∷ []) marks)) (end Open false (queue [] [])) new_book []) (caller Master) (Put (banded 0) None (Some (97 ∷ []))) ∷ [] ≡ None ∷ None ∷ []
+pub put-waits-at-the-mark : refused_by_state no_own full (caller Slave) (Put (banded 0) None (Some (97 ∷ []))) ∷ refused_by_state no_own (pair (end Open false (queue (ordinary (7 ∷ []) ∷ []) marks)) (end Open false (queue [] [])) new_book []) (caller Master) (Put (banded 0) None (Some (97 ∷ []))) ∷ [] ≡ None ∷ None ∷ []
 unfolding band_of size_of cells_of is_high_priority
 put-waits-at-the-mark = refl
 
 -- what is sent goes to the driver, which is enabled, and is booked as written
 
-pub put-goes-to-the-driver : called plain (caller Master) (Put (banded 1) (Some (97 ∷ 98 ∷ [])) (Some (99 ∷ []))) full
+pub put-goes-to-the-driver : called no_own plain (caller Master) (Put (banded 1) (Some (97 ∷ 98 ∷ [])) (Some (99 ∷ []))) full
     ≡ record { answer = Done; state = pair (end Open false (queue (message Proto 1 (Some (97 ∷ 98 ∷ [])) (Some (99 ∷ [])) ∷ ordinary (7 ∷ 8 ∷ []) ∷ []) marks)) (end Open false (queue [] [])) (record { written = 3; made = 0 }) (driver_of Master ∷ []); came = 97 ∷ 98 ∷ 99 ∷ []; gone = [] }
 unfolding cells_of carried rank_of band_of is_high_priority
 put-goes-to-the-driver = refl
 
 -- the control part is written first, behind what was written before
 abbrev put_twice : State Tagged
-put_twice = (called tagged (caller Slave) (Put High (Some (97 ∷ [])) (Some (98 ∷ 99 ∷ []))) (called tagged (caller Slave) (Put (banded 0) None (Some (100 ∷ []))) opening).state).state
+put_twice = (called no_own tagged (caller Slave) (Put High (Some (97 ∷ [])) (Some (98 ∷ 99 ∷ []))) (called no_own tagged (caller Slave) (Put (banded 0) None (Some (100 ∷ []))) opening).state).state
 
 pub control-is-written-before-data : map cells_of put_twice.ends.slave.driver.queue.messages ≡ cells_written tagged SlaveToMaster 1 (97 ∷ 98 ∷ 99 ∷ []) ∷ cells_written tagged SlaveToMaster 0 (100 ∷ []) ∷ []
 unfolding carried rank_of band_of cells_of is_high_priority
@@ -107,12 +108,13 @@ unfolding carried rank_of band_of cells_of is_high_priority
 puts-are-booked = refl
 
 -- neither part: nothing is sent
-pub put-of-nothing : called plain (caller Master) (Put (banded 0) None None) full ≡ record { answer = Done; state = full; came = []; gone = [] }
+pub put-of-nothing : called no_own plain (caller Master) (Put (banded 0) None None) full
+    ≡ record { answer = Done; state = full; came = []; gone = [] }
 unfolding cells_of
 put-of-nothing = refl
 
 -- two empty parts: a zero-length message
-pub put-of-empty-parts : (called plain (caller Slave) (Put (banded 0) (Some []) (Some [])) full).state.ends.slave.driver.queue.messages ≡ message Proto 0 (Some []) (Some []) ∷ []
+pub put-of-empty-parts : (called no_own plain (caller Slave) (Put (banded 0) (Some []) (Some [])) full).state.ends.slave.driver.queue.messages ≡ message Proto 0 (Some []) (Some []) ∷ []
 unfolding carried rank_of band_of is_high_priority
 put-of-empty-parts = refl
 
@@ -120,11 +122,11 @@ put-of-empty-parts = refl
 abbrev deserted : State ℕ
 deserted = pair (end Closed false (queue [] [])) (end Open false (queue [] [])) new_book []
 
-pub put-brings-its-bytes : came plain deserted (Called (caller Slave) (Put (banded 0) (Some (97 ∷ [])) (Some (98 ∷ []))) Done) ∷ came plain deserted (Called (caller Slave) (Put (banded 0) None None) Done) ∷ [] ≡ (97 ∷ 98 ∷ []) ∷ [] ∷ []
+pub put-brings-its-bytes : came no_own plain deserted (Called (caller Slave) (Put (banded 0) (Some (97 ∷ [])) (Some (98 ∷ []))) Done) ∷ came no_own plain deserted (Called (caller Slave) (Put (banded 0) None None) Done) ∷ [] ≡ (97 ∷ 98 ∷ []) ∷ [] ∷ []
 unfolding cells_of
 put-brings-its-bytes = refl
 
-pub put-to-nobody-goes : gone plain deserted (Called (caller Slave) (Put (banded 0) (Some (97 ∷ [])) (Some (98 ∷ []))) Done) ≡ Goes SlaveToMaster rules.EndClosed (97 ∷ 98 ∷ []) ∷ []
+pub put-to-nobody-goes : gone no_own plain deserted (Called (caller Slave) (Put (banded 0) (Some (97 ∷ [])) (Some (98 ∷ []))) Done) ≡ Goes SlaveToMaster rules.EndClosed (97 ∷ 98 ∷ []) ∷ []
 unfolding carried cells_of
 put-to-nobody-goes = refl
 

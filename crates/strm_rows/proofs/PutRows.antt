@@ -1,7 +1,7 @@
 -- What puts at a head and in a pair compute, case by case, as worked out by hand from the manual pages.
 use Rattle.strm_rows.proofs.Prelude.{ℕ, ◌≡◌, Bool, true, false, List, [], ◌∷◌, map, refl, Option, None, Some, Moved, Both, FlushAsked, Band, MsgKind}
 use Rattle.strm_rows.proofs.Prelude.{Dir, MasterToSlave, SlaveToMaster, Openness, Never, Open, Closed, QueueName, Side, Master, Slave, Way, Up, Down}
-use Rattle.strm_rows.proofs.Prelude.{Rule, Room, Spot, plain, new_book, Acted, Fate, Goes, Parcel, Took, carried, is_data_kind, flush_message}
+use Rattle.strm_rows.proofs.Prelude.{Rule, Room, Spot, plain, new_book, Acted, Fate, Goes, Parcel, Took, carried, is_data_kind, flush_message, no_own}
 use Rattle.strm_rows.proofs.Prelude.{head_put, Head, Message, band_of, cells_of, is_held, is_high_priority, rank_of, size_of, driver_of, delivered}
 use Rattle.strm_rows.proofs.Prelude.{put_in, State, Stream, driver_serves, flow, head_with, ordinary, proto, queue, urgent}
 use Rattle.strm_types.specs.declared.events.FlushQueues.TheVariants.{Read, Write}
@@ -128,7 +128,7 @@ abbrev took : State ℕ → List (Parcel ℕ) → List (Fate ℕ) → Took ℕ (
 took s sent gone = record { state = s; sent = sent; gone = gone }
 
 -- at the head of a side that isn't open nobody reads
-pub nobody-reads-there : map (λ slave. put_in plain here (ordinary (7 ∷ [])) (ones slave)) (Open ∷ Never ∷ Closed ∷ [])
+pub nobody-reads-there : map (λ slave. put_in no_own plain here (ordinary (7 ∷ [])) (ones slave)) (Open ∷ Never ∷ Closed ∷ [])
     ≡ took (pair (end Open (one 1) (one 2)) (end Open (ordinary (3 ∷ []) ∷ one 7) (one 4)) []) [] []
     ∷ took (ones Never) [] (fate rules.EndClosed MasterToSlave (7 ∷ []) ∷ [])
     ∷ took (ones Closed) [] (fate rules.EndClosed MasterToSlave (7 ∷ []) ∷ []) ∷ []
@@ -136,40 +136,40 @@ unfolding rank_of is_high_priority cells_of
 nobody-reads-there = refl
 
 -- where nothing stands what comes up goes on to the head: data also at the driver's place, an M_FLUSH below that alone
-pub nothing-stands-there : map (λ (p : Parcel ℕ). put_in plain p.to p.message (ones Open)) (record { to = spot Slave 2 Up; message = ordinary (7 ∷ []) } ∷ record { to = spot Slave 4 Up; message = ordinary (7 ∷ []) } ∷ record { to = spot Slave 3 Up; message = flush_message (1 ∷ []) } ∷ [])
+pub nothing-stands-there : map (λ (p : Parcel ℕ). put_in no_own plain p.to p.message (ones Open)) (record { to = spot Slave 2 Up; message = ordinary (7 ∷ []) } ∷ record { to = spot Slave 4 Up; message = ordinary (7 ∷ []) } ∷ record { to = spot Slave 3 Up; message = flush_message (1 ∷ []) } ∷ [])
     ≡ took (ones Open) (record { to = here; message = ordinary (7 ∷ []) } ∷ []) [] ∷ took (ones Open) (record { to = here; message = ordinary (7 ∷ []) } ∷ []) [] ∷ took (ones Open) (record { to = here; message = flush_message (1 ∷ []) } ∷ []) [] ∷ []
 nothing-stands-there = refl
 
 -- an M_FLUSH that comes across is for the driver's queue, and for the readers of the side that sent it, if that is open
-pub flush-comes-across : put_in plain (spot Slave 4 Up) (flush_message (1 ∷ [])) (ones Open) ≡ took (pair (end Open (one 1) (one 2)) (end Open (one 3) []) []) (record { to = spot Master 0 Up; message = flush_message (1 ∷ []) } ∷ []) (fate rules.Flushed SlaveToMaster (4 ∷ []) ∷ [])
+pub flush-comes-across : put_in no_own plain (spot Slave 4 Up) (flush_message (1 ∷ [])) (ones Open) ≡ took (pair (end Open (one 1) (one 2)) (end Open (one 3) []) []) (record { to = spot Master 0 Up; message = flush_message (1 ∷ []) } ∷ []) (fate rules.Flushed SlaveToMaster (4 ∷ []) ∷ [])
 unfolding is_data_kind cells_of size_of
 flush-comes-across = refl
 
-pub flush-comes-across-alone : (put_in plain (spot Master 4 Up) (flush_message (1 ∷ [])) (ones Closed)).sent ≡ []
+pub flush-comes-across-alone : (put_in no_own plain (spot Master 4 Up) (flush_message (1 ∷ [])) (ones Closed)).sent ≡ []
 flush-comes-across-alone = refl
 
 -- what goes down is for the driver's queue, which is enabled; once the master is closed it goes
-pub data-goes-down : put_in plain (spot Slave 1 Down) (ordinary (7 ∷ [])) (ones Open) ≡ took (pair (end Open (one 1) (one 2)) (end Open (one 3) (ordinary (4 ∷ []) ∷ one 7)) (driver_of Slave ∷ [])) [] []
+pub data-goes-down : put_in no_own plain (spot Slave 1 Down) (ordinary (7 ∷ [])) (ones Open) ≡ took (pair (end Open (one 1) (one 2)) (end Open (one 3) (ordinary (4 ∷ []) ∷ one 7)) (driver_of Slave ∷ [])) [] []
 unfolding rank_of is_high_priority band_of
 data-goes-down = refl
 
-pub nothing-crosses-any-more : put_in plain (spot Slave 1 Down) (ordinary (7 ∷ [])) (pair (end Closed [] []) (end Open [] []) []) ≡ took (pair (end Closed [] []) (end Open [] []) []) [] (fate rules.EndClosed SlaveToMaster (7 ∷ []) ∷ [])
+pub nothing-crosses-any-more : put_in no_own plain (spot Slave 1 Down) (ordinary (7 ∷ [])) (pair (end Closed [] []) (end Open [] []) []) ≡ took (pair (end Closed [] []) (end Open [] []) []) [] (fate rules.EndClosed SlaveToMaster (7 ∷ []) ∷ [])
 unfolding cells_of
 nothing-crosses-any-more = refl
 
 -- a writer that is let go at a head enables the driver across
-pub room-at-a-head : (put_in plain here (flush_message (1 ∷ [])) (pair (end Open [] []) (record (end Open [] []) { head = head_with (queue (one 3) (flow 9 1 true ∷ [])) false }) [])).state.enabled ≡ driver_of Master ∷ []
+pub room-at-a-head : (put_in no_own plain here (flush_message (1 ∷ [])) (pair (end Open [] []) (record (end Open [] []) { head = head_with (queue (one 3) (flow 9 1 true ∷ [])) false }) [])).state.enabled ≡ driver_of Master ∷ []
 unfolding is_data_kind cells_of size_of band_of is_high_priority
 room-at-a-head = refl
 
 -- an M_FLUSH for both that comes up to the slave: its head, and what FLUSHW does on the way down, its driver and the head across
-pub flush-goes-round : delivered plain here (flush_message (3 ∷ [])) (ones Open)
+pub flush-goes-round : delivered no_own plain here (flush_message (3 ∷ [])) (ones Open)
     ≡ record { state = pair (end Open [] (one 2)) (end Open [] []) []; gone = fate rules.Flushed MasterToSlave (3 ∷ []) ∷ fate rules.Flushed SlaveToMaster (4 ∷ []) ∷ fate rules.Flushed SlaveToMaster (1 ∷ []) ∷ [] }
 unfolding carried is_data_kind cells_of size_of
 flush-goes-round = refl
 
 -- a turn: an M_PCPROTO that finds one goes by its rule, and counts as moved
-pub doubled-in-a-turn : driver_serves plain Master (urgent ∷ one 2) (pair (end Open [] (urgent ∷ one 2)) (end Open (urgent ∷ []) []) [])
+pub doubled-in-a-turn : driver_serves no_own plain Master (urgent ∷ one 2) (pair (end Open [] (urgent ∷ one 2)) (end Open (urgent ∷ []) []) [])
     ≡ record {
       turn = Moved 1;
       state = pair (record (end Open [] []) { driver = record { queue = record { messages = one 2; flows = []; want_read = false; no_enable = false } } }) (end Open (urgent ∷ []) []) (driver_of Master ∷ []);
@@ -186,6 +186,6 @@ flush_first = flush_message (2 ∷ []) ∷ one 2
 abbrev waited_for : Stream ℕ
 waited_for = record (end Open [] flush_first) { head = head_with (queue (one 1) (flow 9 0 true ∷ [])) false }
 
-pub turn-ends-behind-its-delivery : (driver_serves plain Master flush_first (pair waited_for (end Open [] []) [])).state.enabled ≡ driver_of Slave ∷ driver_of Master ∷ []
+pub turn-ends-behind-its-delivery : (driver_serves no_own plain Master flush_first (pair waited_for (end Open [] []) [])).state.enabled ≡ driver_of Slave ∷ driver_of Master ∷ []
 unfolding carried is_data_kind is_held band_of size_of cells_of is_high_priority
 turn-ends-behind-its-delivery = refl

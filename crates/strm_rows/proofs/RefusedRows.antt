@@ -1,6 +1,6 @@
 -- What the definitions of refusals and of the journal compute, case by case.
 use Rattle.strm_rows.proofs.Prelude.{ℕ, ◌≡◌, Bool, true, false, List, [], ◌∷◌, map, refl, replicate, Option, None, Some, Config, Done, Count, Bytes}
-use Rattle.strm_rows.proofs.Prelude.{Moved, Called, Turned, Caller, OpenMaster, Unlock, OpenSlave, Write, Openness, Never, Open, Closed}
+use Rattle.strm_rows.proofs.Prelude.{Moved, Called, Turned, Caller, OpenMaster, Unlock, OpenSlave, Write, Openness, Never, Open, Closed, no_own}
 use Rattle.strm_rows.proofs.Prelude.{Driver, QueueName, Side, Master, Slave, Up, Refusal, Einval, Eagain, Enxio, Enosr, JournalFull, caller_of}
 use Rattle.strm_rows.proofs.Prelude.{Message, data_message, band_of, size_of, cells_of, is_high_priority, driver_of, new_queue, new_book, head_with}
 use Rattle.strm_rows.proofs.Prelude.{State, opening, new_head, chunk_count, Request, payload_of, content_of, PlainEntry, content_max, room_of}
@@ -128,10 +128,10 @@ state master slave locked = record {
 -- with a journal that has room and blocks that are free, with a journal that is full, with too few blocks, with both
 abbrev answers : State ℕ → Side → Request → List (Option Refusal)
 answers s side asked =
-    refused s [] (sizes 0 1 9999) true (caller side) asked
-    ∷ refused s [] (sizes 0 0 9999) true (caller side) asked
-    ∷ refused s [] (sizes 0 1 9999) false (caller side) asked
-    ∷ refused s [] (sizes 0 0 9999) false (caller side) asked
+    refused no_own s [] (sizes 0 1 9999) true (caller side) asked
+    ∷ refused no_own s [] (sizes 0 0 9999) true (caller side) asked
+    ∷ refused no_own s [] (sizes 0 1 9999) false (caller side) asked
+    ∷ refused no_own s [] (sizes 0 0 9999) false (caller side) asked
     ∷ []
 
 abbrev always : Refusal → List (Option Refusal)
@@ -170,11 +170,11 @@ unfolding data_message
 reading = refl
 
 -- a write wants room for all its bytes, a read for as many as it may give
-pub room-for-the-bytes : map (λ bytes. refused (state Open Open false) [] (sizes 0 1 bytes) true (caller Slave) (Write (97 ∷ 98 ∷ []))) (2 ∷ 1 ∷ []) ≡ None ∷ Some JournalFull ∷ []
+pub room-for-the-bytes : map (λ bytes. refused no_own (state Open Open false) [] (sizes 0 1 bytes) true (caller Slave) (Write (97 ∷ 98 ∷ []))) (2 ∷ 1 ∷ []) ≡ None ∷ Some JournalFull ∷ []
 unfolding data_message band_of size_of cells_of is_high_priority
 room-for-the-bytes = refl
 
-pub room-for-the-answer : map (λ bytes. refused (state Open Open false) [] (sizes 0 1 bytes) true (caller Slave) (Read 7)) (7 ∷ 6 ∷ []) ≡ None ∷ Some JournalFull ∷ []
+pub room-for-the-answer : map (λ bytes. refused no_own (state Open Open false) [] (sizes 0 1 bytes) true (caller Slave) (Read 7)) (7 ∷ 6 ∷ []) ≡ None ∷ Some JournalFull ∷ []
 unfolding data_message
 room-for-the-answer = refl
 
@@ -213,10 +213,10 @@ pair_of_line mblks dblks =
 pub modules-turn-with-32-blocks : map (λ p. queue_refused p line) (pair_of_line 32 32 ∷ pair_of_line 31 32 ∷ pair_of_line 32 31 ∷ []) ≡ None ∷ Some Enosr ∷ Some Enosr ∷ []
 modules-turn-with-32-blocks = refl
 
-pub pair-writes-with-33-blocks : map (λ p. call_refused p (caller Slave) (Write (97 ∷ []))) (pair 33 33 ∷ pair 32 33 ∷ pair 33 32 ∷ []) ≡ None ∷ Some Enosr ∷ Some Enosr ∷ []
+pub pair-writes-with-33-blocks : map (λ p. call_refused no_own p (caller Slave) (Write (97 ∷ []))) (pair 33 33 ∷ pair 32 33 ∷ pair 33 32 ∷ []) ≡ None ∷ Some Enosr ∷ Some Enosr ∷ []
 unfolding chunk_count
 pair-writes-with-33-blocks = refl
 
-pub pair-reads-without-blocks : call_refused (pair 0 0) (caller Slave) (Read 7) ≡ None
+pub pair-reads-without-blocks : call_refused no_own (pair 0 0) (caller Slave) (Read 7) ≡ None
 unfolding data_message
 pair-reads-without-blocks = refl

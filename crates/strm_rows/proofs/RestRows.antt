@@ -1,6 +1,6 @@
 -- Two ldterms that echo each other don't come to rest: six turns carry a byte round, and leave as much work as there was. A turn of an ldterm's goes
 -- from one byte on.
-use Rattle.strm_rows.proofs.Prelude.{ℕ, suc, ◌≡◌, false, List, [], ◌∷◌, map, refl, Moved, Open, QueueName, Master, Slave, Up, new_book, plain}
+use Rattle.strm_rows.proofs.Prelude.{ℕ, suc, ◌≡◌, false, List, [], ◌∷◌, map, refl, Moved, Open, QueueName, Master, Slave, Up, new_book, plain, no_own}
 use Rattle.strm_rows.proofs.Prelude.{carried, crosses, Message, band_of, cells_of, data_message, is_held, is_high_priority, rank_of, size_of}
 use Rattle.strm_rows.proofs.Prelude.{driver_of, Queue, Standing, ldterm_stands, State, Stream, turned, whole_turn, flow, head_with, ordinary, queue}
 use Rattle.strm_rows.proofs.Prelude.{fresh}
@@ -33,7 +33,7 @@ echoing = record {
 -- so many turns, each of the queue that was enabled first
 abbrev next_turn : List QueueName → State ℕ → State ℕ
 next_turn [] s = s
-next_turn (name ∷ names) s = (turned plain name (whole_turn name s) s).state
+next_turn (name ∷ names) s = (turned no_own plain name (whole_turn name s) s).state
 
 abbrev turns : ℕ → State ℕ → State ℕ
 turns zero s = s
@@ -67,6 +67,6 @@ typing = record echoing {
   enabled = typed ∷ [];
 }
 
-pub from-one : (turned plain typed (Moved 0) typing).turn ≡ Moved 1
+pub from-one : (turned no_own plain typed (Moved 0) typing).turn ≡ Moved 1
 unfolding carried cells_of band_of is_high_priority is_held size_of rank_of data_message crosses
 from-one = refl

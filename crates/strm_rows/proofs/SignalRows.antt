@@ -1,6 +1,6 @@
 -- What signals and options do at a stream head, and how they are handed out, as worked out by hand from streamio(7I) and the
 -- STREAMS Programming Guide ("Stream Head": M_SIG, M_PCSIG, M_SETOPTS).
-use Rattle.strm_rows.proofs.Prelude.{ℕ, ◌≡◌, Bool, true, false, List, [], ◌∷◌, map, refl, replicate, Option, None, Some, Done, Called, Caller}
+use Rattle.strm_rows.proofs.Prelude.{ℕ, ◌≡◌, Bool, true, false, List, [], ◌∷◌, map, refl, replicate, Option, None, Some, Done, Called, Caller, no_own}
 use Rattle.strm_rows.proofs.Prelude.{OpenSlave, Shut, MsgKind, Sig, Pcsig, Setopts, Hangup, Ctl, Stop, Start, Refuse, Discard, ReadMode, ByteStream}
 use Rattle.strm_rows.proofs.Prelude.{MessageKeep, MessageDiscard, Openness, Never, Open, Closed, Side, Master, Slave, Up, Enxio, Free, Waiting, Spot}
 use Rattle.strm_rows.proofs.Prelude.{new_book, called, content_of, map_answer, map_event, payload_of, plain, Acted, head_put, Head, caller_of}
@@ -149,19 +149,20 @@ abbrev caller : Side → Caller
 caller side = caller_of side
 
 -- a side that isn't open has nobody for signals, and no cell goes with one
-pub signals-want-an-open-side : map (λ opened. let t = put_in plain here (without_parts Sig (3 ∷ [])) (pair (end Open two) (end opened two)) in t.state) (Open ∷ Never ∷ Closed ∷ [])
+pub signals-want-an-open-side : map (λ opened. let t = put_in no_own plain here (without_parts Sig (3 ∷ [])) (pair (end Open two) (end opened two)) in t.state) (Open ∷ Never ∷ Closed ∷ [])
     ≡ pair (end Open two) (end Open (2 ∷ 5 ∷ 3 ∷ [])) ∷ pair (end Open two) (end Never two) ∷ pair (end Open two) (end Closed two) ∷ []
 signals-want-an-open-side = refl
 
 -- they are handed out in their order, each side's to itself, and once
 abbrev handed : Side → State ℕ → State ℕ
-handed side s = (called plain (caller side) Signals s).state
+handed side s = (called no_own plain (caller side) Signals s).state
 
-pub signals-are-handed-out : map (λ side. called plain (caller side) Signals (pair (end Open (9 ∷ 1 ∷ [])) (end Open two))) (Master ∷ Slave ∷ [])
+pub signals-are-handed-out :
+    map (λ side. called no_own plain (caller side) Signals (pair (end Open (9 ∷ 1 ∷ [])) (end Open two))) (Master ∷ Slave ∷ [])
     ≡ record { answer = answers.Signals (9 ∷ 1 ∷ []); state = pair (end Open []) (end Open two); came = []; gone = [] } ∷ record { answer = answers.Signals two; state = pair (end Open (9 ∷ 1 ∷ [])) (end Open []); came = []; gone = [] } ∷ []
 signals-are-handed-out = refl
 
-pub signals-are-handed-out-once : map (λ side. called plain (caller Slave) Signals (handed side (pair (end Open (9 ∷ [])) (end Open two)))) (Slave ∷ Master ∷ [])
+pub signals-are-handed-out-once : map (λ side. called no_own plain (caller Slave) Signals (handed side (pair (end Open (9 ∷ [])) (end Open two)))) (Slave ∷ Master ∷ [])
     ≡ record { answer = answers.Signals []; state = pair (end Open (9 ∷ [])) (end Open []); came = []; gone = [] } ∷ record { answer = answers.Signals two; state = pair (end Open []) (end Open []); came = []; gone = [] } ∷ []
 signals-are-handed-out-once = refl
 
@@ -172,17 +173,17 @@ ends = end Never two ∷ end Closed two ∷ end Open [] ∷ record (end Open two
 pub signals-of-a-closed-side : map (λ slave. refused_at_once (pair (end Open two) slave) (caller Slave) Signals) ends ≡ Some Enxio ∷ Some Enxio ∷ None ∷ None ∷ []
 signals-of-a-closed-side = refl
 
-pub signals-wait-for-nothing : map (λ slave. refused_by_state (pair (end Open two) slave) (caller Slave) Signals) ends ≡ replicate 4 None
+pub signals-wait-for-nothing : map (λ slave. refused_by_state no_own (pair (end Open two) slave) (caller Slave) Signals) ends ≡ replicate 4 None
 signals-wait-for-nothing = refl
 
 pub signals-ask-for-no-block : blocks_asked Signals ≡ 0
 signals-ask-for-no-block = refl
 
 -- no cell comes or goes by them
-pub signals-are-no-cells : came plain (pair (end Open two) (end Open two)) (Called (caller Slave) Signals Done) ≡ []
+pub signals-are-no-cells : came no_own plain (pair (end Open two) (end Open two)) (Called (caller Slave) Signals Done) ≡ []
 signals-are-no-cells = refl
 
-pub no-cells-go-with-signals : gone plain (pair (end Open two) (end Open two)) (Called (caller Slave) Signals Done) ≡ []
+pub no-cells-go-with-signals : gone no_own plain (pair (end Open two) (end Open two)) (Called (caller Slave) Signals Done) ≡ []
 no-cells-go-with-signals = refl
 
 -- the journal has them as the bytes of the answer, and room for 32
@@ -208,10 +209,10 @@ stored-signals = refl
 abbrev new : Head ℕ
 new = record { queue = queue [] (replicate 256 (flow 5120 1024 false)); read_mode = ByteStream; control_mode = Refuse; tostop = false; group = 0; hung_up = false; signals = []; ioctl = Free }
 
-pub nothing-waits-at-a-slave-opened-anew : called plain (caller Master) OpenSlave (pair (end Open two) (end Closed two))
+pub nothing-waits-at-a-slave-opened-anew : called no_own plain (caller Master) OpenSlave (pair (end Open two) (end Closed two))
     ≡ record { answer = Done; state = record (pair (end Open two) (record (end Open two) { head = new })) { enabled = driver_of Master ∷ [] }; came = []; gone = [] }
 nothing-waits-at-a-slave-opened-anew = refl
 
-pub nothing-waits-at-a-closed-side : (called plain (caller Slave) Shut (pair (end Open two) (end Open two))).state.ends.slave ≡ record (end Closed two) { head = new }
+pub nothing-waits-at-a-closed-side : (called no_own plain (caller Slave) Shut (pair (end Open two) (end Open two))).state.ends.slave ≡ record (end Closed two) { head = new }
 unfolding cells_of size_of
 nothing-waits-at-a-closed-side = refl

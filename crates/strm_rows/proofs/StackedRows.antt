@@ -2,7 +2,7 @@
 use Rattle.strm_rows.proofs.Prelude.{ℕ, ◌≡◌, true, false, List, [], ◌∷◌, map, refl, ◌==◌, None, Some, Ptem, Open, Slave, Master, Up, Down, Enable}
 use Rattle.strm_rows.proofs.Prelude.{Spot, new_book, plain, Message, band_of, cells_of, is_high_priority, map_message, rank_of, size_of, weight_of}
 use Rattle.strm_rows.proofs.Prelude.{Queue, Standing, module_line, module_name, ldterm_stands, State, Stream, messages_in, new_stream, module_named}
-use Rattle.strm_rows.proofs.Prelude.{head_with, ordinary, queue, fresh}
+use Rattle.strm_rows.proofs.Prelude.{head_with, ordinary, queue, fresh, no_own}
 use Rattle.strm_types.specs.declared.names.ModuleName.TheVariants.{Ldterm}
 use Rattle.strm_types.specs.declared.spots.Asks.TheVariants.{Empty}
 use Rattle.strm_laws.specs.Kept.{stream_weight}
@@ -63,7 +63,7 @@ queue-of-a-way-changes = refl
 
 -- a ptem has a name, and neither a queue nor a line nor a cell; it asks nothing, rests, and serves no turn
 abbrev ptem : Standing ℕ
-ptem = module_named Ptem
+ptem = module_named no_own Ptem
 
 pub names-of-modules : map module_name (with_these [] [] [] ∷ ptem ∷ []) ≡ Ldterm ∷ Ptem ∷ []
 names-of-modules = refl
@@ -96,10 +96,10 @@ pub nothing-is-served : unserved {C = ℕ} ptem ≡ record { acted = record { st
 nothing-is-served = refl
 
 -- what is put at each does what its kind does
-pub ptem-takes-puts : let here : Spot = record { side = Slave; at = 2; way = Down } in module_puts plain 0 here (ordinary (9 ∷ [])) ptem ≡ record { state = ptem; notes = []; sent = onward Down here (ordinary (9 ∷ [])) ∷ []; gone = [] }
+pub ptem-takes-puts : let here : Spot = record { side = Slave; at = 2; way = Down } in module_puts no_own plain 0 here (ordinary (9 ∷ [])) ptem ≡ record { state = ptem; notes = []; sent = onward Down here (ordinary (9 ∷ [])) ∷ []; gone = [] }
 ptem-takes-puts = refl
 
-pub ldterm-takes-puts : let t = module_puts plain 0 (record { side = Slave; at = 2; way = Down }) (ordinary (9 ∷ [])) (with_these [] [] []) in t.notes ≡ Enable Down ∷ []
+pub ldterm-takes-puts : let t = module_puts no_own plain 0 (record { side = Slave; at = 2; way = Down }) (ordinary (9 ∷ [])) (with_these [] [] []) in t.notes ≡ Enable Down ∷ []
 unfolding cells_of size_of band_of is_high_priority rank_of
 ldterm-takes-puts = refl
 

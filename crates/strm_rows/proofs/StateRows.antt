@@ -1,7 +1,7 @@
 -- What calls and turns compute, case by case, as worked out by hand from the manual pages.
 use Rattle.strm_rows.proofs.Prelude.{ℕ, ◌≡◌, Bool, true, false, List, [], ◌∷◌, length, map, refl, replicate, Done, Bytes, Turn, Moved, Blocked, Idle}
 use Rattle.strm_rows.proofs.Prelude.{Caller, OpenMaster, Unlock, OpenSlave, Write, Dir, MasterToSlave, SlaveToMaster, Openness, Never, Open, Closed}
-use Rattle.strm_rows.proofs.Prelude.{QueueName, Side, Master, Slave, Down, Tagged, Written, plain, tagged, cells_written, caller_of, Message}
+use Rattle.strm_rows.proofs.Prelude.{QueueName, Side, Master, Slave, Down, Tagged, Written, plain, tagged, cells_written, caller_of, Message, no_own}
 use Rattle.strm_rows.proofs.Prelude.{data_message, is_held, rank_of, band_of, size_of, cells_of, is_high_priority, driver_of, head_of, Queue, Flow}
 use Rattle.strm_rows.proofs.Prelude.{new_book, State, Stream, opening, new_stream, messages_in, chunk_count, TurnOutcome, driver_serves, turned}
 use Rattle.strm_rows.proofs.Prelude.{whole_turn, Fate, Goes, carried, content_of, called, head_with, flow, queue, ordinary, proto, urgent}
@@ -46,20 +46,20 @@ messages-are-counted = refl
 
 -- opening and unlocking
 
-pub master-opens : called plain (caller Master) OpenMaster opening ≡ record { answer = Done; state = pair (record new_stream { opened = Open }) new_stream []; came = []; gone = [] }
+pub master-opens : called no_own plain (caller Master) OpenMaster opening ≡ record { answer = Done; state = pair (record new_stream { opened = Open }) new_stream []; came = []; gone = [] }
 master-opens = refl
 
-pub unlocked : (called plain (caller Master) Unlock opening).state.locked ∷ (called plain (caller Master) OpenSlave opening).state.locked ∷ [] ≡ false ∷ true ∷ []
+pub unlocked : (called no_own plain (caller Master) Unlock opening).state.locked ∷ (called no_own plain (caller Master) OpenSlave opening).state.locked ∷ [] ≡ false ∷ true ∷ []
 unlocked = refl
 
 -- the slave's head is as new, and its driver is as it was; the master's driver is enabled where messages wait for it
 abbrev waiting : List (Message ℕ) → Stream ℕ
 waiting messages = end Open (queue [] []) (busy messages [])
 
-pub slave-opens-anew : called plain (caller Slave) OpenSlave (pair (waiting (proto ∷ [])) (end Closed (queue (proto ∷ []) []) (busy (proto ∷ []) [])) []) ≡ record { answer = Done; state = pair (waiting (proto ∷ [])) (end Open (queue [] (replicate 256 (flow 5120 1024 false))) (busy (proto ∷ []) [])) (driver_of Master ∷ []); came = []; gone = [] }
+pub slave-opens-anew : called no_own plain (caller Slave) OpenSlave (pair (waiting (proto ∷ [])) (end Closed (queue (proto ∷ []) []) (busy (proto ∷ []) [])) []) ≡ record { answer = Done; state = pair (waiting (proto ∷ [])) (end Open (queue [] (replicate 256 (flow 5120 1024 false))) (busy (proto ∷ []) [])) (driver_of Master ∷ []); came = []; gone = [] }
 slave-opens-anew = refl
 
-pub slave-opens-on-nothing : (called plain (caller Slave) OpenSlave (pair (waiting []) (waiting (proto ∷ [])) [])).state.enabled ≡ []
+pub slave-opens-on-nothing : (called no_own plain (caller Slave) OpenSlave (pair (waiting []) (waiting (proto ∷ [])) [])).state.enabled ≡ []
 slave-opens-on-nothing = refl
 
 -- writes: the bytes are booked by the writer's direction, as those behind what was written before
@@ -68,7 +68,8 @@ pub written-bytes-have-their-places : cells_written tagged SlaveToMaster 5 (97 �
 written-bytes-have-their-places = refl
 
 abbrev written_twice : State Tagged
-written_twice = (called tagged (caller Slave) (Write (98 ∷ 99 ∷ [])) (called tagged (caller Slave) (Write (97 ∷ [])) opening).state).state
+written_twice =
+    (called no_own tagged (caller Slave) (Write (98 ∷ 99 ∷ [])) (called no_own tagged (caller Slave) (Write (97 ∷ [])) opening).state).state
 
 pub second-write-is-booked-behind-the-first : map cells_of written_twice.ends.slave.driver.queue.messages ≡ cells_written tagged SlaveToMaster 0 (97 ∷ []) ∷ cells_written tagged SlaveToMaster 1 (98 ∷ 99 ∷ []) ∷ []
 unfolding carried chunk_count data_message rank_of band_of size_of cells_of is_high_priority
@@ -79,7 +80,7 @@ unfolding carried chunk_count data_message rank_of band_of size_of cells_of is_h
 books-after-two-writes = refl
 
 -- only what was taken is booked
-pub refused-bytes-are-not-booked : (called plain (caller Master) (Write (replicate 600 97)) opening).state.books.master ≡ record { written = 512; made = 0 }
+pub refused-bytes-are-not-booked : (called no_own plain (caller Master) (Write (replicate 600 97)) opening).state.books.master ≡ record { written = 512; made = 0 }
 unfolding carried chunk_count data_message rank_of band_of size_of cells_of is_high_priority
 refused-bytes-are-not-booked = refl
 
@@ -89,7 +90,7 @@ unfolding carried chunk_count data_message rank_of band_of size_of cells_of is_h
 write-enables-its-driver = refl
 
 -- where the master is closed, what the slave writes goes at once
-pub write-to-nobody-goes : (called plain (caller Slave) (Write (97 ∷ 98 ∷ [])) (pair (end Closed (queue [] []) (queue [] [])) (end Open (queue [] []) (queue [] (flow 9 2 false ∷ []))) [])).gone
+pub write-to-nobody-goes : (called no_own plain (caller Slave) (Write (97 ∷ 98 ∷ [])) (pair (end Closed (queue [] []) (queue [] [])) (end Open (queue [] []) (queue [] (flow 9 2 false ∷ []))) [])).gone
     ≡ Goes SlaveToMaster rules.EndClosed (97 ∷ 98 ∷ []) ∷ []
 unfolding carried chunk_count data_message rank_of band_of size_of cells_of is_high_priority
 write-to-nobody-goes = refl
@@ -97,23 +98,23 @@ write-to-nobody-goes = refl
 -- a write of band 0 enables no driver that is busy, but one that had an idle turn
 
 abbrev idle : TurnOutcome ℕ
-idle = turned plain (driver_of Master) Idle (pair (end Open (queue [] []) (busy [] (flow 9 2 false ∷ []))) idle_end (driver_of Master ∷ []))
+idle = turned no_own plain (driver_of Master) Idle (pair (end Open (queue [] []) (busy [] (flow 9 2 false ∷ []))) idle_end (driver_of Master ∷ []))
 
 pub idle-turn-wants-to-be-read : idle ≡ record { turn = Idle; state = pair (end Open (queue [] []) (queue [] (flow 9 2 false ∷ []))) idle_end []; gone = [] }
 idle-turn-wants-to-be-read = refl
 
-pub write-after-an-idle-turn-enables : (called plain (caller Master) (Write (97 ∷ [])) idle.state).state.enabled ≡ driver_of Master ∷ []
+pub write-after-an-idle-turn-enables : (called no_own plain (caller Master) (Write (97 ∷ [])) idle.state).state.enabled ≡ driver_of Master ∷ []
 unfolding carried chunk_count data_message rank_of band_of size_of cells_of is_high_priority
 write-after-an-idle-turn-enables = refl
 
-pub write-on-a-busy-driver-enables-nothing : (called plain (caller Master) (Write (97 ∷ [])) (pair (end Open (queue [] []) (busy [] (flow 9 2 false ∷ []))) idle_end [])).state.enabled ≡ []
+pub write-on-a-busy-driver-enables-nothing : (called no_own plain (caller Master) (Write (97 ∷ [])) (pair (end Open (queue [] []) (busy [] (flow 9 2 false ∷ []))) idle_end [])).state.enabled ≡ []
 unfolding carried chunk_count data_message rank_of band_of size_of cells_of is_high_priority
 write-on-a-busy-driver-enables-nothing = refl
 
 -- two writers: their drivers are enabled in the order of their writes, and a turn that leaves more puts its queue last
 
 abbrev two_enabled : State ℕ
-two_enabled = (called plain (caller Master) (Write (98 ∷ [])) (called plain (caller Slave) (Write (97 ∷ [])) opening).state).state
+two_enabled = (called no_own plain (caller Master) (Write (98 ∷ [])) (called no_own plain (caller Slave) (Write (97 ∷ [])) opening).state).state
 
 pub enabled-in-order-of-writing : two_enabled.enabled ≡ driver_of Slave ∷ driver_of Master ∷ []
 unfolding carried chunk_count data_message rank_of band_of size_of cells_of is_high_priority
@@ -125,19 +126,19 @@ three = ordinary (97 ∷ []) ∷ ordinary (98 ∷ 99 ∷ []) ∷ []
 abbrev roomy : List Flow
 roomy = flow 9 2 false ∷ []
 
-pub turn-that-leaves-more-goes-last : turned plain (driver_of Slave) Idle (pair (end Open (queue [] roomy) (queue [] [])) (end Open (queue [] []) (queue three roomy)) (driver_of Slave ∷ driver_of Master ∷ [])) ≡ record { turn = Moved 1; state = pair (end Open (queue (ordinary (97 ∷ []) ∷ []) roomy) (queue [] [])) (end Open (queue [] []) (busy (ordinary (98 ∷ 99 ∷ []) ∷ []) roomy)) (driver_of Master ∷ driver_of Slave ∷ []); gone = [] }
+pub turn-that-leaves-more-goes-last : turned no_own plain (driver_of Slave) Idle (pair (end Open (queue [] roomy) (queue [] [])) (end Open (queue [] []) (queue three roomy)) (driver_of Slave ∷ driver_of Master ∷ [])) ≡ record { turn = Moved 1; state = pair (end Open (queue (ordinary (97 ∷ []) ∷ []) roomy) (queue [] [])) (end Open (queue [] []) (busy (ordinary (98 ∷ 99 ∷ []) ∷ []) roomy)) (driver_of Master ∷ driver_of Slave ∷ []); gone = [] }
 unfolding carried rank_of band_of size_of cells_of is_high_priority is_held
 turn-that-leaves-more-goes-last = refl
 
 -- the last message: the queue wants to be read again, and isn't enabled
-pub turn-of-the-last-message : turned plain (driver_of Master) Idle (pair (end Open (queue [] []) (busy (ordinary (97 ∷ []) ∷ []) roomy)) (end Open (queue [] roomy) (queue [] [])) (driver_of Master ∷ [])) ≡ record { turn = Moved 1; state = pair (end Open (queue [] []) (queue [] roomy)) (end Open (queue (ordinary (97 ∷ []) ∷ []) roomy) (queue [] [])) []; gone = [] }
+pub turn-of-the-last-message : turned no_own plain (driver_of Master) Idle (pair (end Open (queue [] []) (busy (ordinary (97 ∷ []) ∷ []) roomy)) (end Open (queue [] roomy) (queue [] [])) (driver_of Master ∷ [])) ≡ record { turn = Moved 1; state = pair (end Open (queue [] []) (queue [] roomy)) (end Open (queue (ordinary (97 ∷ []) ∷ []) roomy) (queue [] [])) []; gone = [] }
 unfolding carried rank_of band_of size_of cells_of is_high_priority is_held
 turn-of-the-last-message = refl
 
 -- What a turn of a driver with these messages and flows does, towards a head with one message of two bytes.
 
 abbrev serves : Openness → List (Message ℕ) → List Flow → List Flow → TurnOutcome ℕ
-serves opened messages below above = driver_serves plain Master messages (pair (end Open (queue [] []) (queue messages below)) (end opened (queue (ordinary (7 ∷ 8 ∷ []) ∷ []) above) (queue [] [])) [])
+serves opened messages below above = driver_serves no_own plain Master messages (pair (end Open (queue [] []) (queue messages below)) (end opened (queue (ordinary (7 ∷ 8 ∷ []) ∷ []) above) (queue [] [])) [])
 
 abbrev served : Turn → Openness → List (Message ℕ) → List Flow → List (Message ℕ) → List Flow → Bool → List QueueName → TurnOutcome ℕ
 served turn opened messages below heads above want_read enabled = record {
@@ -179,7 +180,7 @@ unfolding carried rank_of band_of size_of cells_of is_high_priority is_held
 empty-turn-relieves-nobody = refl
 
 -- queues with no service: nothing but that they aren't enabled any more
-pub other-turns-are-idle : map (λ name. turned plain name Idle (pair idle_end idle_end (head_of Slave ∷ record { side = Slave; place = places.Module names.Ldterm; way = Down } ∷ []))) (head_of Slave ∷ record { side = Slave; place = places.Module names.Ldterm; way = Down } ∷ []) ≡ record { turn = Idle; state = pair idle_end idle_end (record { side = Slave; place = places.Module names.Ldterm; way = Down } ∷ []); gone = [] } ∷ record { turn = Idle; state = pair idle_end idle_end (head_of Slave ∷ []); gone = [] } ∷ []
+pub other-turns-are-idle : map (λ name. turned no_own plain name Idle (pair idle_end idle_end (head_of Slave ∷ record { side = Slave; place = places.Module names.Ldterm; way = Down } ∷ []))) (head_of Slave ∷ record { side = Slave; place = places.Module names.Ldterm; way = Down } ∷ []) ≡ record { turn = Idle; state = pair idle_end idle_end (record { side = Slave; place = places.Module names.Ldterm; way = Down } ∷ []); gone = [] } ∷ record { turn = Idle; state = pair idle_end idle_end (head_of Slave ∷ []); gone = [] } ∷ []
 other-turns-are-idle = refl
 
 pub whole-turns : map (λ name. whole_turn name (pair (waiting three) (waiting []) [])) (driver_of Master ∷ driver_of Slave ∷ head_of Master ∷ record { side = Slave; place = places.Module names.Ldterm; way = Down } ∷ []) ≡ Moved 1 ∷ Moved 0 ∷ Idle ∷ Idle ∷ []
@@ -196,27 +197,27 @@ abbrev given : Dir → List ℕ → List (Fate ℕ)
 given dir bytes = Goes dir rules.Read bytes ∷ Goes dir rules.RestDiscarded [] ∷ Goes dir rules.ControlDropped [] ∷ []
 
 -- a read of one byte leaves two: at the low mark the other side's driver is enabled
-pub read-down-to-the-low-mark : called plain (caller Slave) (Read 1) (above 2 true) ≡ record { answer = Bytes (97 ∷ []); state = pair (waiting []) (end Open (busy (ordinary (98 ∷ 99 ∷ []) ∷ []) (flow 9 2 false ∷ [])) (queue [] [])) (driver_of Master ∷ []); came = []; gone = given MasterToSlave (97 ∷ []) }
+pub read-down-to-the-low-mark : called no_own plain (caller Slave) (Read 1) (above 2 true) ≡ record { answer = Bytes (97 ∷ []); state = pair (waiting []) (end Open (busy (ordinary (98 ∷ 99 ∷ []) ∷ []) (flow 9 2 false ∷ [])) (queue [] [])) (driver_of Master ∷ []); came = []; gone = given MasterToSlave (97 ∷ []) }
 unfolding rank_of band_of size_of cells_of is_high_priority
 read-down-to-the-low-mark = refl
 
 -- and one above it nothing is
-pub read-to-one-above-the-low-mark : called plain (caller Slave) (Read 1) (above 1 true) ≡ record { answer = Bytes (97 ∷ []); state = pair (waiting []) (end Open (busy (ordinary (98 ∷ 99 ∷ []) ∷ []) (flow 9 1 true ∷ [])) (queue [] [])) []; came = []; gone = given MasterToSlave (97 ∷ []) }
+pub read-to-one-above-the-low-mark : called no_own plain (caller Slave) (Read 1) (above 1 true) ≡ record { answer = Bytes (97 ∷ []); state = pair (waiting []) (end Open (busy (ordinary (98 ∷ 99 ∷ []) ∷ []) (flow 9 1 true ∷ [])) (queue [] [])) []; came = []; gone = given MasterToSlave (97 ∷ []) }
 unfolding rank_of band_of size_of cells_of is_high_priority
 read-to-one-above-the-low-mark = refl
 
-pub read-where-nobody-waits : (called plain (caller Slave) (Read 3) (above 2 false)).state.enabled ≡ []
+pub read-where-nobody-waits : (called no_own plain (caller Slave) (Read 3) (above 2 false)).state.enabled ≡ []
 unfolding rank_of band_of size_of cells_of is_high_priority
 read-where-nobody-waits = refl
 
-pub read-of-nothing-changes-nothing : called plain (caller Slave) (Read 0) (above 9 true) ≡ record { answer = Bytes []; state = above 9 true; came = []; gone = [] }
+pub read-of-nothing-changes-nothing : called no_own plain (caller Slave) (Read 0) (above 9 true) ≡ record { answer = Bytes []; state = above 9 true; came = []; gone = [] }
 read-of-nothing-changes-nothing = refl
 
 -- a read that removes a zero-length message gives no bytes, and lets nobody go
-pub empty-read-relieves-nobody : called plain (caller Master) (Read 4) (pair (end Open (queue (ordinary [] ∷ []) (flow 9 2 true ∷ [])) (queue [] [])) (waiting []) []) ≡ record { answer = Bytes []; state = pair (end Open (busy [] (flow 9 2 true ∷ [])) (queue [] [])) (waiting []) []; came = []; gone = given SlaveToMaster [] }
+pub empty-read-relieves-nobody : called no_own plain (caller Master) (Read 4) (pair (end Open (queue (ordinary [] ∷ []) (flow 9 2 true ∷ [])) (queue [] [])) (waiting []) []) ≡ record { answer = Bytes []; state = pair (end Open (busy [] (flow 9 2 true ∷ [])) (queue [] [])) (waiting []) []; came = []; gone = given SlaveToMaster [] }
 unfolding size_of cells_of
 empty-read-relieves-nobody = refl
 
-pub read-gives-4096-at-most : map (λ n. length (content_of (called plain (caller Slave) (Read n) (pair (waiting []) (end Open (queue (ordinary (replicate 4098 97) ∷ []) []) (queue [] [])) [])).answer)) (4095 ∷ 4097 ∷ []) ≡ 4095 ∷ 4096 ∷ []
+pub read-gives-4096-at-most : map (λ n. length (content_of (called no_own plain (caller Slave) (Read n) (pair (waiting []) (end Open (queue (ordinary (replicate 4098 97) ∷ []) []) (queue [] [])) [])).answer)) (4095 ∷ 4097 ∷ []) ≡ 4095 ∷ 4096 ∷ []
 unfolding rank_of band_of size_of cells_of is_high_priority
 read-gives-4096-at-most = refl

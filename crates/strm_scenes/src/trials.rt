@@ -259,12 +259,18 @@ const PTEM: Event<&'static [u8]> = Event::Push {
     name: Some(ModuleName::Ptem),
 };
 
-const UNKNOWN: [Step<'static>; 8] = [
+// One of a user's own: the pairs here have none.
+const OWN: Event<&'static [u8]> = Event::Push {
+    name: Some(ModuleName::Own(4)),
+};
+
+const UNKNOWN: [Step<'static>; 9] = [
     Step::Call(SLAVE, PTEM, DONE),
     Step::Call(SLAVE, PTEM, INVALID),
     Step::Call(SLAVE, Event::Look, Ok(Answer::Name(ModuleName::Ptem))),
     Step::Call(SLAVE, Event::Pop, DONE),
     Step::Call(SLAVE, Event::Push { name: None }, INVALID),
+    Step::Call(SLAVE, OWN, INVALID),
     Step::Call(SLAVE, Event::Pop, INVALID),
     Step::Call(SLAVE, Event::Look, INVALID),
     Step::Entered(6, b""),

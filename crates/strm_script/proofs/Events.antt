@@ -8,6 +8,7 @@ use Rattle.strm_script.specs.Prelude.{Enosr}
 use Rattle.std.proofs.Common.{IsOk, IfOk}
 use Rattle.strm_types.specs.declared.answers.Answer.{Answer}
 use Rattle.strm_types.specs.Cells as cells
+use Rattle.strm_laws.proofs.NoOwn.{none as no_own}
 use Rattle.strm_laws.specs.Refusals.{Free, enough}
 use Rattle.strm_types.specs.Refused.{turn_blocks}
 use Rattle.strm_laws.specs.Pair.{call_refused, queue_refused, AddsEntry}
@@ -58,7 +59,7 @@ pub record TurnHappens (old new : PairState) (name : QueueName) (r : Result Turn
 
 call_as : (P : Type 0) (o : Option Refusal) (old new : PairState) (caller : Caller) (asked : Request) (bytes : List ℕ) (r : Result (Answer ℕ) Refusal)
     → MatchOption o (IsOk r) (λ x. (r ≡ Err x) × ((new ≡ old) × P))
-    → IfOk r (λ answer. AddsEntry old new (Called caller asked (reply_in answer bytes)))
+    → IfOk r (λ answer. AddsEntry no_own old new (Called caller asked (reply_in answer bytes)))
     → call_happens o (plain old) caller asked ≡ record { answer = replied bytes r; pair = plain new; is_short = short_call r }
 call_as P (Some refusal) old new caller asked bytes r h adds =
     λ i. record { answer = replied bytes (sym h.0 i); pair = plain (sym h.1.0 i); is_short = short_call (sym h.0 i) }
@@ -70,7 +71,7 @@ call_as P None old new caller asked bytes (Ok answer) h adds =
         state = adds.step.leads i;
         journal = old.journal ++ Called caller asked (adds.step.answered i) ∷ [];
         limits = old.limits;
-        fates = tallied (called cells.plain caller asked old.state).gone old.fates;
+        fates = tallied (called no_own cells.plain caller asked old.state).gone old.fates;
       };
       is_short = false;
     })
@@ -90,13 +91,13 @@ asked-supply : (n : ℕ) (free : Free) → (is_enough (supply_of (enough n free)
 asked-supply n free = asked-at n free (enough n free) refl
 
 pub CallHappens-from : (P : Type 0) (old new : PairState) (caller : Caller) (asked : Request) (bytes : List ℕ) (r : Result (Answer ℕ) Refusal)
-    → MatchOption (call_refused old caller asked) (IsOk r) (λ x. (r ≡ Err x) × ((new ≡ old) × P))
-    → IfOk r (λ answer. AddsEntry old new (Called caller asked (reply_in answer bytes)))
+    → MatchOption (call_refused no_own old caller asked) (IsOk r) (λ x. (r ≡ Err x) × ((new ≡ old) × P))
+    → IfOk r (λ answer. AddsEntry no_own old new (Called caller asked (reply_in answer bytes)))
     → CallHappens old new caller asked bytes r
 unfolding call_of
 CallHappens-from P old new caller asked bytes r h adds = record {
   supply = supply_of (enough (blocks_asked asked) old.free);
-  same = rw (asked-supply (blocks_asked asked) old.free) (call_as P (call_refused old caller asked) old new caller asked bytes r h adds);
+  same = rw (asked-supply (blocks_asked asked) old.free) (call_as P (call_refused no_own old caller asked) old new caller asked bytes r h adds);
 }
 
 -- a turn that isn't refused isn't where the pool has enough
@@ -109,8 +110,8 @@ none-enough None None None true h = refl
 none-enough None None None false h = absurd cc
 
 -- a turn that is taken, with the account of how far it went
-turn_taken : (old new : PairState) (name : QueueName) (turn : Turn) → AddsEntry old new (Turned name turn)
-    → turned cells.plain name (turn_to (reach name.place (first_at name old.state) turn) name old.state) old.state ≡ turned cells.plain name turn old.state
+turn_taken : (old new : PairState) (name : QueueName) (turn : Turn) → AddsEntry no_own old new (Turned name turn)
+    → turned no_own cells.plain name (turn_to (reach name.place (first_at name old.state) turn) name old.state) old.state ≡ turned no_own cells.plain name turn old.state
     → turn_happens None (reach name.place (first_at name old.state) turn) (plain old) name ≡ record { answer = Ok turn; pair = plain new; is_short = short_turn name old.state (Ok turn) }
 turn_taken old new name turn adds goes =
     ap (λ (o : TurnOutcome ℕ). record {
@@ -124,7 +125,7 @@ turn_taken old new name turn adds goes =
         state = adds.step.leads i;
         journal = old.journal ++ Turned name (adds.step.answered i) ∷ [];
         limits = old.limits;
-        fates = tallied (turned cells.plain name turn old.state).gone old.fates;
+        fates = tallied (turned no_own cells.plain name turn old.state).gone old.fates;
       };
       is_short = short_turn name old.state (Ok turn);
     })
@@ -138,7 +139,7 @@ turn_taken old new name turn adds goes =
 turn_by : (has_blocks : Bool) (o : Option Refusal) (old new : PairState) (name : QueueName) (r : Result Turn Refusal)
     → turn_refused old.state old.journal old.limits has_blocks name ≡ o
     → MatchOption o (IsOk r) (λ x. (r ≡ Err x) × (new ≡ old))
-    → IfOk r (λ turn. AddsEntry old new (Turned name turn))
+    → IfOk r (λ turn. AddsEntry no_own old new (Turned name turn))
     → TurnHappens old new name r
 unfolding turn_of
 turn_by has_blocks (Some refusal) old new name r is h adds = record {
@@ -161,7 +162,7 @@ turn_by has_blocks None old new name (Ok turn) is h adds =
 
 pub TurnHappens-from : (old new : PairState) (name : QueueName) (r : Result Turn Refusal)
     → MatchOption (queue_refused old name) (IsOk r) (λ x. (r ≡ Err x) × (new ≡ old))
-    → IfOk r (λ turn. AddsEntry old new (Turned name turn))
+    → IfOk r (λ turn. AddsEntry no_own old new (Turned name turn))
     → TurnHappens old new name r
 TurnHappens-from old new name r h adds = turn_by (enough (turn_blocks name.place) old.free) (queue_refused old name) old new name r refl h adds
 

@@ -5,6 +5,7 @@ use Rattle.strm_script.proofs.Prelude.{cases_Bool, false≢true}
 use Rattle.strm_script.specs.Prelude.{Turn, Caller, QueueName, Refusal, Einval, Enosr, FlushQueues, is_enabled, Request, Reply, or_else, unless}
 use Rattle.strm_script.specs.Prelude.{refused, refused_at_once, refused_by_state, blocks_asked, Both, get}
 use Rattle.strm_types.specs.declared.events.Event.TheVariants as calls
+use Rattle.strm_laws.proofs.NoOwn.{none as no_own}
 use Rattle.strm_script.specs.Script.{Command, Open, Call, Flush, Put, Get, Turn as TurnOf, Run, Show, Ledger, Cut, Group}
 use Rattle.strm_script.specs.ScriptReading.{Reading, Silent, Malformed, Spoken, reading}
 use Rattle.strm_script.specs.ScriptAnswers.{printed_line, reply_line, turn_line, Ran, Wrong}
@@ -26,10 +27,12 @@ same_refusal_behind : (a b c d e : Option Refusal) → is_want (or_else a (or_el
 same_refusal_behind (Some r) b c d e h = refl
 same_refusal_behind None b c d e h = same_refusal b c d e h
 
-refused-same : (b : Bool) (p : PlainPair) (caller : Caller) (asked : Request) → is_want (refused p.state p.journal p.limits b caller asked) ≡ false
-    → refused p.state p.journal p.limits b caller asked ≡ refused p.state p.journal p.limits true caller asked
+refused-same : (b : Bool) (p : PlainPair) (caller : Caller) (asked : Request)
+    → is_want (refused no_own p.state p.journal p.limits b caller asked) ≡ false
+    → refused no_own p.state p.journal p.limits b caller asked ≡ refused no_own p.state p.journal p.limits true caller asked
 refused-same true p caller asked h = refl
-refused-same false p caller asked h = same_refusal (refused_at_once p.state caller asked) _ (Some Enosr) (refused_by_state p.state caller asked) h
+refused-same false p caller asked h =
+    same_refusal (refused_at_once p.state caller asked) _ (Some Enosr) (refused_by_state no_own p.state caller asked) h
 
 call-same : (supply : Supply) (p : PlainPair) (caller : Caller) (asked : Request) → (call_of supply p caller asked).is_short ≡ false
     → call_of supply p caller asked ≡ call_of Enough p caller asked

@@ -163,7 +163,8 @@ pub lines-of-job-control : map line_text (Stopped Ttin ∷ Stopped Ttou ∷ Refu
 unfolding line_text
 lines-of-job-control = refl
 
-pub lines-of-names : map (λ known. line_text (Named known)) (modules.Ldterm ∷ modules.Ptem ∷ modules.Pckt ∷ []) ≡ codes "name ldterm" ∷ codes "name ptem" ∷ codes "name pckt" ∷ []
+pub lines-of-names : map (λ known. line_text (Named known)) (modules.Ldterm ∷ modules.Ptem ∷ modules.Pckt ∷ modules.Own 4 ∷ [])
+    ≡ codes "name ldterm" ∷ codes "name ptem" ∷ codes "name pckt" ∷ (codes "name " ++ decimal 20) ∷ []
 unfolding line_text
 lines-of-names = refl
 

@@ -17,7 +17,7 @@ use Rattle.strm_script.specs.declared.ioctls.IoctlName.TheVariants as ioctls
 use Rattle.strm_script.specs.declared.verbs.Verb.{Verb}
 use Rattle.strm_script.specs.declared.verbs.Verb.TheVariants as words
 use Rattle.strm_script.specs.Named.{named}
-use Rattle.strm_script.specs.Script.{Open, Call, Flush, Put, Get, Turn, Run, Show, Ledger, Cut, Group, module_name, IsName, IsUnknown, IsNumber, Itself, Named, Coded, digit_of, hex_of, escaped}
+use Rattle.strm_script.specs.Script.{Open, Call, Flush, Put, Get, Turn, Run, Show, Ledger, Cut, Group, has_word, module_name, IsName, IsUnknown, IsNumber, Itself, Named, Coded, digit_of, hex_of, escaped}
 use Rattle.strm_script.specs.Table.{verbs, ioctl_names, IsSpelled}
 
 twelve : IsNumber (codes "12") 12
@@ -68,12 +68,13 @@ ledgers-are-spelled = (
 
 -- a push by the name of a module, and by a name that none has
 pub push-is-spelled : IsSpelled (Call Slave (Push (Some modules.Ptem))) (codes "push s ptem")
-push-is-spelled = (words.Push, codes "push", codes " s ptem", refl, (Slave, codes "s", codes " ptem", refl, (Some modules.Ptem, codes "ptem", refl, refl, refl), refl), refl)
+push-is-spelled = (words.Push, codes "push", codes " s ptem", refl, (Slave, codes "s", codes " ptem", refl, (Some modules.Ptem, codes "ptem", (refl, refl), refl, refl), refl), refl)
 
-not-foo : (known : ModuleName) → codes "foo" ≢ module_name known
-not-foo modules.Ldterm h = cc
-not-foo modules.Ptem h = cc
-not-foo modules.Pckt h = cc
+not-foo : (known : ModuleName) → has_word known ≡ true → codes "foo" ≢ module_name known
+not-foo modules.Ldterm has h = cc
+not-foo modules.Ptem has h = cc
+not-foo modules.Pckt has h = cc
+not-foo (modules.Own n) has h = cc
 
 foo : IsUnknown (codes "foo")
 foo = record { is_name = record { some = lit< tt; most = lit≤ tt; letters = (refl, (refl, (refl, tt))) }; other = not-foo }
@@ -82,7 +83,7 @@ pub push-of-no-module-is-spelled : IsSpelled (Call Slave (Push None)) (codes "pu
 push-of-no-module-is-spelled = (words.Push, codes "push", codes " s foo", refl, (Slave, codes "s", codes " foo", refl, (None, codes "foo", foo, refl, refl), refl), refl)
 
 pub name-of-a-module-is-known : IsUnknown (codes "ptem") → ⊥
-name-of-a-module-is-known is = is.other modules.Ptem refl
+name-of-a-module-is-known is = is.other modules.Ptem refl refl
 
 pub nine-letters-are-no-name : IsName (codes "abcdefghi") → ⊥
 nine-letters-are-no-name is = let most = is.most in omega arith

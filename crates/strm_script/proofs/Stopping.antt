@@ -15,6 +15,7 @@ use Rattle.strm_types.specs.Input.{input_begins, is_data, passes, stages, stages
 use Rattle.strm_types.specs.Ldterms as ldterms
 use Rattle.strm_types.specs.ModuleQueues.{at_place}
 use Rattle.strm_types.specs.Standings.{messages_at, stood}
+use Rattle.strm_laws.proofs.NoOwn.{none as no_own}
 use Rattle.strm_laws.specs.ModuleTurns.{Calls, again_at, asked_turn, calls, made_below, moved_by, moved_on, moved_within, turned_named, turned_there, waits_there, whole_module}
 use Rattle.strm_types.specs.OutputTurns.{output_serves}
 use Rattle.strm_laws.specs.Past.{has_room_past}
@@ -66,7 +67,7 @@ module _ (side : Side) (at : ℕ) where
   ends-where true one another once ended = absurd cc
   ends-where false one another once ended = ended
 
-  ends-at-once : (way : Way) (s : State ℕ) → (calls plain (there way) (3 * 0 + 1) false 0 s).ended ≡ true
+  ends-at-once : (way : Way) (s : State ℕ) → (calls no_own plain (there way) (3 * 0 + 1) false 0 s).ended ≡ true
   ends-at-once way s =
       ends-where (again_at plain (there way) (made_below side s) false 0 (stream side s).modules) _ _
       (none-among (λ p. (module_serves plain (there way) (made_below side s) false (Some 0) p).again) (serves-once way (made_below side s)) (at - 1) (stream side s).modules) refl
@@ -76,8 +77,8 @@ module _ (side : Side) (at : ℕ) where
   moves-where false one another ended = absurd cc
 
   -- so it moved, if no bytes
-  moves-none : (way : Way) (name : QueueName) (s : State ℕ) → (moved_on plain (there way) name 0 s).turn ≡ Moved (calls plain (there way) (3 * 0 + 1) false 0 s).bytes
-  moves-none way name s = moves-where (calls plain (there way) (3 * 0 + 1) false 0 s).ended _ _ (ends-at-once way s)
+  moves-none : (way : Way) (name : QueueName) (s : State ℕ) → (moved_on no_own plain (there way) name 0 s).turn ≡ Moved (calls no_own plain (there way) (3 * 0 + 1) false 0 s).bytes
+  moves-none way name s = moves-where (calls no_own plain (there way) (3 * 0 + 1) false 0 s).ended _ _ (ends-at-once way s)
 
 -- an outcome that isn't told as one that moved
 abbrev Stays : TurnOutcome ℕ → Type 0
@@ -89,28 +90,31 @@ stays-where false one another other same stays = refl
 
 -- such a turn of a module's queue asked for what holds it back, or found nothing
 module _ (name : QueueName) (turn another : Turn) (s : State ℕ) (none : moved_by turn ≡ 0) where
-  not-within : (at : ℕ) → Stays (moved_within plain (there name.side at name.way) name turn s) → ⊥
+  not-within : (at : ℕ) → Stays (moved_within no_own plain (there name.side at name.way) name turn s) → ⊥
   not-within at stays =
       let here = there name.side at name.way in
       let first = at_place (λ p. first_size (messages_at name.way p)) 0 at (stream name.side s).modules in
       let least : min (moved_by turn) first ≡ 0 = omega (arith, none) in
-      stays _ (ap (λ (n : ℕ). (moved_on plain here name n s).turn) least ∙ moves-none name.side at name.way name s)
+      stays _ (ap (λ (n : ℕ). (moved_on no_own plain here name n s).turn) least ∙ moves-none name.side at name.way name s)
 
-  asked-same : (at : ℕ) (asks : Asks) → Stays (asked_turn plain (there name.side at name.way) asks name turn s)
-      → asked_turn plain (there name.side at name.way) asks name turn s ≡ asked_turn plain (there name.side at name.way) asks name another s
+  asked-same : (at : ℕ) (asks : Asks) → Stays (asked_turn no_own plain (there name.side at name.way) asks name turn s)
+      → asked_turn no_own plain (there name.side at name.way) asks name turn s
+      ≡ asked_turn no_own plain (there name.side at name.way) asks name another s
   asked-same at asked.Empty stays = refl
   asked-same at asked.Held stays = refl
   asked-same at asked.Free stays = absurd (not-within at stays)
   asked-same at (asked.Room band) stays =
       stays-where (has_room_past name.side name.way at band.0 s) _ _ _ (λ stays. absurd (not-within at stays)) stays
 
-  named-same : (place : Option ℕ) → Stays (turned_named plain name turn s place) → turned_named plain name turn s place ≡ turned_named plain name another s place
+  named-same : (place : Option ℕ) → Stays (turned_named no_own plain name turn s place)
+      → turned_named no_own plain name turn s place ≡ turned_named no_own plain name another s place
   named-same None stays = refl
   named-same (Some at) stays =
       let ps = (stream name.side s).modules in
       stays-where (at_place module_rests false at ps) _ _ _ (asked-same at (at_place (module_asks name.way) asked.Empty at ps)) stays
 
-  stays-same : (place : Place) → Stays (turned_at plain place name turn s) → turned_at plain place name turn s ≡ turned_at plain place name another s
+  stays-same : (place : Place) → Stays (turned_at no_own plain place name turn s)
+      → turned_at no_own plain place name turn s ≡ turned_at no_own plain place name another s
   stays-same Head stays = refl
   stays-same Driver stays = refl
   stays-same (places.Module owner) stays = named-same (place_named name.place (stream name.side s).modules) stays
@@ -121,14 +125,14 @@ module _ (side : Side) (at : ℕ) (way : Way) (name : QueueName) (s : State ℕ)
   first_there = at_place (λ p. first_size (messages_at way p)) 0 at (stream side s).modules
 
   module _ (n m : ℕ) (same : min (max 1 n) first_there ≡ min (max 1 m) first_there) where
-    asked-alike : (asks : Asks) → asked_turn plain (there side at way) asks name (Moved n) s ≡ asked_turn plain (there side at way) asks name (Moved m) s
+    asked-alike : (asks : Asks) → asked_turn no_own plain (there side at way) asks name (Moved n) s ≡ asked_turn no_own plain (there side at way) asks name (Moved m) s
     asked-alike asked.Empty = refl
     asked-alike asked.Held = refl
-    asked-alike asked.Free = ap (λ (k : ℕ). moved_on plain (there side at way) name k s) same
+    asked-alike asked.Free = ap (λ (k : ℕ). moved_on no_own plain (there side at way) name k s) same
     asked-alike (asked.Room band) =
-        ap (λ (k : ℕ). cond (has_room_past side way at band.0 s) (moved_on plain (there side at way) name k s) (waits_there band.0 (there side at way) s)) same
+        ap (λ (k : ℕ). cond (has_room_past side way at band.0 s) (moved_on no_own plain (there side at way) name k s) (waits_there band.0 (there side at way) s)) same
 
-    there-alike : turned_there plain (there side at way) name (Moved n) s ≡ turned_there plain (there side at way) name (Moved m) s
+    there-alike : turned_there no_own plain (there side at way) name (Moved n) s ≡ turned_there no_own plain (there side at way) name (Moved m) s
     there-alike =
         let ps = (stream side s).modules in
         ap (λ (o : TurnOutcome ℕ). cond (at_place module_rests false at ps) o (stayed_put Blocked s)) (asked-alike (at_place (module_asks way) asked.Empty at ps))
@@ -148,14 +152,14 @@ goes-past zero size whole = omega (arith, whole)
 goes-past (suc n) size whole = omega (arith, whole)
 
 goes-whole : (owner : ModuleName) (side : Side) (way : Way) (n : ℕ) (s : State ℕ) (t : Stream ℕ) → (stream side s).modules ≡ t.modules → first_size (messages_named (places.Module owner) way t.modules) ≤ n
-    → turned_named plain (named owner side way) (whole_module (places.Module owner) way t) s (place_named (places.Module owner) t.modules) ≡ turned_named plain (named owner side way) (Moved n) s (place_named (places.Module owner) t.modules)
+    → turned_named no_own plain (named owner side way) (whole_module (places.Module owner) way t) s (place_named (places.Module owner) t.modules) ≡ turned_named no_own plain (named owner side way) (Moved n) s (place_named (places.Module owner) t.modules)
 goes-whole owner side way n s t is whole = by (place_named (places.Module owner) t.modules) refl
   where
     say : Standing ℕ → ℕ
     say p = first_size (messages_at way p)
 
     by : (found : Option ℕ) → place_named (places.Module owner) t.modules ≡ found
-        → turned_named plain (named owner side way) (whole_module (places.Module owner) way t) s (place_named (places.Module owner) t.modules) ≡ turned_named plain (named owner side way) (Moved n) s (place_named (places.Module owner) t.modules)
+        → turned_named no_own plain (named owner side way) (whole_module (places.Module owner) way t) s (place_named (places.Module owner) t.modules) ≡ turned_named no_own plain (named owner side way) (Moved n) s (place_named (places.Module owner) t.modules)
     by None none = rw none refl
     by (Some at) found =
         let fits = subst (λ o. first_size (at_found (messages_at way) [] t.modules o) ≤ n) found whole in
@@ -171,7 +175,7 @@ pub record Accounted (turn : Turn) (name : QueueName) (s : State ℕ) : Type 0 w
   pub supply : Supply
   pub enough : is_enough supply ≡ true
   pub told : told_of supply name s ≡ reach name.place (first_at name s) turn
-  pub goes : turned plain name (turn_to (reach name.place (first_at name s) turn) name s) s ≡ turned plain name turn s
+  pub goes : turned no_own plain name (turn_to (reach name.place (first_at name s) turn) name s) s ≡ turned no_own plain name turn s
 
 -- it stopped, or it didn't
 only-same : (n : ℕ) (b : Bool) → only n (cond b (Some n) None) ≡ cond b (Some n) None
@@ -188,7 +192,7 @@ past-end n size is = grind (arith, nat_tests)
 
 -- it went so far, or it goes as far as any
 goes-far : (owner : ModuleName) (side : Side) (way : Way) (n : ℕ) (s : State ℕ) → (b : Bool) → nat_lt n (first_at (named owner side way) s) ≡ b
-    → turned plain (named owner side way) (turn_to (cond b (Some n) None) (named owner side way) s) s ≡ turned plain (named owner side way) (Moved n) s
+    → turned no_own plain (named owner side way) (turn_to (cond b (Some n) None) (named owner side way) s) s ≡ turned no_own plain (named owner side way) (Moved n) s
 goes-far owner side way n s true is = refl
 goes-far owner Master way n s false is =
     goes-whole owner Master way n (record s { enabled = without (named owner Master way) s.enabled }) s.ends.master refl (past-end n _ is)
@@ -197,7 +201,7 @@ goes-far owner Slave way n s false is =
 
 goes-so : (n : ℕ) (side : Side) (place : Place) (way : Way) (s : State ℕ) →
     let name : QueueName = record { side = side; place = place; way = way } in
-    turned plain name (turn_to (reach place (first_at name s) (Moved n)) name s) s ≡ turned plain name (Moved n) s
+    turned no_own plain name (turn_to (reach place (first_at name s) (Moved n)) name s) s ≡ turned no_own plain name (Moved n) s
 goes-so n side Head way s = refl
 goes-so n side Driver way s = refl
 goes-so n side (places.Module owner) way s = goes-far owner side way n s (nat_lt n (first_at (named owner side way) s)) refl
@@ -213,17 +217,17 @@ idle-reach Driver size = refl
 idle-reach (places.Module owner) size = refl
 
 -- it moved nothing
-stayed : (turn : Turn) (name : QueueName) (s : State ℕ) → moved_by turn ≡ 0 → Stays (turned plain name turn s) → reach name.place (first_at name s) turn ≡ None → Accounted turn name s
+stayed : (turn : Turn) (name : QueueName) (s : State ℕ) → moved_by turn ≡ 0 → Stays (turned no_own plain name turn s) → reach name.place (first_at name s) turn ≡ None → Accounted turn name s
 stayed turn name s none stays reached = record {
   supply = Enough;
   enough = refl;
   told = sym reached;
   goes =
-      ap (λ told. turned plain name (turn_to told name s) s) reached
+      ap (λ told. turned no_own plain name (turn_to told name s) s) reached
       ∙ sym (stays-same name turn (whole_turn name s) (record s { enabled = without name s.enabled }) none name.place stays);
 }
 
-pub accounted : (turn : Turn) (name : QueueName) (s : State ℕ) → (turned plain name turn s).turn ≡ turn → Accounted turn name s
+pub accounted : (turn : Turn) (name : QueueName) (s : State ℕ) → (turned no_own plain name turn s).turn ≡ turn → Accounted turn name s
 accounted (Moved n) name s answered = record {
   supply = Within n;
   enough = refl;

@@ -17,6 +17,7 @@ use Rattle.strm_types.specs.declared.slots.Slot.TheVariants.{Free, Waiting, Answ
 use Rattle.strm_types.specs.Slots.{PlainSlot, unless_same, result_refusal}
 use Rattle.strm_types.specs.declared.events.Event.TheVariants as calls
 use Rattle.strm_types.specs.Needs.{needs}
+use Rattle.strm_laws.proofs.NoOwn.{none as no_own}
 use Rattle.strm_laws.specs.Refusals.{at_end, unfit}
 use Rattle.strm_script.specs.Script.{Command, Open, Call, Flush, Put, Get, Turn as TurnOf, Run, Show, Ledger, Cut, Group}
 use Rattle.strm_script.specs.ScriptReading.{Reading, Silent, Malformed, Spoken, reading}
@@ -107,7 +108,7 @@ answer-want asked (Waiting number command) = same-want number asked (Some Eagain
 answer-want asked (Answered number command acked error body) = same-want number asked None none-want
 
 -- a call that isn't held is refused as it doesn't fit
-unfit-want : (s : State ℕ) (caller : Caller) (asked : Request) → is_want (unfit s caller asked) ≡ false
+unfit-want : (s : State ℕ) (caller : Caller) (asked : Request) → is_want (unfit no_own s caller asked) ≡ false
 unfit-want s caller calls.OpenMaster = unless-want _ Einval refl
 unfit-want s caller calls.OpenSlave = or_else-want _ _ (unless-want _ Einval refl) (unless-want _ Eagain refl)
 unfit-want s caller (calls.Push name) = unless-want _ Einval refl
@@ -139,10 +140,10 @@ held-want (Some Writes) tostop group caller next h = by (is_background caller gr
     by true false true = refl
     by true false false = refl
 
-by_state-want : (s : State ℕ) (caller : Caller) (asked : Request) → is_want (refused_by_state s caller asked) ≡ false
+by_state-want : (s : State ℕ) (caller : Caller) (asked : Request) → is_want (refused_by_state no_own s caller asked) ≡ false
 by_state-want s caller asked =
     let h = (stream caller.side s).head in
-    held-want (needs asked).access h.tostop (foreground h.hung_up h.group) caller (unfit s caller asked) (unfit-want s caller asked)
+    held-want (needs asked).access h.tostop (foreground h.hung_up h.group) caller (unfit no_own s caller asked) (unfit-want s caller asked)
 
 pub call_happens-short : (o : Option Refusal) (p : PlainPair) (caller : Caller) (asked : Request) → (call_happens o p caller asked).is_short ≡ is_want o
 unfolding is_want

@@ -10,6 +10,8 @@ use Rattle.std.proofs.lemmas.List.{length-append}
 use Rattle.std.proofs.Math.Seq.{take-append_seam, drop-append_seam}
 use Rattle.std.specs.Prelude.{⊤, is_some}
 use Rattle.std.specs.List.{AllByRecursion, list_all, position_or_len}
+use Rattle.strm_types.specs.Names.{has_queues_at}
+use Rattle.strm_types.proofs.EnabledNames.{queues-ldterm}
 use Rattle.strm_types.specs.declared.names.ModuleName.TheVariants as modules
 use Rattle.strm_types.specs.declared.events.FlushQueues.TheVariants as queues
 use Rattle.strm_types.specs.declared.modes.Mode.TheVariants as modes
@@ -17,7 +19,7 @@ use Rattle.strm_script.specs.declared.commands.NamedPrio.{NamedPrio}
 use Rattle.strm_script.specs.declared.commands.NamedPrio.TheVariants as prios
 use Rattle.strm_script.specs.declared.commands.NamedWanted.{NamedWanted}
 use Rattle.strm_script.specs.declared.commands.NamedWanted.TheVariants as wanteds
-use Rattle.strm_script.specs.Script.{side_name, queue_name, direction_name, flags_name, flush_name, mode_name, module_name, digit_of, hex_of, is_letter, HasValue, IsNumber, IsNumberTo, IsPiece, Itself, Named, Coded, IsText, IsQuoted, IsPrio, IsWanted, IsPart, IsName, IsModule}
+use Rattle.strm_script.specs.Script.{side_name, queue_name, direction_name, flags_name, flush_name, mode_name, has_word, module_name, digit_of, hex_of, is_letter, HasValue, IsNumber, IsNumberTo, IsPiece, Itself, Named, Coded, IsText, IsQuoted, IsPrio, IsWanted, IsPart, IsName, IsModule}
 use Rattle.strm_script.specs.Named.{and_then, after, at_end, whole, is_whole, named}
 use Rattle.strm_script.specs.Table.{Kind, AVerb, AnIoctl, ASide, ANumber, AShort, AByte, AText, APart, APrio, AWanted, AQueue, ADirection, AModule, SomeQueues, AMode, Flags, Said, verbs, ioctl_names, IsWord}
 use Rattle.strm_script.specs.ScriptReading.{Front, is_space, within, number_in, number_to, text_in, quoted_len, token_len, token_in, split, prio_in, wanted_in, part_in, is_name, name_in, sides, module_names, flushed, mode_names, directions, flag_names, word_in}
@@ -56,6 +58,20 @@ named-passes test (row ∷ rows) word x all h =
       | inr e ↦ named-passes test rows word x parts.1 (sym (cond-false _ _ _ e) ∙ h)
     ]
 
+-- and what rows name passes one, if all that they name does
+named-holds : {A : Type 0} (test : A → Bool) (rows : List (List ℕ × A)) (word : List ℕ) (x : A)
+    → list_all (λ (row : List ℕ × A). test row.1) rows ≡ true → named rows word ≡ Some x → test x ≡ true
+named-holds test [] word x all h = absurd cc
+named-holds test (row ∷ rows) word x all h =
+    let parts = and_parts _ _ all in
+    elim (cases_Bool (is_whole row.0 word)) [
+      | inl e ↦
+          let some : Some row.1 ≡ Some x = sym (cond-true _ _ _ e) ∙ h in
+          let same : row.1 ≡ x = cc in
+          subst (λ y. test y ≡ true) same parts.0
+      | inr e ↦ named-holds test rows word x parts.1 (sym (cond-false _ _ _ e) ∙ h)
+    ]
+
 -- names of modules
 letters-found : (line : List ℕ) → list_all is_letter line ≡ true → AllByRecursion (λ b. is_letter b ≡ true) line
 letters-found [] h = tt
@@ -76,21 +92,26 @@ is_name-only : (line : List ℕ) → IsName line → is_name line ≡ true
 unfolding is_name
 is_name-only line h = rw (lt-ltb 0 (length line) h.some, le-leb (length line) 8 h.most, letters-only line h.letters) refl
 
-module-found : (word : List ℕ) (known : ModuleName) → named module_names word ≡ Some known → word ≡ module_name known
-module-found word known h = named-found module_name module_names word known (refl, (refl, (refl, tt))) h
+module-found : (word : List ℕ) (known : ModuleName) → named module_names word ≡ Some known → IsModule (Some known) word
+module-found word known h =
+    (named-found module_name module_names word known (refl, (refl, (refl, tt))) h, named-holds has_word module_names word known refl h)
 
-module-only : (known : ModuleName) → (is_name (module_name known) ≡ true) × (named module_names (module_name known) ≡ Some known)
+module-only : (known : ModuleName) → has_word known ≡ true
+    → (is_name (module_name known) ≡ true) × (named module_names (module_name known) ≡ Some known)
 unfolding is_name
-module-only modules.Ldterm = (refl, refl)
-module-only modules.Ptem = (refl, refl)
-module-only modules.Pckt = (refl, refl)
+module-only modules.Ldterm has = (refl, refl)
+module-only modules.Ptem has = (refl, refl)
+module-only modules.Pckt has = (refl, refl)
+module-only (modules.Own n) has = absurd cc
 
-module-none : (line : List ℕ) → named module_names line ≡ None → (known : ModuleName) → line ≢ module_name known
-module-none line h known e = let no : None ≡ Some known = sym h ∙ ap (named module_names) e ∙ (module-only known).1 in absurd cc
+module-none : (line : List ℕ) → named module_names line ≡ None → (known : ModuleName) → has_word known ≡ true → line ≢ module_name known
+module-none line h known has e =
+    let no : None ≡ Some known = sym h ∙ ap (named module_names) e ∙ (module-only known has).1 in absurd cc
 
-unknown-at : (line : List ℕ) (o : Option ModuleName) → named module_names line ≡ o → ((known : ModuleName) → line ≢ module_name known) → o ≡ None
+unknown-at : (line : List ℕ) (o : Option ModuleName) → named module_names line ≡ o
+    → ((known : ModuleName) → has_word known ≡ true → line ≢ module_name known) → o ≡ None
 unknown-at line None h other = refl
-unknown-at line (Some known) h other = absurd (other known (module-found line known h))
+unknown-at line (Some known) h other = let found = module-found line known h in absurd (other known found.1 found.0)
 
 named_so : (word : List ℕ) (o : Option ModuleName) → named module_names word ≡ o → IsName word → IsModule o word
 named_so word None e is = record { is_name = is; other = module-none word e }
@@ -106,7 +127,7 @@ name-found word o h = elim (cases_Bool (is_name word)) [
 ]
 
 name-only : (o : Option ModuleName) (word : List ℕ) → IsModule o word → name_in word ≡ Some o
-name-only (Some known) word h = rw (h, (module-only known).0, (module-only known).1) refl
+name-only (Some known) word h = let only = module-only known h.1 in rw (h.0, only.0, only.1) refl
 name-only None word is = rw (is_name-only word is.is_name, unknown-at word (named module_names word) refl is.other) refl
 
 -- numbers up to a limit
@@ -268,42 +289,36 @@ letters-plain (b ∷ word) h =
     let low = leb-true 97 b (and_parts _ _ h.0).0 in
     rw (ne_eqb b 32 (λ e. omega (arith, e)), ne_eqb b 34 (λ e. omega (arith, e)), letters-plain word h.1) refl
 
-known-plain : (known : ModuleName) → list_all is_plain (module_name known) ≡ true
-known-plain modules.Ldterm = refl
-known-plain modules.Ptem = refl
-known-plain modules.Pckt = refl
+known-plain : (known : ModuleName) → has_word known ≡ true → list_all is_plain (module_name known) ≡ true
+known-plain modules.Ldterm has = refl
+known-plain modules.Ptem has = refl
+known-plain modules.Pckt has = refl
+known-plain (modules.Own n) has = absurd cc
 
 name-plain : (o : Option ModuleName) (word : List ℕ) → IsModule o word → list_all is_plain word ≡ true
-name-plain (Some known) word h = ap (list_all is_plain) h ∙ known-plain known
+name-plain (Some known) word h = ap (list_all is_plain) h.0 ∙ known-plain known h.1
 name-plain None word is = letters-plain word is.is_name.letters
 
-module-plain : (side : Side) (name : ModuleName) (way : Way) → list_all is_plain (queue_name (record { side = side; place = places.Module name; way = way })) ≡ true
-module-plain Master modules.Ldterm Up = refl
-module-plain Master modules.Ldterm Down = refl
-module-plain Master modules.Ptem Up = refl
-module-plain Master modules.Ptem Down = refl
-module-plain Master modules.Pckt Up = refl
-module-plain Master modules.Pckt Down = refl
-module-plain Slave modules.Ldterm Up = refl
-module-plain Slave modules.Ldterm Down = refl
-module-plain Slave modules.Ptem Up = refl
-module-plain Slave modules.Ptem Down = refl
-module-plain Slave modules.Pckt Up = refl
-module-plain Slave modules.Pckt Down = refl
+ldterm-plain : (side : Side) (way : Way)
+    → list_all is_plain (queue_name (record { side = side; place = places.Module modules.Ldterm; way = way })) ≡ true
+ldterm-plain Master Up = refl
+ldterm-plain Master Down = refl
+ldterm-plain Slave Up = refl
+ldterm-plain Slave Down = refl
 
-place-plain : (side : Side) (place : Place) (way : Way) → list_all is_plain (queue_name (record { side = side; place = place; way = way })) ≡ true
-place-plain Master Head Up = refl
-place-plain Master Head Down = refl
-place-plain Master (places.Module name) Up = module-plain Master name Up
-place-plain Master (places.Module name) Down = module-plain Master name Down
-place-plain Master Driver Up = refl
-place-plain Master Driver Down = refl
-place-plain Slave Head Up = refl
-place-plain Slave Head Down = refl
-place-plain Slave (places.Module name) Up = module-plain Slave name Up
-place-plain Slave (places.Module name) Down = module-plain Slave name Down
-place-plain Slave Driver Up = refl
-place-plain Slave Driver Down = refl
+place-plain : (side : Side) (place : Place) (way : Way) → has_queues_at place ≡ true
+    → list_all is_plain (queue_name (record { side = side; place = place; way = way })) ≡ true
+place-plain Master Head Up has = refl
+place-plain Master Head Down has = refl
+place-plain Master Driver Up has = refl
+place-plain Master Driver Down has = refl
+place-plain Slave Head Up has = refl
+place-plain Slave Head Down has = refl
+place-plain Slave Driver Up has = refl
+place-plain Slave Driver Down has = refl
+place-plain side (places.Module name) way has =
+    subst (λ n. list_all is_plain (queue_name (record { side = side; place = places.Module n; way = way })) ≡ true) (sym (queues-ldterm name has))
+    (ldterm-plain side way)
 
 prio-plain : (prio : NamedPrio) (word : List ℕ) → IsPrio prio word → list_all is_plain word ≡ true
 prio-plain prios.High word h = ap (list_all is_plain) h
@@ -403,7 +418,7 @@ word-only AText text word is = record { read = quoted-only text word is; ends = 
 word-only APart part word is = record { read = part-only part word is; ends = λ more e. part-ends part word more is e }
 word-only APrio prio word is = plain APrio prio word (prio-only prio word is) (prio-plain prio word is)
 word-only AWanted wanted word is = plain AWanted wanted word (wanted-only wanted word is) (wanted-plain wanted word is)
-word-only AQueue name word is = plainly AQueue name (queue_name name) word is.0 (queue-only name is.1, place-plain name.side name.place name.way)
+word-only AQueue name word is = plainly AQueue name (queue_name name) word is.0 (queue-only name is.1, place-plain name.side name.place name.way is.1)
 word-only ADirection direction word e = plainly ADirection direction (direction_name direction) word e (direction-only direction)
 word-only AModule known word is = plain AModule known word (name-only known word is) (name-plain known word is)
 word-only SomeQueues what word e = plainly SomeQueues what (flush_name what) word e (queues-only what)

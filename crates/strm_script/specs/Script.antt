@@ -1,6 +1,7 @@
 -- The commands of a script, and how each is spelled: one command a line, words parted by one space.
 use Rattle.std.specs.Prelude.{◌≡◌, ◌≢◌, ℕ, ◌≤◌, ◌<◌, ◌+◌, ◌-◌, ◌*◌, nat_le, ◌==◌, ◌&&◌, Bool, true, false, if◌then◌else◌, List, [], ◌∷◌, ◌++◌, length, codes, Option, None, Some}
 use Rattle.std.specs.Int.{w16, w32, to_be_bytes}
+use Rattle.std.specs.Fmt.{decimal}
 use Rattle.std.specs.List.{AllByRecursion}
 use Rattle.strm_script.specs.Prelude.{Caller, Dir, MasterToSlave, SlaveToMaster, Side, Master, Slave, Way, Up, Down, Place, Head, Driver}
 use Rattle.strm_script.specs.Prelude.{QueueName, ModuleName, FlushQueues, Mode, ByteStream, MessageKeep, MessageDiscard, Refuse, Data, Discard}
@@ -41,11 +42,17 @@ abbrev pub side_name : Side → List ℕ
 side_name Master = codes "m"
 side_name Slave = codes "s"
 
--- the name of a module
+-- the name of a module: one of a user's own has its number
 abbrev pub module_name : ModuleName → List ℕ
 module_name modules.Ldterm = codes "ldterm"
 module_name modules.Ptem = codes "ptem"
 module_name modules.Pckt = codes "pckt"
+module_name (modules.Own n) = decimal (16 + n)
+
+-- whether scripts have a word for a module: for none of a user's own
+abbrev pub has_word : ModuleName → Bool
+has_word (modules.Own n) = false
+has_word _ = true
 
 abbrev pub place_name : Place → List ℕ
 place_name Head = codes "head"
@@ -124,7 +131,7 @@ pub record IsName (name : List ℕ) : Type 0 where
 -- a name that no module has
 pub record IsUnknown (name : List ℕ) : Type 0 where
   pub is_name : IsName name
-  pub other : (known : ModuleName) → name ≢ module_name known
+  pub other : (known : ModuleName) → has_word known ≡ true → name ≢ module_name known
 
 -- the value of a hexadecimal digit, in either case
 unfoldable pub hex_of : ℕ → Option ℕ
@@ -174,9 +181,9 @@ abbrev pub IsPart : Option (List ℕ) → List ℕ → Type 0
 IsPart None word = word ≡ codes "-"
 IsPart (Some text) word = IsQuoted text word
 
--- the name of a module, or a name that no module has
+-- the name of a module for which there is a word, or a name that no module has
 abbrev pub IsModule : Option ModuleName → List ℕ → Type 0
-IsModule (Some known) word = word ≡ module_name known
+IsModule (Some known) word = (word ≡ module_name known) × (has_word known ≡ true)
 IsModule None word = IsUnknown word
 
 -- a number up to a limit

@@ -8,6 +8,7 @@ use Rattle.strm_script.specs.Prelude.{refused, turn_refused, blocks_asked}
 use Rattle.strm_types.specs.declared.names.ModuleName.TheVariants as modules
 use Rattle.strm_types.specs.declared.names.Place.TheVariants as places
 use Rattle.strm_types.specs.declared.limits.Config.{Config}
+use Rattle.strm_laws.proofs.NoOwn.{none as no_own}
 use Rattle.strm_laws.specs.Ledgers.{ledger_of}
 use Rattle.strm_types.specs.Both.{set}
 use Rattle.strm_types.specs.JobControl.{caller_of}
@@ -83,7 +84,7 @@ is_enosr _ = false
 -- why a call or a turn is refused, with this supply of blocks; a call that asks for none has enough
 abbrev pub call_refusal : Supply → PlainPair → Caller → Request → Option Refusal
 call_refusal supply p caller asked =
-    refused p.state p.journal p.limits (is_enough supply || (blocks_asked asked == 0)) caller asked
+    refused no_own p.state p.journal p.limits (is_enough supply || (blocks_asked asked == 0)) caller asked
 
 abbrev pub turn_refusal : Supply → PlainPair → QueueName → Option Refusal
 turn_refusal supply p name = turn_refused p.state p.journal p.limits (is_enough supply) name
@@ -96,7 +97,7 @@ stepped p entry state gone = record p { state = state; journal = p.journal ++ en
 abbrev pub call_happens : Option Refusal → PlainPair → Caller → Request → Happened (Reply)
 call_happens (Some refusal) p caller asked = record { answer = Err refusal; pair = p; is_short = is_enosr refusal }
 call_happens None p caller asked =
-    let outcome = called plain caller asked p.state in
+    let outcome = called no_own plain caller asked p.state in
     record { answer = Ok outcome.answer; pair = stepped p (Called caller asked outcome.answer) outcome.state outcome.gone; is_short = false }
 
 -- a call
@@ -121,7 +122,7 @@ only bytes (Some n) = if n == bytes then Some n else None
 -- the end of its message.
 abbrev pub told_of : Supply → QueueName → State ℕ → Option ℕ
 told_of Enough name s = None
-told_of (Within bytes) name s = only bytes (reach name.place (first_at name s) (turned plain name (Moved bytes) s).turn)
+told_of (Within bytes) name s = only bytes (reach name.place (first_at name s) (turned no_own plain name (Moved bytes) s).turn)
 told_of TooFew name s = None
 
 -- the answer of a turn that goes as far as is told of it, and else to the end of its message
@@ -133,7 +134,7 @@ turn_to (Some bytes) name s = Moved bytes
 abbrev pub turn_happens : Option Refusal → Option ℕ → PlainPair → QueueName → Happened Turn
 turn_happens (Some refusal) told p name = record { answer = Err refusal; pair = p; is_short = is_enosr refusal }
 turn_happens None told p name =
-    let outcome = turned plain name (turn_to told name p.state) p.state in
+    let outcome = turned no_own plain name (turn_to told name p.state) p.state in
     record { answer = Ok outcome.turn; pair = stepped p (Turned name outcome.turn) outcome.state outcome.gone; is_short = is_some told }
 
 -- a turn of a queue

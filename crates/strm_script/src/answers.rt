@@ -180,14 +180,23 @@ fn name(refusal: Refusal) -> &'static str
     }
 }
 
-/// The name of a module.
-fn module_name(known: ModuleName) -> &'static str
-    ensures { result.now ≡ module_name known }
-{
-    match known {
-        ModuleName::Ldterm => "ldterm",
-        ModuleName::Ptem => "ptem",
-        ModuleName::Pckt => "pckt",
+/// The name of a module, as it is printed: one of a user's own has its number.
+#[derive(Drop)]
+struct ShownModule(ModuleName);
+
+impl fmt::Display for ShownModule {
+    ghost output = { λ m. Some (module_name m.0) };
+
+    fn fmt<W: fmt::Write>(&self, f: &mut fmt::Formatter<W>) -> fmt::Result {
+        match self.0 {
+            ModuleName::Ldterm => write!(f, "ldterm"),
+            ModuleName::Ptem => write!(f, "ptem"),
+            ModuleName::Pckt => write!(f, "pckt"),
+            ModuleName::Own(number) => {
+                let number = 16 + u32::from(number);
+                write!(f, "{number}")
+            }
+        }
     }
 }
 
@@ -201,14 +210,22 @@ fn side_name(side: Side) -> &'static str
     }
 }
 
-/// The name of what a queue belongs to.
-fn place_name(place: Place) -> &'static str
-    ensures { result.now ≡ place_name place }
-{
-    match place {
-        Place::Head => "head",
-        Place::Module(name) => module_name(name),
-        Place::Driver => "drv",
+/// The name of what a queue belongs to, as it is printed.
+#[derive(Drop)]
+struct ShownPlace(Place);
+
+impl fmt::Display for ShownPlace {
+    ghost output = { λ p. Some (place_name p.0) };
+
+    fn fmt<W: fmt::Write>(&self, f: &mut fmt::Formatter<W>) -> fmt::Result {
+        match self.0 {
+            Place::Head => write!(f, "head"),
+            Place::Module(name) => {
+                let module = ShownModule(name);
+                write!(f, "{module}")
+            }
+            Place::Driver => write!(f, "drv"),
+        }
     }
 }
 
@@ -226,7 +243,7 @@ impl fmt::Display for QueueSize {
     ghost output = { λ size. Some (size_text size) };
 
     fn fmt<W: fmt::Write>(&self, f: &mut fmt::Formatter<W>) -> fmt::Result {
-        let place = place_name(self.name.place);
+        let place = ShownPlace(self.name.place);
         let way = way_name(self.name.way);
         let messages = self.messages;
         let bytes = self.bytes;
@@ -394,7 +411,7 @@ impl fmt::Display for ShownAnswer<'_> {
         match self.answer {
             Answer::Done => write!(f, "ok"),
             Answer::Name(module) => {
-                let module = module_name(*module);
+                let module = ShownModule(*module);
                 write!(f, "name {module}")
             }
             Answer::Count(n) => write!(f, "ok {n}"),

@@ -17,6 +17,7 @@ use Rattle.strm_types.specs.declared.names.Side.TheVariants.{Master, Slave}
 use Rattle.strm_types.specs.declared.names.Way.TheVariants.{Down}
 use Rattle.strm_types.specs.declared.signals.StopSignal.{StopSignal}
 use Rattle.strm_types.specs.Events.{Reply, Request}
+use Rattle.strm_laws.proofs.NoOwn.{none as no_own}
 use Rattle.strm_laws.specs.Calls.{Outcome, called, group_at, ioctl_at, ioctl_begun, ioctl_sent, message_put, performed, put_at, write_sent}
 use Rattle.strm_laws.specs.Closes.{closed_at}
 use Rattle.strm_types.specs.Cells.{Cells, bytes_of, cells_written}
@@ -82,18 +83,18 @@ module _ {C : Type 0} (dir : Dir) where
         ∙ (ap (λ n. n + length (part (option_map (bytes_of cells) g.body))) (part-long g.control) ∙ (ap (λ n. length (part g.control) + n) (part-long g.body) ∙ sym (length-append (part g.control) (part g.body))))
 
     -- the chunks of a write
-    chunks-unread : (side : Side) (chunks : List (List C)) (s : State C) → reads dir (chunks_sent cells side chunks s).gone ≡ 0
+    chunks-unread : (side : Side) (chunks : List (List C)) (s : State C) → reads dir (chunks_sent no_own cells side chunks s).gone ≡ 0
     chunks-unread side [] s = refl
     chunks-unread side (chunk ∷ chunks) s =
-        let t = delivered cells (below_head side) (data_message chunk) s in
-        let more = chunks_sent cells side chunks t.state in
+        let t = delivered no_own cells (below_head side) (data_message chunk) s in
+        let more = chunks_sent no_own cells side chunks t.state in
         either (is_full_below 0 side s) _ _ refl (none-both dir t.gone more.gone (delivered-unread dir cells (below_head side) (data_message chunk) s) (chunks-unread side chunks t.state))
       where
         either : (full : Bool) (one another : Wrote C) → reads dir one.gone ≡ 0 → reads dir another.gone ≡ 0 → reads dir (cond full one another).gone ≡ 0
         either true one another first second = first
         either false one another first second = second
 
-    put-unread : (side : Side) (prio : Rattle.strm_types.specs.declared.modes.Prio.Prio) (c b : Option (List ℕ)) (s : State C) → reads dir (put_at cells side prio c b s).gone ≡ 0
+    put-unread : (side : Side) (prio : Rattle.strm_types.specs.declared.modes.Prio.Prio) (c b : Option (List ℕ)) (s : State C) → reads dir (put_at no_own cells side prio c b s).gone ≡ 0
     put-unread side prio None None s = refl
     put-unread side prio None (Some ys) s = delivered-unread dir cells (record { side = side; at = 1; way = Down }) (message_put cells side prio None (Some ys) s) s
     put-unread side prio (Some xs) b s = delivered-unread dir cells (record { side = side; at = 1; way = Down }) (message_put cells side prio (Some xs) b s) s
@@ -107,7 +108,7 @@ module _ {C : Type 0} (dir : Dir) where
       quiet caller told none = none ∙ sym (only-none dir (direction_of (head_of caller.side)))
 
       -- a call that is carried out
-      performed-read : (caller : Caller) (asked : Request) → Reads caller asked (performed cells caller asked s)
+      performed-read : (caller : Caller) (asked : Request) → Reads caller asked (performed no_own cells caller asked s)
       performed-read caller (Read n) =
           let d = direction_of (head_of caller.side) in
           let h = (stream caller.side s).head in
@@ -120,19 +121,19 @@ module _ {C : Type 0} (dir : Dir) where
       performed-read caller (Write bytes) =
           let d = direction_from caller.side in
           let xs = cells_written cells d (book d s).written bytes in
-          quiet caller (write_sent cells caller.side bytes s).gone (chunks-unread caller.side (chunks_of (chunk_count (length xs)) xs) s)
-      performed-read caller (Put prio control body) = quiet caller (put_at cells caller.side prio control body s).gone (put-unread caller.side prio control body s)
+          quiet caller (write_sent no_own cells caller.side bytes s).gone (chunks-unread caller.side (chunks_of (chunk_count (length xs)) xs) s)
+      performed-read caller (Put prio control body) = quiet caller (put_at no_own cells caller.side prio control body s).gone (put-unread caller.side prio control body s)
       performed-read caller (Flush what band) =
-          quiet caller (flushed_on cells band caller.side what s).gone (delivered-unread dir cells (record { side = caller.side; at = 1; way = Down }) (flush_message (flush_bytes (asked_of what band))) s)
+          quiet caller (flushed_on no_own cells band caller.side what s).gone (delivered-unread dir cells (record { side = caller.side; at = 1; way = Down }) (flush_message (flush_bytes (asked_of what band))) s)
       performed-read caller (Ioctl command body) = at (asks_group caller.side command)
         where
-          at : (group : Bool) → Reads caller (Ioctl command body) (cond group (group_at caller.side command body s) (ioctl_at cells caller.side command body s))
+          at : (group : Bool) → Reads caller (Ioctl command body) (cond group (group_at caller.side command body s) (ioctl_at no_own cells caller.side command body s))
           at true = quiet caller [] refl
           at false =
-              quiet caller (ioctl_sent cells caller.side command body s).gone
+              quiet caller (ioctl_sent no_own cells caller.side command body s).gone
               (delivered-unread dir cells (record { side = caller.side; at = 1; way = Down }) (ioctl_message (asking command s.next_ioctl) body) (ioctl_begun caller.side command s))
       performed-read caller Shut = quiet caller (closed_at caller.side s).gone (close-unread dir cells caller.side s)
-      performed-read caller (Push name) = quiet caller (pushed_named caller.side (named_by name) s).gone (push-unread dir cells caller.side (named_by name) s)
+      performed-read caller (Push name) = quiet caller (pushed_named caller.side (named_by no_own name) s).gone (push-unread dir cells caller.side (named_by no_own name) s)
       performed-read caller Pop = quiet caller (popped caller.side s).gone (pop-unread dir cells caller.side s)
       performed-read caller _ = quiet caller [] refl
 
@@ -143,9 +144,9 @@ module _ {C : Type 0} (dir : Dir) where
       none-read _ signal = refl
 
       -- a call
-      pub call-read : (caller : Caller) (asked : Request) → Reads caller asked (called cells caller asked s)
+      pub call-read : (caller : Caller) (asked : Request) → Reads caller asked (called no_own cells caller asked s)
       call-read caller asked =
-          of-called cells caller asked s (Reads caller asked)
+          of-called no_own cells caller asked s (Reads caller asked)
           (λ signal. sym (only-none dir (direction_of (head_of caller.side))) ∙ ap (λ n. only_in dir (direction_of (head_of caller.side)) n) (sym (none-read asked signal)))
           (performed-read caller asked)
 
@@ -156,7 +157,7 @@ module _ {C : Type 0} (dir : Dir) where
       received-by SlaveToMaster Slave n = refl
 
       -- a step
-      pub step-read : (entry : PlainEntry) (t : State C) → Step cells s entry t → reads dir (gone cells s entry) ≡ read_in dir entry
+      pub step-read : (entry : PlainEntry) (t : State C) → Step no_own cells s entry t → reads dir (gone no_own cells s entry) ≡ read_in dir entry
       step-read (Called caller asked answer) t step =
           call-read caller asked ∙ ap (λ (r : Reply). only_in dir (direction_of (head_of caller.side)) (read_by asked r)) step.answered
           ∙ received-by dir caller.side (read_by asked answer)

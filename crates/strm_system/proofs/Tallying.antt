@@ -15,6 +15,7 @@ use Rattle.strm_types.specs.Events.{Reply, Request}
 use Rattle.strm_types.specs.Journal.{PlainEntry}
 use Rattle.strm_types.specs.Names.{direction_of, head_of}
 use Rattle.strm_types.specs.Rules.{fates_of}
+use Rattle.strm_laws.proofs.NoOwn.{none as no_own}
 use Rattle.strm_laws.specs.Calls.{called, performed}
 use Rattle.strm_laws.specs.Kept.{gone}
 use Rattle.strm_laws.specs.Ledgers.{inline, queued}
@@ -67,43 +68,44 @@ module _ (caller : Caller) (answer : Reply) (s t : State ℕ) (f : Fates) where
   d = direction_of (head_of caller.side)
 
   -- who is stopped takes nothing
-  stopped-or : (asked : Request) → Takes caller.side s (performed plain caller asked s) → Takes caller.side s (called plain caller asked s)
-  stopped-or asked = of-called plain caller asked s (Takes caller.side s) (λ signal. (refl, omega arith))
+  stopped-or : (asked : Request) → Takes caller.side s (performed no_own plain caller asked s)
+      → Takes caller.side s (called no_own plain caller asked s)
+  stopped-or asked = of-called no_own plain caller asked s (Takes caller.side s) (λ signal. (refl, omega arith))
 
   -- a call that takes from the queues of the direction that its side reads
-  takes : (asked : Request) → let told = gone plain s (Called caller asked answer) in let u = (called plain caller asked s).state in
-      AreCounts f → AreCounts (tallied told f) → SameBooks s u → Takes caller.side s (called plain caller asked s)
+  takes : (asked : Request) → let told = gone no_own plain s (Called caller asked answer) in let u = (called no_own plain caller asked s).state in
+      AreCounts f → AreCounts (tallied told f) → SameBooks s u → Takes caller.side s (called no_own plain caller asked s)
       → Balance d s f → Balance d t (tallied told f) → u ≡ t → (dir : Dir) → Grows dir told f
   takes asked counts after same taken before behind leads dir =
-      let told = gone plain s (Called caller asked answer) in
-      let u = (called plain caller asked s).state in
+      let told = gone no_own plain s (Called caller asked answer) in
+      let u = (called no_own plain caller asked s).state in
       let now : Balance d u (tallied told f) = subst (λ (v : State ℕ). Balance d v (tallied told f)) (sym leads) behind in
       either-dir dir d (Grows dir told f)
       (λ is. subst (λ (e : Dir). Grows e told f) (sym is) (all-grow d told f (counts d).0 (after d).1 (full d s u f (tallied told f) told (books-are s u same d) taken.0 taken.1 before now)))
-      (λ apart. quiet dir told f counts (call-read dir plain s caller asked ∙ apart (read_by asked (called plain caller asked s).answer)))
+      (λ apart. quiet dir told f counts (call-read dir plain s caller asked ∙ apart (read_by asked (called no_own plain caller asked s).answer)))
 
   -- one that reads nothing
-  rests : (asked : Request) → read_by asked answer ≡ 0 → AreCounts f → Step plain s (Called caller asked answer) t → (dir : Dir) → Grows dir (gone plain s (Called caller asked answer)) f
+  rests : (asked : Request) → read_by asked answer ≡ 0 → AreCounts f → Step no_own plain s (Called caller asked answer) t → (dir : Dir) → Grows dir (gone no_own plain s (Called caller asked answer)) f
   rests asked none counts step dir =
       let is = step-read dir plain s (Called caller asked answer) t step in
-      quiet dir (gone plain s (Called caller asked answer)) f counts (is ∙ (ap (λ n. received_by caller.side dir n) none ∙ none-received dir caller.side))
+      quiet dir (gone no_own plain s (Called caller asked answer)) f counts (is ∙ (ap (λ n. received_by caller.side dir n) none ∙ none-received dir caller.side))
 
-  call-grows : (asked : Request) → let told = gone plain s (Called caller asked answer) in AreCounts f → AreCounts (tallied told f) → Balance d s f → Balance d t (tallied told f)
-      → Step plain s (Called caller asked answer) t → (dir : Dir) → Grows dir told f
+  call-grows : (asked : Request) → let told = gone no_own plain s (Called caller asked answer) in AreCounts f → AreCounts (tallied told f) → Balance d s f → Balance d t (tallied told f)
+      → Step no_own plain s (Called caller asked answer) t → (dir : Dir) → Grows dir told f
   call-grows (Read n) counts after before behind step dir =
-      takes (Read n) counts after (still-same plain caller (Read n) s refl) (stopped-or (Read n) (read-takes plain caller.side n s)) before behind step.leads dir
+      takes (Read n) counts after (still-same plain no_own caller (Read n) s refl) (stopped-or (Read n) (read-takes plain caller.side n s)) before behind step.leads dir
   call-grows (Get wanted cmax dmax) counts after before behind step dir =
-      takes (Get wanted cmax dmax) counts after (still-same plain caller (Get wanted cmax dmax) s refl) (stopped-or (Get wanted cmax dmax) (get-takes plain caller.side wanted cmax dmax s)) before behind step.leads dir
+      takes (Get wanted cmax dmax) counts after (still-same plain no_own caller (Get wanted cmax dmax) s refl) (stopped-or (Get wanted cmax dmax) (get-takes plain caller.side wanted cmax dmax s)) before behind step.leads dir
   call-grows asked counts after before behind step dir = rests asked refl counts step dir
 
-entry-grows : (p q : PairState) (e : PlainEntry) → IsKnown e p → IsKnown e q → AddsEntry p q e → (dir : Dir) → Grows dir (gone plain p.state e) p.fates
-entry-grows p q (Turned name turn) known after adds dir = quiet dir (gone plain p.state (Turned name turn)) p.fates known (step-read dir plain p.state (Turned name turn) q.state adds.step)
+entry-grows : (p q : PairState) (e : PlainEntry) → IsKnown e p → IsKnown e q → AddsEntry no_own p q e → (dir : Dir) → Grows dir (gone no_own plain p.state e) p.fates
+entry-grows p q (Turned name turn) known after adds dir = quiet dir (gone no_own plain p.state (Turned name turn)) p.fates known (step-read dir plain p.state (Turned name turn) q.state adds.step)
 entry-grows p q (Called caller asked answer) known after adds dir =
-    let told = gone plain p.state (Called caller asked answer) in
+    let told = gone no_own plain p.state (Called caller asked answer) in
     call-grows caller answer p.state q.state p.fates asked known.0 (subst AreCounts adds.fates after.0) known.1
     (subst (λ (f : Fates). Balance (direction_of (head_of caller.side)) q.state f) adds.fates after.1) adds.step dir
 
-pub adds-tally : (p q : PairState) (e : PlainEntry) → IsKnown e p → IsKnown e q → AddsEntry p q e → Tallies p q e
+pub adds-tally : (p q : PairState) (e : PlainEntry) → IsKnown e p → IsKnown e q → AddsEntry no_own p q e → Tallies p q e
 adds-tally p q e known after adds = record {
   written = λ dir. step-written plain dir p.state e q.state adds.step;
   read = λ dir.

@@ -21,6 +21,7 @@ use Rattle.strm_types.specs.declared.termios.Termios.{Termios}
 use Rattle.strm_types.specs.Cells.{Cells}
 use Rattle.strm_types.specs.Deliver.{Acted, Carried, Fate, Goes, Comes, Parcel, Took, carried, in_turn, onward}
 use Rattle.strm_types.specs.Drivers.{answered, crosses, driver_put, flush_down, freed, ioctl_put, own_flushed, put_across, put_down, taken_in}
+use Rattle.strm_laws.proofs.NoOwn.{none as no_own}
 use Rattle.strm_laws.specs.Earlier.{driver_place, modules_on}
 use Rattle.strm_types.specs.Flushing.{asked_by, flush_message, read_flush, is_bare_flush}
 use Rattle.strm_types.specs.Heads.{head_flushed, head_put, is_doubled, obeyed, passed_by, Head}
@@ -34,7 +35,7 @@ use Rattle.strm_laws.specs.Puts.{across_of, delivered, made_above, passed_up, pu
 use Rattle.strm_types.specs.Queue.{Queue}
 use Rattle.strm_types.specs.Rules.{number_of}
 use Rattle.strm_types.specs.Service.{line_gone}
-use Rattle.strm_laws.specs.Stacked.{Module, OfLdterm, OfPtem, OfPckt, Standing, module_puts}
+use Rattle.strm_laws.specs.Stacked.{Module, OfLdterm, OfPtem, OfPckt, OfOwn, Standing, module_puts}
 use Rattle.strm_laws.specs.State.{State, stream}
 use Rattle.strm_types.specs.TakenUp.{input_flushed, taken_up, termios_taken}
 use Rattle.strm_types.specs.Typing.{up_alone}
@@ -159,15 +160,17 @@ module _ {C : Type 0} (dir : Dir) where
 
   -- at any module
   module _ (cells : Cells C) where
-    module-unread : (made : ℕ) (here : Spot) (m : Message C) (q : Standing C) → Unread (module_puts cells made here m q)
+    module-unread : (made : ℕ) (here : Spot) (m : Message C) (q : Standing C) → Unread (module_puts no_own cells made here m q)
     module-unread made here m q = by q.part
       where
-        by : (part : Module C) → Unread (module_puts cells made here m (stood part q.queues))
+        by : (part : Module C) → Unread (module_puts no_own cells made here m (stood part q.queues))
         by (OfLdterm l) = ldterm-unread here m (disciplined l q.queues)
         by (OfPtem p) = ap (λ told. reads dir told) (of_ptem.puts-gone here m p)
         by (OfPckt p) = of_pckt.puts-each cells made here m (λ t. reads dir t.gone ≡ 0) refl (λ up is. refl)
+        by (OfOwn o) = refl
 
-    among-unread : (made i : ℕ) (here : Spot) (m : Message C) (ps : List (Standing C)) → Unread (put_among (module_puts cells made) i here m ps)
+    among-unread : (made i : ℕ) (here : Spot) (m : Message C) (ps : List (Standing C))
+        → Unread (put_among (module_puts no_own cells made) i here m ps)
     among-unread made i here m [] = refl
     among-unread made zero here m (q ∷ ps) = module-unread made here m q
     among-unread made (suc i) here m (q ∷ ps) = among-unread made i here m ps
@@ -190,10 +193,10 @@ module _ {C : Type 0} (dir : Dir) where
     behind Down here m s = at-driver here.side here m s
     behind Up here m s = either-took (is_bare_flush m && here.at == suc MODULES) (put_at_driver here.side here m s) (passed_up here m s) (at-driver here.side here m s) refl
 
-    puts-unread : (here : Spot) (m : Message C) (s : State C) → Quiet (put_in cells here m s)
+    puts-unread : (here : Spot) (m : Message C) (s : State C) → Quiet (put_in no_own cells here m s)
     puts-unread here m s =
-        either-took (here.at == 0) (put_at_head here.side here m s) (put_below cells here.way here m s) (at-head here.side here m s)
-        (either-took (nat_le here.at (modules_on here.side s)) (put_at_module cells here m s) (put_behind here.way here m s)
+        either-took (here.at == 0) (put_at_head here.side here m s) (put_below no_own cells here.way here m s) (at-head here.side here m s)
+        (either-took (nat_le here.at (modules_on here.side s)) (put_at_module no_own cells here m s) (put_behind here.way here m s)
         (among-unread (made_above here.side s) (here.at - 1) here m (stream here.side s).modules) (behind here.way here m s))
 
     -- and with all that it gives rise to
@@ -203,16 +206,17 @@ module _ {C : Type 0} (dir : Dir) where
         let t = carry q s in
         none-both t.gone (in_turn carry ps t.state).gone (each q s) (in_turn-unread carry each ps t.state)
 
-    carried-unread : (hops : ℕ) (q : Parcel C) (s : State C) → reads dir (carried (put_in cells) hops q s).gone ≡ 0
+    carried-unread : (hops : ℕ) (q : Parcel C) (s : State C) → reads dir (carried (put_in no_own cells) hops q s).gone ≡ 0
     unfolding carried
     carried-unread zero q s = refl
     carried-unread (suc hops) q s =
-        let t = put_in cells q.to q.message s in
-        let u = in_turn (carried (put_in cells) hops) t.sent t.state in
-        none-both t.gone u.gone (puts-unread q.to q.message s) (in_turn-unread (carried (put_in cells) hops) (carried-unread hops) t.sent t.state)
+        let t = put_in no_own cells q.to q.message s in
+        let u = in_turn (carried (put_in no_own cells) hops) t.sent t.state in
+        none-both t.gone u.gone (puts-unread q.to q.message s)
+        (in_turn-unread (carried (put_in no_own cells) hops) (carried-unread hops) t.sent t.state)
 
-    pub delivered-unread : (to : Spot) (m : Message C) (s : State C) → reads dir (delivered cells to m s).gone ≡ 0
+    pub delivered-unread : (to : Spot) (m : Message C) (s : State C) → reads dir (delivered no_own cells to m s).gone ≡ 0
     delivered-unread to m s = carried-unread HOPS (record { to = to; message = m }) s
 
-    pub sent-unread : (ps : List (Parcel C)) (s : State C) → reads dir (in_turn (carried (put_in cells) HOPS) ps s).gone ≡ 0
-    sent-unread ps s = in_turn-unread (carried (put_in cells) HOPS) (carried-unread HOPS) ps s
+    pub sent-unread : (ps : List (Parcel C)) (s : State C) → reads dir (in_turn (carried (put_in no_own cells) HOPS) ps s).gone ≡ 0
+    sent-unread ps s = in_turn-unread (carried (put_in no_own cells) HOPS) (carried-unread HOPS) ps s

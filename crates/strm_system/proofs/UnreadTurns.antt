@@ -25,6 +25,7 @@ use Rattle.strm_types.specs.declared.spots.Asks.TheVariants as asked
 use Rattle.strm_types.specs.declared.spots.Spot.{Spot}
 use Rattle.strm_types.specs.declared.termios.Termios.{Termios}
 use Rattle.strm_types.specs.Cells.{Cells, cells_made}
+use Rattle.strm_laws.proofs.NoOwn.{none as no_own}
 use Rattle.strm_laws.specs.Closes.{and_then, closed_at, driver_emptied, head_emptied, stream_emptied}
 use Rattle.strm_types.specs.Deliver.{Acted, Fate, carried, in_turn}
 use Rattle.strm_types.specs.Emptied.{cells_gone, of_all}
@@ -185,15 +186,15 @@ module _ {C : Type 0} (dir : Dir) (cells : Cells C) where
   acts-unread here made again left (suc i) (q ∷ ps) = acts-unread here made again left i ps
 
   module _ (here : Spot) where
-    calls-unread : (n : ℕ) (again : Bool) (left : ℕ) (s : State C) → reads dir (calls cells here n again left s).gone ≡ 0
+    calls-unread : (n : ℕ) (again : Bool) (left : ℕ) (s : State C) → reads dir (calls no_own cells here n again left s).gone ≡ 0
     calls-unread zero again left s = refl
     calls-unread (suc more) again left s =
         let ps = (stream here.side s).modules in
         let made = made_below here.side s in
         let t = module_called cells here again left s in
-        let u = in_turn (carried (put_in cells) HOPS) t.sent t.state in
+        let u = in_turn (carried (put_in no_own cells) HOPS) t.sent t.state in
         let less = left - bytes_at cells here made again left ps in
-        let v = calls cells here more true less u.state in
+        let v = calls no_own cells here more true less u.state in
         let out = none-both dir t.gone u.gone (acts-unread here made again left (here.at - 1) ps) (sent-unread dir cells t.sent t.state) in
         either-calls (again_at cells here made again left ps) _ _ (none-both dir (t.gone ++ u.gone) v.gone out (calls-unread more true less u.state)) out
       where
@@ -208,41 +209,41 @@ module _ {C : Type 0} (dir : Dir) (cells : Cells C) where
     either-turns true one another first second = first
     either-turns false one another first second = second
 
-    moved-unread : (name : QueueName) (bytes : ℕ) (s : State C) → Quiet (moved_on cells here name bytes s)
+    moved-unread : (name : QueueName) (bytes : ℕ) (s : State C) → Quiet (moved_on no_own cells here name bytes s)
     moved-unread name bytes s =
-        let t = calls cells here (3 * bytes + 1) false bytes s in
+        let t = calls no_own cells here (3 * bytes + 1) false bytes s in
         either-turns t.ended _ (stayed_put Blocked s) (calls-unread (3 * bytes + 1) false bytes s) refl
 
-    asked-unread : (asks : Asks) (name : QueueName) (turn : Turn) (s : State C) → Quiet (asked_turn cells here asks name turn s)
+    asked-unread : (asks : Asks) (name : QueueName) (turn : Turn) (s : State C) → Quiet (asked_turn no_own cells here asks name turn s)
     asked-unread asked.Empty name turn s = refl
     asked-unread asked.Held name turn s = refl
     asked-unread asked.Free name turn s = moved-unread name _ s
     asked-unread (asked.Room band) name turn s =
-        either-turns (has_room_past here.side here.way here.at band.0 s) (moved_within cells here name turn s) (waits_there band.0 here s) (moved-unread name _ s) refl
+        either-turns (has_room_past here.side here.way here.at band.0 s) (moved_within no_own cells here name turn s) (waits_there band.0 here s) (moved-unread name _ s) refl
 
-    there-unread : (name : QueueName) (turn : Turn) (s : State C) → Quiet (turned_there cells here name turn s)
+    there-unread : (name : QueueName) (turn : Turn) (s : State C) → Quiet (turned_there no_own cells here name turn s)
     there-unread name turn s =
         let ps = (stream here.side s).modules in
         let asks = at_place (module_asks here.way) asked.Empty here.at ps in
-        either-turns (at_place module_rests false here.at ps) (asked_turn cells here asks name turn s) (stayed_put Blocked s) (asked-unread asks name turn s) refl
+        either-turns (at_place module_rests false here.at ps) (asked_turn no_own cells here asks name turn s) (stayed_put Blocked s) (asked-unread asks name turn s) refl
 
-  module-turn : (name : QueueName) (turn : Turn) (s : State C) → reads dir (module_turned cells name turn s).gone ≡ 0
+  module-turn : (name : QueueName) (turn : Turn) (s : State C) → reads dir (module_turned no_own cells name turn s).gone ≡ 0
   module-turn name turn s = named (place_named name.place (stream name.side s).modules)
     where
-      named : (o : Option ℕ) → reads dir (turned_named cells name turn s o).gone ≡ 0
+      named : (o : Option ℕ) → reads dir (turned_named no_own cells name turn s o).gone ≡ 0
       named None = refl
       named (Some at) = there-unread (record { side = name.side; at = at; way = name.way }) name turn s
 
-  driver-turn : (side : Side) (ms : List (Message C)) (s : State C) → reads dir (driver_serves cells side ms s).gone ≡ 0
+  driver-turn : (side : Side) (ms : List (Message C)) (s : State C) → reads dir (driver_serves no_own cells side ms s).gone ≡ 0
   driver-turn side [] s = refl
   driver-turn side (m ∷ rest) s =
       any-holds (λ (t : TurnOutcome C). reads dir t.gone ≡ 0) (is_open (stream (other side) s).opened) (is_stopped_across side m s) _ _ _ refl refl
       (let from = with_driver side (left_with rest (stream side s).driver.queue) s in delivered-unread dir cells (up_across side from) m from)
 
-  pub turn-unread : (name : QueueName) (turn : Turn) (s : State C) → reads dir (turned cells name turn s).gone ≡ 0
+  pub turn-unread : (name : QueueName) (turn : Turn) (s : State C) → reads dir (turned no_own cells name turn s).gone ≡ 0
   turn-unread name turn s = at name.place (record s { enabled = without name s.enabled })
     where
-      at : (place : Place) (t : State C) → reads dir (turned_at cells place name turn t).gone ≡ 0
+      at : (place : Place) (t : State C) → reads dir (turned_at no_own cells place name turn t).gone ≡ 0
       at places.Driver t = driver-turn name.side (stream name.side t).driver.queue.messages t
       at places.Head t = refl
       at (places.Module owner) t = module-turn name turn t

@@ -302,12 +302,36 @@ const ALL_MODULES: [&[u8]; 16] = [
 ];
 
 // Modules behind a head of the slave, and whether an image stands there.
-const MODULES: [(&[u8], bool); 4] = [
+const MODULES: [(&[u8], bool); 9] = [
     (&[0, 0, 0, 0, 0, 1, 3], true),
     (&[0, 0, 0, 0, 0, 2, 3, 3], false),
     (&[0, 0, 0, 0, 0, 4, 3, 3, 3, 3], false),
-    (&[0, 0, 0, 0, 0, 1, 4], false),
+    (&[0, 0, 0, 0, 0, 1, 0], false),
+    (&[0, 0, 0, 0, 0, 1, 5], false),
+    (&[0, 0, 0, 0, 0, 1, 4, 7, 0, 2, 97, 255], true),
+    (&[0, 0, 0, 0, 0, 2, 4, 7, 0, 0, 4, 7, 0, 0], false),
+    (
+        &[0, 0, 0, 0, 0, 3, 4, 0, 0, 0, 4, 7, 0, 0, 4, 255, 0, 0],
+        true,
+    ),
+    (&[0, 0, 0, 0, 0, 3, 4, 0, 0, 0, 3, 4, 0, 0, 0], false),
 ];
+
+// A module of a user's own that is set to so many bytes, and whether an image stands there.
+const SET: [(usize, bool); 2] = [(512, true), (513, false)];
+
+// The front of a head with such a module.
+const OWN: [u8; 8] = [0, 0, 0, 0, 0, 1, 4, 7];
+
+fn has_settings(alloc: Global, length: usize) -> Result<bool, AllocError> {
+    let mut head = Vec::new(alloc);
+    head.extend_from_slice(&OWN)?;
+    head.extend_from_slice(&[(length / 256 % 256) as u8, (length % 256) as u8])?;
+    for _ in 0..length {
+        head.push(97)?;
+    }
+    has_head(alloc, head.as_slice())
+}
 
 // Columns and lines of an ldterm, how many bytes the master wrote, and whether an image stands there.
 const LINES: [(&[u8], u8, bool); 3] = [
@@ -321,6 +345,9 @@ fn modules(rt: HostRuntime) -> Result<(), Fail> {
     assert!(rt; is_image(rt.alloc(), &OPEN, &ALL_MODULES, [0, 0])?);
     for row in &MODULES {
         assert_eq!(rt; has_head(rt.alloc(), row.0)?, row.1);
+    }
+    for row in &SET {
+        assert_eq!(rt; has_settings(rt.alloc(), row.0)?, row.1);
     }
     for row in &LINES {
         assert_eq!(rt; has_line(rt.alloc(), row.0, row.1)?, row.2);

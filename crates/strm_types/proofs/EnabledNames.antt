@@ -1,6 +1,7 @@
 -- Lists of queue names in which each stands once.
 use Rattle.std.proofs.Common.{ℕ, ◌≡◌, ◌≤◌, ◌<◌, ◌+◌, Bool, true, false, cond, List, [], ◌∷◌, ◌++◌, length, get_or, take, append-nil, refl, sym, ap, subst, ◌∙◌, arith}
-use Rattle.std.specs.Prelude.{if◌then◌else◌, ◌&&◌, ◌||◌, not}
+use Rattle.std.specs.Prelude.{◌==◌, if◌then◌else◌, ◌&&◌, ◌||◌, not}
+use Rattle.std.proofs.lemmas.Bool.Decides.{nat_tests}
 use Rattle.std.proofs.lemmas.List.Elements.{filter_more}
 use Rattle.strm_types.specs.declared.names.Side.{Side}
 use Rattle.strm_types.specs.declared.names.Side.TheVariants.{Master, Slave}
@@ -37,11 +38,19 @@ same_module-sound modules.Ptem modules.Ldterm h = cc
 same_module-sound modules.Ptem modules.Pckt h = cc
 same_module-sound modules.Pckt modules.Ldterm h = cc
 same_module-sound modules.Pckt modules.Ptem h = cc
+same_module-sound (modules.Own a) (modules.Own b) h = let same : a ≡ b = grind (arith, nat_tests) in ap (λ n. modules.Own n) same
+same_module-sound (modules.Own a) modules.Ldterm h = cc
+same_module-sound (modules.Own a) modules.Ptem h = cc
+same_module-sound (modules.Own a) modules.Pckt h = cc
+same_module-sound modules.Ldterm (modules.Own b) h = cc
+same_module-sound modules.Ptem (modules.Own b) h = cc
+same_module-sound modules.Pckt (modules.Own b) h = cc
 
 pub same_module-self : (name : ModuleName) → same_module name name ≡ true
 same_module-self modules.Ldterm = refl
 same_module-self modules.Ptem = refl
 same_module-self modules.Pckt = refl
+same_module-self (modules.Own n) = grind (arith, nat_tests)
 
 -- the one name of modules that have queues
 pub queues-ldterm : (name : ModuleName) → have_queues name ≡ true → name ≡ modules.Ldterm

@@ -112,6 +112,8 @@ makes-own names.Ptem way shape = omega arith
 makes-own names.Pckt Up Held = omega arith
 makes-own names.Pckt Up _ = omega arith
 makes-own names.Pckt Down shape = omega arith
+makes-own (names.Own n) Down Asking = omega arith
+makes-own (names.Own n) way shape = omega arith
 
 pub makes-one : (name : ModuleName) (way : Way) (shape : Shape) → (name_does name way shape).makes ≤ 1
 makes-one names.Ldterm Up Acking = omega arith
@@ -122,3 +124,5 @@ makes-one names.Ptem way shape = omega arith
 makes-one names.Pckt Up Held = omega arith
 makes-one names.Pckt Up _ = omega arith
 makes-one names.Pckt Down shape = omega arith
+makes-one (names.Own n) Down Asking = omega arith
+makes-one (names.Own n) way shape = omega arith

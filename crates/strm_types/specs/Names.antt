@@ -1,5 +1,5 @@
 -- Names of queues, and lists of them in which each stands once.
-use Rattle.std.specs.Prelude.{ℕ, ◌≡◌, ◌+◌, ◌≤◌, Bool, true, false, ◌&&◌, not, if◌then◌else◌, List, [], ◌∷◌, ◌++◌, filter, Option, None, Some}
+use Rattle.std.specs.Prelude.{ℕ, ◌≡◌, ◌+◌, ◌≤◌, ◌==◌, Bool, true, false, ◌&&◌, not, if◌then◌else◌, List, [], ◌∷◌, ◌++◌, filter, Option, None, Some}
 use Rattle.std.specs.List.{AllByRecursion, list_any}
 use Rattle.strm_types.specs.declared.names.Side.{Side}
 use Rattle.strm_types.specs.declared.names.Side.TheVariants.{Master, Slave}
@@ -61,6 +61,7 @@ abbrev pub same_module : ModuleName → ModuleName → Bool
 same_module modules.Ldterm modules.Ldterm = true
 same_module modules.Ptem modules.Ptem = true
 same_module modules.Pckt modules.Pckt = true
+same_module (modules.Own a) (modules.Own b) = a == b
 same_module _ _ = false
 
 abbrev pub same_place : Place → Place → Bool
@@ -85,7 +86,7 @@ driver_of side = record { side = side; place = Driver; way = Down }
 abbrev pub head_of : Side → QueueName
 head_of side = record { side = side; place = Head; way = Up }
 
--- whether modules of a name have queues: of ldterm(7M), ptem(7M) and pckt(7M) ldterm alone
+-- whether modules of a name have queues: those of ldterm(7M) alone
 abbrev pub have_queues : ModuleName → Bool
 have_queues name = same_module name modules.Ldterm
 

@@ -1,6 +1,6 @@
 -- What a put does at most at each kind of module, at a head and at a driver, by the way and the shape of what is put: a table a kind. What passes goes on as
 -- it is, and so may what waits on a queue.
-use Rattle.std.specs.Prelude.{ℕ, List, [], ◌∷◌}
+use Rattle.std.specs.Prelude.{ℕ, Bool, true, false, List, [], ◌∷◌}
 use Rattle.strm_types.specs.declared.names.ModuleName.{ModuleName}
 use Rattle.strm_types.specs.declared.names.ModuleName.TheVariants as names
 use Rattle.strm_types.specs.declared.names.Way.{Way}
@@ -44,11 +44,22 @@ pckt_does Up FlushRW = packs_flush
 pckt_does Up FlushMixed = packs_flush
 pckt_does way shape = passes_on way shape
 
+-- A module of a user's own: an M_IOCTL on its way down is changed into its answer, M_IOCACK or M_IOCNAK, or goes on. No put takes a block.
+abbrev pub own_does : Table
+own_does Down Asking = record { own = 0; makes = 0; emits = (Up, Acking) ∷ (Up, Passing) ∷ (Down, Asking) ∷ [] }
+own_does way shape = passes_on way shape
+
 -- a module of a name
 abbrev pub name_does : ModuleName → Table
 name_does names.Ldterm = ldterm_does
 name_does names.Ptem = ptem_does
 name_does names.Pckt = pckt_does
+name_does (names.Own n) = own_does
+
+-- whether modules of a name hand an M_DATA or M_PROTO on in all its blocks, or have it wait: those of a user's own may free some
+abbrev pub name_holds : ModuleName → Bool
+name_holds (names.Own n) = false
+name_holds name = true
 
 -- a head: an M_FLUSH with FLUSHW goes down again without FLUSHR, and an M_IOCTL is answered
 abbrev pub head_does : Shape → Does

@@ -38,6 +38,9 @@ pub const DATA_MAX: usize = 256;
 /// The most bytes that an ioctl(2) sends behind its header, and that its answer gives.
 pub const IOCTL_MAX: usize = 256;
 
+/// The most bytes that a module of a user's own is set to.
+pub const SETTINGS_MAX: usize = 320;
+
 /// The number that no ioctl gets: a pair numbers its ioctls from 1, up to the one before it.
 pub const IOCTL_END: u32 = 4294967295;
 

@@ -140,13 +140,14 @@ pub struct QueueName {
     pub way: Way,
 }
 
-/// A module that may be pushed on a stream: the line discipline `ldterm(7M)`, the terminal emulation `ptem(7M)`, or the
-/// packet mode `pckt(7M)`.
+/// A module that may be pushed on a stream: the line discipline `ldterm(7M)`, the terminal emulation `ptem(7M)`, the
+/// packet mode `pckt(7M)`, or one of a user's own, whose number is 16 more than this one.
 #[derive(Clone, Copy, Debug, PartialEq)]
 pub enum ModuleName {
     Ldterm,
     Ptem,
     Pckt,
+    Own(u8),
 }
 
 impl ModuleName {
@@ -157,7 +158,7 @@ impl ModuleName {
         self == other
     }
 
-    /// Whether modules of this name have queues: of the three `ldterm` alone.
+    /// Whether modules of this name have queues: `ldterm` alone.
     pub fn has_queues(self) -> bool
         ensures { result ≡ names.have_queues self }
     {

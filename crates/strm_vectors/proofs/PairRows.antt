@@ -4,6 +4,7 @@ use Rattle.std.specs.Prelude.{Option, None, Some, Result, Ok, Err, OnOk}
 use Rattle.std.proofs.lemmas.Bool.{and_parts, leb-true}
 use Rattle.strm_types.specs.declared.limits.Config.{Config}
 use Rattle.strm_types.specs.declared.refusals.Refusal.{Refusal}
+use Rattle.strm_laws.proofs.NoOwn.{none as no_own}
 use Rattle.strm_laws.specs.Pair.{PairState}
 use Rattle.strm_laws.specs.Refusals.{enough}
 use Rattle.strm_blocks.specs.Blocks.{StoreValue, empty_store}
@@ -13,7 +14,7 @@ use Rattle.strm_image.specs.HasImage.{imaged}
 use Rattle.strm_image.specs.Image.{Imaged, image}
 use Rattle.strm_image.proofs.ReadRows.{same_images}
 use Rattle.strm_pair.specs.Pairs.{free_in}
-use Rattle.strm_pair.specs.Restored.{IsImageOf, image_blocks, restored}
+use Rattle.strm_pair.specs.Restored.{IsImageFor, image_blocks, restored}
 use Rattle.strm_pair.proofs.Shown.{free-empty}
 use Rattle.strm_vectors.specs.Told.{IsPairOf}
 
@@ -43,9 +44,9 @@ on_ok (Ok x) P Q so p = so p
 on_ok (Err e) P Q so p = tt
 
 -- two texts whose pairs have one and the same image are images of one and the same state
-pub one_state : (text other same : List ℕ) (blocks : ℕ) (y : Imaged) → IsImageOf other y → IsTextOf image same (Second, y)
-    → (x : Imaged) × (IsImageOf text x × (IsTextOf image same (Second, x) × (image_blocks x ≡ blocks))) → (x : Imaged) × (IsImageOf text x × (IsImageOf other x × (image_blocks x ≡ blocks)))
+pub one_state : (text other same : List ℕ) (blocks : ℕ) (y : Imaged) → IsImageFor no_own other y → IsTextOf image same (Second, y)
+    → (x : Imaged) × (IsImageFor no_own text x × (IsTextOf image same (Second, x) × (image_blocks x ≡ blocks))) → (x : Imaged) × (IsImageFor no_own text x × (IsImageFor no_own other x × (image_blocks x ≡ blocks)))
 one_state text other same blocks y of_other of_same found =
     let x = found.0 in
     let alike = same_images Second Second x y found.1.1.0.0 of_same.0 (sym found.1.1.0.1 ∙ of_same.1) in
-    (x, (found.1.0, (subst (IsImageOf other) (sym alike.1) of_other, found.1.1.1)))
+    (x, (found.1.0, (subst (IsImageFor no_own other) (sym alike.1) of_other, found.1.1.1)))

@@ -1,11 +1,12 @@
 -- What the lines tell of images, and what holds where the program says so.
 use Rattle.std.specs.Prelude.{◌≡◌, ◌≤◌, ◌-◌, ℕ, List}
+use Rattle.strm_laws.proofs.NoOwn.{none as no_own}
 use Rattle.strm_laws.specs.Pair.{PairState}
 use Rattle.strm_image.specs.declared.versions.Version.TheVariants.{Second}
 use Rattle.strm_image.specs.Format.{IsTextOf}
 use Rattle.strm_image.specs.Image.{Imaged, image}
 use Rattle.strm_image.specs.HasImage.{imaged}
-use Rattle.strm_pair.specs.Restored.{IsImageOf, IsNoImage, image_blocks}
+use Rattle.strm_pair.specs.Restored.{IsImageFor, IsNoImage, image_blocks}
 use Rattle.strm_vectors.specs.declared.vectors.Vector.{Vector}
 use Rattle.strm_vectors.specs.declared.vectors.Vector.TheVariants as vectors
 
@@ -19,10 +20,11 @@ pub record IsPairOf (x : Imaged) (mblks dblks : ℕ) (p : PairState) : Type 0 wh
 
 -- what holds where a line of the kind does
 abbrev pub Holds : Vector → Type 0
-Holds (vectors.Bad text) = IsNoImage text.items
-Holds (vectors.Image text other blocks) = (x : Imaged) × (IsImageOf text.items x × (IsImageOf other.items x × (image_blocks x ≡ blocks)))
-Holds (vectors.Script script text blocks) = (x : Imaged) × (IsImageOf text.items x × (image_blocks x ≡ blocks))
-Holds (vectors.Untold text) = (x : Imaged) × IsImageOf text.items x
+Holds (vectors.Bad text) = IsNoImage no_own text.items
+Holds (vectors.Image text other blocks) =
+    (x : Imaged) × (IsImageFor no_own text.items x × (IsImageFor no_own other.items x × (image_blocks x ≡ blocks)))
+Holds (vectors.Script script text blocks) = (x : Imaged) × (IsImageFor no_own text.items x × (image_blocks x ≡ blocks))
+Holds (vectors.Untold text) = (x : Imaged) × IsImageFor no_own text.items x
 
 -- what a text of an image gives: the image of its pair, and how many blocks its messages take
 pub record IsFound (x : Imaged) (text : List ℕ) (mblks dblks : ℕ) : Type 0 where

@@ -2,10 +2,11 @@
 
 ghost use Rattle.std.specs.Prelude.{◌≡◌, ◌<◌, ◌≤◌, IfOk, OnOk};
 ghost use Rattle.strm_types.specs.declared.refusals.Refusal.TheVariants.{Einval};
+ghost use Rattle.strm_laws.proofs.NoOwn.{none as no_own};
 ghost use Rattle.strm_image.specs.declared.versions.Version.TheVariants.{Second};
 ghost use Rattle.strm_image.specs.Format.{IsTextOf};
 ghost use Rattle.strm_image.specs.Image.{Imaged, image};
-ghost use Rattle.strm_pair.specs.Restored.{IsImageOf, IsNoImage, image_blocks};
+ghost use Rattle.strm_pair.specs.Restored.{IsImageFor, IsNoImage, image_blocks};
 ghost use Rattle.strm_vectors.specs.Told.{Holds, IsFound};
 
 use crate::differences::Difference;
@@ -29,7 +30,7 @@ struct Found {
 // What a text gives over a store that has room for every text of its length: a message of 12 bytes takes at most two blocks. A text of version 2
 // is its pair's image.
 fn found_in<B: Reserve>(alloc: Global, text: &[u8]) -> Result<Found, Difference>
-    ensures { IfOk result (λ f. (x : Imaged) × (IsImageOf text.now x × IsFound x f.image.items f.mblks f.dblks)) }
+    ensures { IfOk result (λ f. (x : Imaged) × (IsImageFor no_own text.now x × IsFound x f.image.items f.mblks f.dblks)) }
 {
     let room = (text.len() / 6 + 1).min(BLOCKS_MAX);
     let pair = restored::<B>(alloc, text, room, room)?;
@@ -108,7 +109,7 @@ fn agrees<B: Reserve>(
     same: &[u8],
     blocks: u16,
 ) -> Result<(), Difference>
-    ensures { OnOk result ((x : Imaged) × (IsImageOf text.now x × (IsTextOf image same.now (Second, x) × (image_blocks x ≡ blocks)))) }
+    ensures { OnOk result ((x : Imaged) × (IsImageFor no_own text.now x × (IsTextOf image same.now (Second, x) × (image_blocks x ≡ blocks)))) }
 {
     let found = found_in::<B>(alloc, text)?;
     if found.image.as_slice() != same {
@@ -119,7 +120,7 @@ fn agrees<B: Reserve>(
 
 // No pair is made of a text.
 fn is_bad<B: Reserve>(alloc: Global, text: &[u8]) -> Result<(), Difference>
-    ensures { OnOk result (IsNoImage text.now) }
+    ensures { OnOk result (IsNoImage no_own text.now) }
 {
     let Err(why) = restored::<B>(alloc, text, 1, 1) else {
         return Err(Difference::Restored);

@@ -2,10 +2,11 @@
 
 ghost use Rattle.std.specs.Prelude.{◌≡◌, ◌<◌, ◌≤◌, IfOk, Err};
 ghost use Rattle.strm_types.specs.declared.refusals.Refusal.TheVariants.{Einval};
+ghost use Rattle.strm_laws.proofs.NoOwn.{none as no_own};
 ghost use Rattle.strm_image.specs.declared.versions.Version.TheVariants.{Second};
 ghost use Rattle.strm_image.specs.Format.{IsTextOf};
 ghost use Rattle.strm_image.specs.Image.{Imaged, image};
-ghost use Rattle.strm_pair.specs.Restored.{IsImageOf, IsNoImage};
+ghost use Rattle.strm_pair.specs.Restored.{IsImageFor, IsNoImage};
 ghost use Rattle.strm_vectors.specs.Told.{IsPairOf};
 
 use crate::differences::Difference;
@@ -26,8 +27,8 @@ pub fn restored<B: Reserve>(
     requires few_mblks { mblks ≤ 65536 }
     requires some_dblks { 0 < dblks }
     requires few_dblks { dblks ≤ 65536 }
-    ensures einval { result ≡ Err Einval → IsNoImage text.now }
-    ensures ok { IfOk result (λ p. (x : Imaged) × (IsImageOf text.now x × IsPairOf x mblks dblks p)) }
+    ensures einval { result ≡ Err Einval → IsNoImage no_own text.now }
+    ensures ok { IfOk result (λ p. (x : Imaged) × (IsImageFor no_own text.now x × IsPairOf x mblks dblks p)) }
 {
     let Ok(store) = B::reserve(alloc, mblks, dblks) else {
         return Err(Refusal::NoMemory);

@@ -1,4 +1,4 @@
-//! Values that stand in a text as one byte each.
+//! Values that stand in a text as one byte each, or as one and a number behind it.
 
 ghost use Rattle.std.specs.Prelude.{◌≡◌};
 ghost use Rattle.strm_image.specs.Codes as codes;
@@ -91,17 +91,17 @@ pub fn put_way(out: &mut Sink, way: Way)
     out.put(&[code]);
 }
 
-/// The name of a module.
-#[tactic(auto, unfolding(crate::specs::Codes::module_kind))]
+/// The name of a module: its kind, and the number of one of a user's own.
+#[tactic(auto, unfolding(crate::specs::Codes::module_kind, crate::specs::Codes::name_kind))]
 pub fn put_module_name(out: &mut Sink, name: ModuleName)
     ensures { out.new ≡ put (codes.module_kind.text name) out.old }
 {
-    let code = match name {
-        ModuleName::Ldterm => 1,
-        ModuleName::Ptem => 2,
-        ModuleName::Pckt => 3,
-    };
-    out.put(&[code]);
+    match name {
+        ModuleName::Ldterm => out.put(&[1]),
+        ModuleName::Ptem => out.put(&[2]),
+        ModuleName::Pckt => out.put(&[3]),
+        ModuleName::Own(number) => out.put(&[4, number]),
+    }
 }
 
 /// The kind of a message, by the numbers of sys/stream.h.

@@ -1,8 +1,9 @@
 //! What a text has of modules beside their names and queues.
 
-ghost use Rattle.std.specs.Prelude.{◌≡◌, ◌<◌, length};
+ghost use Rattle.std.specs.Prelude.{◌≡◌, ◌<◌, ◌≤◌, length};
+ghost use Rattle.strm_types.specs.declared.limits.TheConstants.{SETTINGS_MAX};
 ghost use Rattle.strm_image.specs.Format.{byte, bytes_of, counted};
-ghost use Rattle.strm_image.specs.Modules.{ptem, termios, winsize};
+ghost use Rattle.strm_image.specs.Modules.{ptem, settings, termios, winsize};
 ghost use Rattle.strm_image.specs.Sinks.{put};
 
 use crate::sink::Sink;
@@ -48,4 +49,14 @@ pub fn put_line(out: &mut Sink, line: &[u8])
 {
     out.put(&[line.len() as u8]);
     out.put(line);
+}
+
+/// What a module of a user's own is set to.
+#[tactic(auto, unfolding(crate::specs::Modules::settings), using(crate::proofs::SinkRows::put_both))]
+pub fn put_settings(out: &mut Sink, bytes: &[u8])
+    requires { length bytes.now ≤ SETTINGS_MAX }
+    ensures { out.new ≡ put (settings.text bytes.now) out.old }
+{
+    put_u16(out, bytes.len() as u16);
+    out.put(bytes);
 }

@@ -6,6 +6,7 @@ ghost use Rattle.strm_pair.specs.Placing.{IsFreeFor, IsModuleText, IsPlaced, mod
 
 use crate::images::made_kinds::{ldterm_of, pair_of};
 use crate::modules::AnyModule;
+use crate::own::Own;
 use strm_blocks::Blocks;
 use strm_frame::{Standing, Tables};
 use strm_image::ModuleText;
@@ -44,6 +45,10 @@ pub(crate) fn module_of<B: Blocks>(
         },
         ModuleText::Pckt => Standing {
             module: AnyModule::Pckt(Pckt),
+            queues: None,
+        },
+        ModuleText::Own(found) => Standing {
+            module: AnyModule::Own(Own::new(found.number, found.settings)),
             queues: None,
         },
     }

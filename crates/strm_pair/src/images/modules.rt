@@ -2,27 +2,27 @@
 
 ghost use Rattle.std.specs.Prelude.{◌≡◌, map};
 ghost use Rattle.std.specs.List.{AllByRecursion, flat_map};
-ghost use Rattle.strm_laws.specs.Stacked.{OfPtem, OfPckt};
+ghost use Rattle.strm_laws.specs.Stacked.{OfLdterm, OfOwn, OfPtem, OfPckt, of_kind};
 ghost use Rattle.strm_blocks.specs.Blocks.{StoreValue};
 ghost use Rattle.strm_image.specs.Modules.{alone, module_format, modules};
 ghost use Rattle.strm_image.specs.Sinks.{put};
 ghost use Rattle.strm_image.specs.declared.versions.Version.TheVariants.{Second};
-ghost use Rattle.strm_frame.specs.Standings.{standing};
-ghost use Rattle.strm_ldterm.specs.Stands.{own_in};
+ghost use Rattle.strm_frame.specs.Standings.{Fits, standing, standing_in};
+ghost use Rattle.strm_ldterm.specs.Stands.{HasInHand, own_in};
 ghost use Rattle.strm_pty.specs.Beside.{ptem_in};
 ghost use Rattle.strm_pty.specs.Packs.{pckt_in};
-ghost use Rattle.strm_pair.specs.declared.modules.AnyModule.TheVariants as kinds;
 ghost use Rattle.strm_pair.specs.AnyModules.{IsHeld, module_in};
 ghost use Rattle.strm_pair.specs.Imaging.{settings_text};
 ghost use Rattle.strm_pair.specs.Stacks.{IsStackHeld, modules_in};
 
 use crate::images::queues::put_queue;
 use crate::modules::AnyModule;
+use crate::own::Own;
 use crate::stacks::Stack;
 use strm_blocks::Blocks;
 use strm_frame::{QueuePair, Standing};
 use strm_image::writing::{
-    put_flag, put_line, put_module_name, put_ptem, put_termios, put_u8, put_u32,
+    put_flag, put_line, put_module_name, put_ptem, put_settings, put_termios, put_u8, put_u32,
 };
 use strm_image::{QueueKind, Sink};
 use strm_ldterm::Ldterm;
@@ -31,7 +31,7 @@ use strm_types::ModuleName;
 
 // What an ldterm has in front of its queues, behind its name.
 #[tactic(auto, using(strm_image::proofs::SinkRows::put_both))]
-fn put_settings(out: &mut Sink, ldterm: &Ldterm)
+fn put_line_modes(out: &mut Sink, ldterm: &Ldterm)
     ensures { (s : StoreValue) → out.new ≡ put (settings_text (own_in s ldterm.now)) out.old }
 {
     put_module_name(out, ModuleName::Ldterm);
@@ -49,13 +49,13 @@ fn put_ldterm<'a, B: Blocks>(
     queues: &Option<QueuePair>,
     out: Sink<'a>,
 ) -> Sink<'a>
-    requires held { IsHeld (B.value store.now) (standing (kinds.Ldterm ldterm.now) queues.now) }
-    ensures { result ≡ put ((module_format Second).text (module_in (B.value store.now) (standing (kinds.Ldterm ldterm.now) queues.now)))
+    requires held { Fits HasInHand (B.value store.now) (standing ldterm.now queues.now) }
+    ensures { result ≡ put ((module_format Second).text (of_kind OfLdterm (standing_in own_in (B.value store.now) (standing ldterm.now queues.now))))
         out.entry }
 {
     let Some(pair) = queues else { unreachable!() };
     let mut out = out;
-    put_settings(&mut out, ldterm);
+    put_line_modes(&mut out, ldterm);
     let out = put_queue(store, &pair.read, QueueKind::LdtermRead, out);
     put_queue(store, &pair.write, QueueKind::LdtermWrite, out)
 }
@@ -81,6 +81,17 @@ fn put_pckt<'a>(out: Sink<'a>) -> Sink<'a>
     out
 }
 
+// A module of a user's own: its number, and what it is set to.
+#[tactic(auto, using(strm_image::proofs::SinkRows::put_both, strm_image::proofs::WrittenRows::own_told))]
+fn put_own<'a>(own: &Own, out: Sink<'a>) -> Sink<'a>
+    ensures { result ≡ put ((module_format Second).text (alone (OfOwn own.now))) out.entry }
+{
+    let mut out = out;
+    put_module_name(&mut out, ModuleName::Own(own.number()));
+    put_settings(&mut out, own.settings());
+    out
+}
+
 // A module, behind its name.
 fn put_module<'a, B: Blocks>(store: &B, any: &Standing<AnyModule>, out: Sink<'a>) -> Sink<'a>
     requires held { IsHeld (B.value store.now) any.now }
@@ -90,6 +101,7 @@ fn put_module<'a, B: Blocks>(store: &B, any: &Standing<AnyModule>, out: Sink<'a>
         AnyModule::Ldterm(ldterm) => put_ldterm(store, ldterm, &any.queues, out),
         AnyModule::Ptem(ptem) => put_ptem_module(ptem, out),
         AnyModule::Pckt(_) => put_pckt(out),
+        AnyModule::Own(own) => put_own(own, out),
     }
 }
 

@@ -71,7 +71,7 @@ fn know_module(any: &Standing<AnyModule>)
             know_termios(ptem.termios);
             know_window(ptem.window);
         }
-        AnyModule::Pckt(_) => {}
+        AnyModule::Pckt(_) | AnyModule::Own(_) => {}
     }
 }
 

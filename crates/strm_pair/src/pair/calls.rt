@@ -9,11 +9,12 @@ ghost use Rattle.strm_types.specs.Journal.{answer_len, reply_in};
 ghost use Rattle.strm_laws.specs.Pair.{AddsEntry, call_refused, call_verdict};
 ghost use Rattle.strm_pair.specs.Parts.{longest_part};
 
+use crate::own::OwnModule;
 use crate::pair::Pair;
 use strm_blocks::Blocks;
 use strm_types::{Answer, Caller, Content, Event, Refusal, StopSignal, Verdict};
 
-impl<B: Blocks + Drop> Pair<B> {
+impl<B: Blocks + Drop, M: OwnModule> Pair<B, M> {
     // Enters a call that stops its caller.
     fn stop(
         &mut self,
@@ -22,8 +23,8 @@ impl<B: Blocks + Drop> Pair<B> {
         signal: StopSignal,
         out: &mut Content,
     ) -> Answer<u32>
-        requires { call_verdict self.old caller (request event.now) ≡ Stopped signal }
-        ensures adds { AddsEntry self.old self.new (Called caller (request event.now) (reply_in result out.new.items)) }
+        requires { call_verdict M.does self.old caller (request event.now) ≡ Stopped signal }
+        ensures adds { AddsEntry M.does self.old self.new (Called caller (request event.now) (reply_in result out.new.items)) }
         ensures filled { answer_len result ≡ length out.new.items }
         ensures parts { longest_part result ≤ READ_MAX }
     {
@@ -37,8 +38,8 @@ impl<B: Blocks + Drop> Pair<B> {
     // Carries a call out, and enters it with its answer.
     #[inline(always)]
     fn perform(&mut self, caller: Caller, event: &Event<&[u8]>, out: &mut Content) -> Answer<u32>
-        requires { call_verdict self.old caller (request event.now) ≡ Allowed }
-        ensures adds { AddsEntry self.old self.new (Called caller (request event.now) (reply_in result out.new.items)) }
+        requires { call_verdict M.does self.old caller (request event.now) ≡ Allowed }
+        ensures adds { AddsEntry M.does self.old self.new (Called caller (request event.now) (reply_in result out.new.items)) }
         ensures filled { answer_len result ≡ length out.new.items }
         ensures parts { longest_part result ≤ READ_MAX }
     {
@@ -46,7 +47,7 @@ impl<B: Blocks + Drop> Pair<B> {
         let told = &mut self.fates;
         let answer = self
             .streams
-            .carry_out(&mut self.store, caller, event, out, told);
+            .carry_out::<B, M>(&mut self.store, caller, event, out, told);
         self.journal.add_call(caller, event, answer, out.as_slice());
         answer
     }
@@ -59,10 +60,10 @@ impl<B: Blocks + Drop> Pair<B> {
         event: &Event<&[u8]>,
         out: &mut Content,
     ) -> Result<Answer<u32>, Refusal>
-        ensures refused { MatchOption (call_refused self.old caller (request event.now)) (IsOk result)
+        ensures refused { MatchOption (call_refused M.does self.old caller (request event.now)) (IsOk result)
             (λ r. (result ≡ Err r) × ((self.new ≡ self.old) × (out.new ≡ out.old))) }
         ensures adds { IfOk result (λ answer.
-            AddsEntry self.old self.new (Called caller (request event.now) (reply_in answer out.new.items))) }
+            AddsEntry M.does self.old self.new (Called caller (request event.now) (reply_in answer out.new.items))) }
         ensures filled { IfOk result (λ answer. answer_len answer ≡ length out.new.items) }
         ensures parts { IfOk result (λ answer. longest_part answer ≤ READ_MAX) }
     {
@@ -81,10 +82,10 @@ impl<B: Blocks + Drop> Pair<B> {
         event: &Event<&[u8]>,
         out: &mut Content,
     ) -> Result<Answer<u32>, Refusal>
-        ensures refused { MatchOption (call_refused self.old caller (request event.now)) (IsOk result)
+        ensures refused { MatchOption (call_refused M.does self.old caller (request event.now)) (IsOk result)
             (λ r. (result ≡ Err r) × ((self.new ≡ self.old) × (out.new ≡ out.old))) }
         ensures adds { IfOk result (λ answer.
-            AddsEntry self.old self.new (Called caller (request event.now) (reply_in answer out.new.items))) }
+            AddsEntry M.does self.old self.new (Called caller (request event.now) (reply_in answer out.new.items))) }
         ensures filled { IfOk result (λ answer. answer_len answer ≡ length out.new.items) }
         ensures parts { IfOk result (λ answer. longest_part answer ≤ READ_MAX) }
     {

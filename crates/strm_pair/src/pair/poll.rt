@@ -4,18 +4,19 @@ ghost use Rattle.std.specs.Prelude.{◌≡◌, ◌+◌, length};
 ghost use Rattle.strm_types.specs.Journal.{room_used};
 ghost use Rattle.strm_pair.specs.Readiness.{readiness};
 
+use crate::own::OwnModule;
 use crate::pair::Pair;
 use crate::readiness::Ready;
 use strm_blocks::Blocks;
 use strm_types::Side;
 
-impl<B: Blocks + Drop> Pair<B> {
+impl<B: Blocks + Drop, M: OwnModule> Pair<B, M> {
     /// What a side is ready for (poll(2)). The cost is a step for each module, and under RPROTDIS one for each message in front that a read
     /// passes over.
     pub fn ready(&self, side: Side) -> Ready
-        ensures { result ≡ readiness side self.now.state }
+        ensures { result ≡ readiness M.does side self.now.state }
     {
-        self.streams.ready(&self.store, side)
+        self.streams.ready::<B, M>(&self.store, side)
     }
 
     /// How many more entries the journal takes, and how many of their bytes.

@@ -8,17 +8,21 @@ ghost use Rattle.strm_frame.specs.Hands.{HasRoom};
 ghost use Rattle.strm_image.specs.declared.versions.Version.{Version};
 ghost use Rattle.strm_image.specs.Image.{Imaged, image};
 ghost use Rattle.strm_image.specs.ImageTexts.{imaged_now};
+ghost use Rattle.strm_laws.specs.Known.{all_known};
 ghost use Rattle.strm_pair.specs.PairViews.{sizes_over};
 ghost use Rattle.strm_pair.specs.Pairs.{free_in};
 ghost use Rattle.strm_pair.specs.Reserved.{IsReserved};
-ghost use Rattle.strm_pair.specs.Restored.{IsImageOf, IsNoImage, image_blocks, refusal_in, restored};
+ghost use Rattle.strm_pair.specs.Restored.{IsImageFor, IsNoImage, image_blocks, refusal_in, restored};
 
 use crate::base::Base;
+use crate::images::known::all_known;
 use crate::images::made_pairs::{fates_of, streams_of};
 use crate::journal::Journal;
+use crate::own::OwnModule;
 use crate::pair::Pair;
 use crate::streams::{SideTables, queue_tables};
 use std::alloc::{AllocError, Global};
+use std::marker::PhantomData;
 use strm_blocks::Blocks;
 use strm_image::{IMAGE_BLOCK, IMAGE_FIXED, StateText, read};
 use strm_types::{Both, Config, Refusal};
@@ -45,12 +49,13 @@ impl Reserved {
     }
 }
 
-impl<B: Blocks + Drop> Pair<B> {
+impl<B: Blocks + Drop, M: OwnModule> Pair<B, M> {
     // A pair of a text over a store that holds nothing, and has the blocks that the messages of the text take.
-    fn made_of(limits: Config, text: &StateText<'_>, store: B, reserved: Reserved) -> Pair<B>
+    fn made_of(limits: Config, text: &StateText<'_>, store: B, reserved: Reserved) -> Pair<B, M>
         requires lists { (B.value store).lists ≡ replicate LISTS [] }
         requires hand { (B.value store).hand ≡ [] }
         requires fits { (v : Version) × (image.fits (v, imaged_now text.now) ≡ true) }
+        requires known { all_known M.does (imaged_now text.now).state ≡ true }
         requires room { HasRoom (B.value store) (image_blocks (imaged_now text.now)) }
         requires limits { limits ≡ sizes_over (B.value store) limits }
         requires reserved { IsReserved limits reserved }
@@ -68,6 +73,7 @@ impl<B: Blocks + Drop> Pair<B> {
             base,
             limits,
             fates,
+            of: PhantomData,
         }
     }
 
@@ -75,27 +81,30 @@ impl<B: Blocks + Drop> Pair<B> {
     /// nothing is in hand. Its journal is empty, and begins at the state of the image. The sizes of its journal are those of `sizes`, its
     /// numbers of blocks are the store's.
     ///
-    /// It is refused where the text is the image of no state (EINVAL), where the store has fewer free blocks of a kind than the messages
-    /// of the image take (ENOSR), and where memory is refused, in this order. Then the store comes back as it was. The memory is that of
-    /// [`Pair::new`], and no later call takes any to keep. The cost is in proportion to the text.
+    /// It is refused where the text is the image of no state, or of one with a module of a user's own of which there are none (EINVAL), where the
+    /// store has fewer free blocks of a kind than the messages of the image take (ENOSR), and where memory is refused, in this order. Then the
+    /// store comes back as it was. The memory is that of [`Pair::new`], and no later call takes any to keep. The cost is in proportion to the text.
     pub fn restore(
         alloc: Global,
         sizes: Config,
         text: &[u8],
         store: B,
-    ) -> Result<Pair<B>, (Refusal, B)>
+    ) -> Result<Pair<B, M>, (Refusal, B)>
         requires lists { (B.value store).lists ≡ replicate LISTS [] }
         requires hand { (B.value store).hand ≡ [] }
-        ensures einval { (refusal_in result ≡ Some Einval) ↔ IsNoImage text.now }
+        ensures einval { (refusal_in result ≡ Some Einval) ↔ IsNoImage M.does text.now }
         ensures enosr { (refusal_in result ≡ Some Enosr)
-            ↔ ((x : Imaged) × (IsImageOf text.now x × (enough (image_blocks x) (free_in (B.value store)) ≡ false))) }
+            ↔ ((x : Imaged) × (IsImageFor M.does text.now x × (enough (image_blocks x) (free_in (B.value store)) ≡ false))) }
         ensures others { IfErr result (λ e. e.0 ≢ Einval → e.0 ≢ Enosr → e.0 ≡ NoMemory) }
         ensures returned { IfErr result (λ e. B.value e.1 ≡ B.value store) }
-        ensures ok { IfOk result (λ p. (x : Imaged) × (IsImageOf text.now x × (p ≡ restored (sizes_over (B.value store) sizes) x))) }
+        ensures ok { IfOk result (λ p. (x : Imaged) × (IsImageFor M.does text.now x × (p ≡ restored (sizes_over (B.value store) sizes) x))) }
     {
         let Some(found) = read(text) else {
             return Err((Refusal::Einval, store));
         };
+        if !all_known::<M>(&found.state) {
+            return Err((Refusal::Einval, store));
+        }
         store.audit();
         let (mblks, dblks) = store.free_blocks();
         let blocks = found.state.blocks();

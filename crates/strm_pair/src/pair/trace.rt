@@ -7,9 +7,11 @@ ghost use Rattle.strm_image.specs.Sinks.{front_over};
 ghost use Rattle.strm_image.specs.Traces.{IsTrace};
 ghost use Rattle.strm_image.specs.declared.versions.Version.TheVariants.{Second};
 ghost use Rattle.strm_laws.specs.Pair.{restarted};
+ghost use Rattle.strm_laws.specs.Known.{all_known};
 
 use crate::images::whole::image_into;
 use crate::images::widths::{know_fates, know_streams};
+use crate::own::OwnModule;
 use crate::pair::Pair;
 use std::alloc::Global;
 use strm_blocks::Blocks;
@@ -26,7 +28,7 @@ fn copied<T: Copy>(alloc: Global, items: &[T]) -> Result<Vec<T>, NoMemory>
     Ok(copy)
 }
 
-impl<B: Blocks + Drop> Pair<B> {
+impl<B: Blocks + Drop, M: OwnModule> Pair<B, M> {
     /// Writes the image of the pair in version 2 (docs/IMAGES.md), its plain state and how many bytes have gone by each rule, to the front of
     /// a buffer, and answers how long it is. Behind it the buffer stays; where it is too small it holds the first bytes of the image. The pair
     /// stays as it is. No memory is taken. The cost is in proportion to the bytes, and a step for each band of a queue where one above 0 has marks
@@ -35,6 +37,7 @@ impl<B: Blocks + Drop> Pair<B> {
         ensures text { out.new ≡ front_over (image.text (Second, imaged self.now.state self.now.fates)) out.old }
         ensures length { result ≡ length (image.text (Second, imaged self.now.state self.now.fates)) }
         ensures fits { image.fits (Second, imaged self.now.state self.now.fates) ≡ true }
+        ensures known { all_known M.does self.now.state ≡ true }
     {
         self.store.audit();
         know_streams(&self.streams);
@@ -46,6 +49,7 @@ impl<B: Blocks + Drop> Pair<B> {
     pub fn image(&self, alloc: Global) -> Result<Vec<u8>, NoMemory>
         ensures text { IfOk result (λ text. text.items ≡ image.text (Second, imaged self.now.state self.now.fates)) }
         ensures fits { image.fits (Second, imaged self.now.state self.now.fates) ≡ true }
+        ensures known { all_known M.does self.now.state ≡ true }
     {
         let wanted = self.image_into(&mut []);
         let Ok(mut text) = Vec::from_elem(alloc, 0, wanted) else {

@@ -178,7 +178,7 @@ fn refuses_pair<B: Reserve>(rt: &impl Abort, alloc: Global) -> Result<(), AllocE
     if taken.len() >= MOST_TAKEN {
         return Ok(());
     }
-    let came = Pair::new(alloc, SIZES, store);
+    let came: Result<Pair<B>, (NoMemory, B)> = Pair::new(alloc, SIZES, store);
     drop(taken);
     let Err((NoMemory, store)) = came else {
         panic!(rt; "a pair without memory")

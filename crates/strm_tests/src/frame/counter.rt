@@ -9,7 +9,7 @@ pub struct Counter {
     pub seen: usize,
 }
 
-impl<B: Blocks> Stations<B> for Counter {
+impl<B: Blocks> Stations<B, ()> for Counter {
     ghost use Rattle.std.specs.Prelude.{ℕ, refl};
     ghost use Rattle.strm_tests.specs.Toys.{count_costs, counts};
     ghost use Rattle.strm_tests.specs.ToyLaws.{counts-costed};

@@ -141,7 +141,7 @@ impl Rig {
         ensures { AtRest (B.value store.new) self.new.modules.modules.items }
     {
         let mut told = Fates::none();
-        deliver(store, self, 16, to, message, &mut told);
+        deliver::<B, (), Rig>(store, self, 16, to, message, &mut told);
     }
 
     /// How many messages and bytes stand on the queues, from the top.
@@ -177,7 +177,7 @@ impl Rig {
         let Some(next) = sent.take_first() else {
             return served.bytes;
         };
-        deliver(store, self, 16, next.to, next.message, &mut told);
+        deliver::<B, (), Rig>(store, self, 16, next.to, next.message, &mut told);
         served.bytes
     }
 
@@ -217,7 +217,7 @@ impl Rig {
     }
 }
 
-impl<B: Blocks> Stations<B> for Rig {
+impl<B: Blocks> Stations<B, ()> for Rig {
     ghost use Rattle.std.specs.Prelude.{List, map};
     ghost use Rattle.strm_frame.specs.Stacks.{all_of};
     ghost use Rattle.strm_frame.specs.Standings.{standing_in};
@@ -247,7 +247,7 @@ impl<B: Blocks> Stations<B> for Rig {
             store.free(message);
             return Outbox::none();
         }
-        let acts = self.modules.put(store, to, message, told);
+        let acts = self.modules.put::<(), B>(store, to, message, told);
         self.note_all(to.at as usize, acts.notes.as_slice());
         acts.sent
     }

@@ -11,7 +11,7 @@ ghost use Rattle.strm_tests.specs.Toys.{is_flush, onward, stays};
 
 use arrayvec::ArrayVec;
 use strm_blocks::{Blocks, InHand};
-use strm_frame::{Acts, Module, Outbox, QueuePair, Sent, Served};
+use strm_frame::{Acts, Module, Outbox, PutProcedure, QueuePair, Sent, Served};
 use strm_msg::message_size;
 use strm_queue::standing::{dequeue, enqueue};
 use strm_types::{Asks, Band, Fates, ModuleName, MsgKind, Note, Spot, Way};
@@ -84,10 +84,10 @@ fn keep<B: Blocks>(pair: &mut QueuePair, store: &mut B, message: InHand) -> bool
 }
 
 impl Module for Stock {
-    ghost use Rattle.std.specs.Prelude.{refl, false};
+    ghost use Rattle.std.specs.Prelude.{refl, true, false};
     ghost use Rattle.strm_types.specs.declared.names.ModuleName.{ModuleName};
     ghost use Rattle.strm_tests.specs.Toys.{stocks, stock_does, stock_asks, stock_serves};
-    ghost use Rattle.strm_tests.specs.ToyLaws.{some-same, stocks-within, one-call};
+    ghost use Rattle.strm_tests.specs.ToyLaws.{some-same, one-call};
     ghost use Rattle.strm_tests.specs.Rigs.{HasQueues};
 
     ghost Plain = { ModuleName };
@@ -100,7 +100,7 @@ impl Module for Stock {
 
     ghost keeps = { λ x i. 0 };
 
-    ghost puts = { stocks };
+    ghost puts = { λ by here m x. stocks here m x };
 
     ghost line_of = { λ p. [] };
 
@@ -118,35 +118,10 @@ impl Module for Stock {
 
     ghost does = { λ p. stock_does };
 
+    ghost holds = { λ p. true };
+
     fn name(&self) -> ModuleName {
         self.name
-    }
-
-    fn put<B: Blocks>(
-        &mut self,
-        queues: &mut Option<QueuePair>,
-        store: &mut B,
-        here: Spot,
-        message: InHand,
-        _told: &mut Fates,
-    ) -> Acts {
-        store.audit();
-        let kind = store.kind(&message, 0);
-        if stays(kind, here.way) {
-            let Some(pair) = queues else { unreachable!() };
-            let enables = keep(pair, store, message);
-            return Acts {
-                notes: note_if(enables, Note::Enable(Way::Down)),
-                sent: Outbox::none(),
-            };
-        }
-        Acts {
-            notes: ArrayVec::new(),
-            sent: Outbox::one(Sent {
-                to: here.toward(onward(kind, here.way)),
-                message,
-            }),
-        }
     }
 
     fn asks<B: Blocks>(&self, queues: &Option<QueuePair>, store: &B, way: Way) -> Asks {
@@ -204,8 +179,6 @@ impl Module for Stock {
         0
     }
 
-    ghost within = { λ here m x. stocks-within here m x };
-
     ghost frame = { λ s t x queues others lists same held. (refl, some-same queues others lists held) };
 
     ghost rested = { λ s t x queues others lists none held. (refl, some-same queues others lists held) };
@@ -216,7 +189,43 @@ impl Module for Stock {
 
     ghost turn_goes = { λ here again stop x may. one-call here again stop x };
 
-    ghost put_stays = { λ here m x way again may. may };
-
     ghost line_stays = { λ p way again may. may };
+}
+
+impl PutProcedure<()> for Stock {
+    ghost use Rattle.std.specs.Prelude.{[]};
+    ghost use Rattle.strm_tests.specs.ToyLaws.{stocks-within};
+
+    ghost by = { λ here m x. record { state = x; notes = []; sent = []; gone = [] } };
+
+    fn put<B: Blocks>(
+        &mut self,
+        queues: &mut Option<QueuePair>,
+        store: &mut B,
+        here: Spot,
+        message: InHand,
+        _told: &mut Fates,
+    ) -> Acts {
+        store.audit();
+        let kind = store.kind(&message, 0);
+        if stays(kind, here.way) {
+            let Some(pair) = queues else { unreachable!() };
+            let enables = keep(pair, store, message);
+            return Acts {
+                notes: note_if(enables, Note::Enable(Way::Down)),
+                sent: Outbox::none(),
+            };
+        }
+        Acts {
+            notes: ArrayVec::new(),
+            sent: Outbox::one(Sent {
+                to: here.toward(onward(kind, here.way)),
+                message,
+            }),
+        }
+    }
+
+    ghost within = { λ here m x. stocks-within here m x };
+
+    ghost put_stays = { λ here m x way again may. may };
 }

@@ -1,6 +1,7 @@
 //! Writes an image that was read, in version 2.
 
-ghost use Rattle.std.specs.Prelude.{◌<◌, length, map};
+ghost use Rattle.std.specs.Prelude.{◌<◌, ◌≤◌, length, map};
+ghost use Rattle.strm_types.specs.declared.limits.TheConstants.{SETTINGS_MAX};
 ghost use Rattle.strm_types.specs.Slots.{map_slot};
 ghost use Rattle.strm_image.specs.FlowTexts.{flow_now};
 ghost use Rattle.strm_image.specs.Written.{IsShortSlot};
@@ -10,7 +11,7 @@ use strm_image::{
     AccountText, FIRST_BANDS, Flow, FlowsText, LdtermText, MessagesText, ModuleText, QueueKind,
     QueueText, Sink, StateText, StreamText, Version, band_behind, few_flows_at, message_behind,
 };
-use strm_types::{BANDS, Band, Book, HIGH_PRIORITY_RANK, Marks, Slot};
+use strm_types::{BANDS, Band, Book, HIGH_PRIORITY_RANK, Marks, SETTINGS_MAX, Slot};
 
 /// The flow control of all bands.
 #[derive(Clone, Copy)]
@@ -26,6 +27,13 @@ impl Bands for AllBands {
     fn shared_above(&self) -> Option<Marks> {
         None
     }
+}
+
+// What a module of a user's own is set to, which is 512 bytes at most.
+fn within(bytes: &[u8]) -> &[u8]
+    ensures { length result.now ≤ SETTINGS_MAX }
+{
+    &bytes[..bytes.len().min(SETTINGS_MAX)]
 }
 
 // The bytes of a line or the signals, which are fewer than 256.
@@ -120,6 +128,7 @@ fn put_module(out: &mut Sink, module: &ModuleText<'_>) {
         ModuleText::Ldterm(l) => put_ldterm(out, l),
         ModuleText::Ptem(p) => put_ptem(out, &p.termios, p.window),
         ModuleText::Pckt => {}
+        ModuleText::Own(own) => put_settings(out, within(own.settings)),
     }
 }
 

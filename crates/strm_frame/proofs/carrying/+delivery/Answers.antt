@@ -44,7 +44,7 @@ deliver-deliver_all-requires g t c κs within =
     let sent = subst (λ (ps : List (Parcel ℕ)). Within ps (table a).emits) (sym e.sent) (g.met.S.Stations.costed.within c.args.to m before) in
     let left = sent-may table c.args.hops a s0 (w.spare before) c.requires.may (parcels_in s all) sent s (w.spare behind) e.takes in
     let may = subst (λ (costs : At → Costs). MayDeliver s (w.spare behind) (cost_of (budget costs (c.args.hops - 1)) (parcels_in s all))) (sym same) left in
-    (omega (arith, some), (within.0, (within.1, (e.held, (in_hand, (e.chains, may))))))
+    (omega (arith, some), (within.0, (within.1.0, (within.1.1, (e.held, (in_hand, (e.chains, may)))))))
 
 pub deliver-returns-clause-delivers : goal.deliver-returns-clause-delivers
 deliver-returns-clause-delivers g t c =
@@ -212,7 +212,7 @@ deliver_all-deliver-requires g t c κs within =
     let left = next-may s0 s s first k0 k k x more all c.in-Some.ensures c.audit.ensures c.requires.are_in i.hands cost most (w.spare before) (w.spare now) c.requires.may i.takes i.ends in
     let may = subst (λ (costs : At → Costs). MayDeliver s (w.spare now) (budget costs c.args.hops (spot_in s x.to (token x.message)))) (sym i.costs) left in
     let chain = next-chain s0 s s first k0 k k x more all c.in-Some.ensures c.audit.ensures c.requires.are_in i.hands i.chains in
-    (omega arith, (within.0, (within.1, (i.held, (can, (chain, may))))))
+    (omega arith, (within.0, (within.1.0, (within.1.1, (i.held, (can, (chain, may)))))))
 
 pub deliver_all-returns-clause-delivers : goal.deliver_all-returns-clause-delivers
 deliver_all-returns-clause-delivers g t c =

@@ -1,5 +1,5 @@
 -- One module changes, and the others stand for the same.
-use Rattle.strm_frame.proofs.Prelude.{ℕ, get_or, map, refl, sym, ap, subst, ◌∙◌}
+use Rattle.strm_frame.proofs.Prelude.{ℕ, true, get_or, map, refl, sym, ap, subst, ◌∙◌}
 use Rattle.strm_frame.specs.Prelude.{own_at, tallied, of_part, Standing, token}
 use Rattle.std.proofs.Math.ListN.{set}
 use Rattle.strm_frame.specs.Hands.{once, HasRoom, Spends}
@@ -31,8 +31,9 @@ returns-clause-does g c =
     let y = c.put.new.self in
     let e = c.put.ensures in
     let sent = λ (j : ℕ). times_sent j (sent_of c.put.result.sent) in
-    let puts = w.puts c.args.to m in
+    let puts = w.puts g.M.PutProcedure.by c.args.to m in
     let said = λ (say : Standing w.Plain ℕ → ℕ). sym (said-of (standing_in w.plain s) say xs i x d 0 c.requires.within refl) in
+    let holds = said-of (standing_in w.plain s) (of_part w.holds) xs i x d true c.requires.within refl in
     record {
       state = row-plain (standing_in w.plain) (Fits w.IsHeld) owns (keeps_of w.keeps) (standing-frame w.plain w.IsHeld w.keeps g.met.M.Module.frame) s t (once n) x d y sent c.audit.ensures e.own e.hands e.pool xs i c.requires.within refl c.requires.held c.requires.can_put e.held
           ∙ ap (λ p. set (map (standing_in w.plain s) xs) i p) e.state
@@ -45,6 +46,6 @@ returns-clause-does g c =
       chains = e.chains;
       hands = row-hands (standing_in w.plain) (Fits w.IsHeld) owns (keeps_of w.keeps) (standing-frame w.plain w.IsHeld w.keeps g.met.M.Module.frame) s t (once n) x d y sent c.audit.ensures e.own e.hands e.pool xs i c.requires.within refl c.requires.held c.requires.can_put e.held;
       spends = subst (λ k. Spends s t k 0) (said (of_part (λ p. own_at (w.does p) c.args.to m))) e.spends;
-      blocks = e.blocks;
+      blocks = λ hold. e.blocks (sym holds ∙ hold);
       pool = e.pool;
     }

@@ -1,6 +1,7 @@
 use Rattle.std.proofs.Common.{◌≡◌, sym, subst, ap, ◌∙◌}
 use Rattle.std.specs.Prelude.{Err, IfOk, IsOk, MatchOption}
 use Rattle.strm_types.specs.declared.entries.Entry.TheVariants.{Turned}
+use Rattle.strm_laws.proofs.NoOwn.{none as no_own}
 use Rattle.strm_laws.specs.Pair.{AddsEntry, PairState, Stops, queue_refused, restarted}
 use Rattle.strm_handle.specs.Kept.{begun}
 use Rattle.strm_handle.proofs.Begun.{anew-where, refused-so, stays-where}
@@ -20,7 +21,7 @@ returns-then-again-clause-adds c =
     let p : PairState = c.args.pair.now in
     let was = anew-where _ (queue_refused p c.args.name) c.turn-told.result c.args.anew p c.begins-again.result c.turn-told.ensures.refused c.begins-again.ensures c.if-again.true in
     let same : c.restart.new.self ≡ begun c.args.anew (queue_refused p c.args.name) p = c.restart.ensures ∙ (ap restarted was.1 ∙ sym was.0) in
-    subst (λ (q : PairState). IfOk c.turn.result (λ turn. AddsEntry q c.turn.new.self (Turned c.args.name turn))) same c.turn.ensures.adds
+    subst (λ (q : PairState). IfOk c.turn.result (λ turn. AddsEntry no_own q c.turn.new.self (Turned c.args.name turn))) same c.turn.ensures.adds
 
 pub returns-then-again-clause-stops : goal.returns-then-again-clause-stops
 returns-then-again-clause-stops c =
@@ -39,7 +40,7 @@ pub returns-clause-adds : goal.returns-clause-adds
 returns-clause-adds c =
     let p : PairState = c.args.pair.now in
     let same = stays-where _ (queue_refused p c.args.name) c.turn-told.result c.args.anew p c.begins-again.result c.turn-told.ensures.refused c.begins-again.ensures c.if-again.false in
-    subst (λ (q : PairState). IfOk c.turn-told.result (λ turn. AddsEntry q c.turn-told.new.self (Turned c.args.name turn))) (sym same) c.turn-told.ensures.adds
+    subst (λ (q : PairState). IfOk c.turn-told.result (λ turn. AddsEntry no_own q c.turn-told.new.self (Turned c.args.name turn))) (sym same) c.turn-told.ensures.adds
 
 pub returns-clause-stops : goal.returns-clause-stops
 returns-clause-stops c =

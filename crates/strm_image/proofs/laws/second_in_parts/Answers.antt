@@ -1,4 +1,4 @@
-use Rattle.strm_image.proofs.WrittenRows.{image_told, laid_told, ldterm_told, messages_told, modules_told, pckt_told, ptem_told, queue_told}
+use Rattle.strm_image.proofs.WrittenRows.{image_told, laid_told, ldterm_told, messages_told, modules_told, own_told, pckt_told, ptem_told, queue_told}
 use Rattle.strm_image.proofs.laws.second_in_parts.Goals as goal
 
 pub returns : goal.returns
@@ -9,6 +9,7 @@ returns c = record {
   ldterm = ldterm_told;
   ptem = ptem_told;
   pckt = pckt_told;
+  own = own_told;
   stream = laid_told;
   whole = image_told;
 }

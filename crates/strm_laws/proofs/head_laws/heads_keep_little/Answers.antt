@@ -11,7 +11,7 @@ pub returns-clause-put : goal.returns-clause-put
 returns-clause-put g c = λ here m h within. put-within here m h within
 
 pub returns-clause-step : goal.returns-clause-step
-returns-clause-step g c = λ cells old new entry within step. step-within cells old new entry within step
+returns-clause-step g c = λ cells old new entry within step. step-within g.K.Behaves.does cells old new entry within step
 
 pub returns-clause-signals : goal.returns-clause-signals
 returns-clause-signals g c = λ ns are. signals-fit ns are

@@ -16,13 +16,13 @@ pub returns-clause-taken : goal.returns-clause-taken
 returns-clause-taken g c = λ p m q rest is. taken-weight p m q rest is
 
 pub returns-clause-step : goal.returns-clause-step
-returns-clause-step g c = λ cells p old new entry tests unread idle step. step-keeps p cells old new entry tests unread idle step
+returns-clause-step g c = λ cells p old new entry tests unread idle step. step-keeps p g.K.Behaves.does cells old new entry tests unread idle step
 
 pub returns-clause-unread : goal.returns-clause-unread
-returns-clause-unread g c = λ cells old new entry unread step. step-unread cells old new entry unread step
+returns-clause-unread g c = λ cells old new entry unread step. step-unread g.K.Behaves.does cells old new entry unread step
 
 pub returns-clause-opening : goal.returns-clause-opening
 returns-clause-opening g c = λ s is. (subst (λ t. NothingUnread t) (sym is) opening-unread, subst (λ t. AreIdle t) (sym is) (opening-idle _))
 
 pub returns-clause-idle : goal.returns-clause-idle
-returns-clause-idle g c = λ cells old new entry idle step. step-idle cells old new entry idle step
+returns-clause-idle g c = λ cells old new entry idle step. step-idle g.K.Behaves.does cells old new entry idle step

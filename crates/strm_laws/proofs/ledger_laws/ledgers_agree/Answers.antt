@@ -2,4 +2,4 @@ use Rattle.strm_laws.proofs.LedgerSums.{agrees}
 use Rattle.strm_laws.proofs.ledger_laws.ledgers_agree.Goals as goal
 
 pub returns : goal.returns
-returns c = λ dir base fates es unread idle legal balanced low. agrees dir base fates es unread idle legal balanced low
+returns g c = λ dir base fates es unread idle legal balanced low. agrees g.K.Behaves.does dir base fates es unread idle legal balanced low

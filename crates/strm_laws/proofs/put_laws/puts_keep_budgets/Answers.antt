@@ -3,7 +3,7 @@ use Rattle.strm_laws.proofs.PutsWithin.{puts-costed}
 use Rattle.strm_laws.proofs.put_laws.puts_keep_budgets.Goals as goal
 
 pub returns-clause-within : goal.returns-clause-within
-returns-clause-within g c = λ cells. puts-costed cells
+returns-clause-within g c = λ cells. puts-costed g.K.Behaves.does cells
 
 pub returns-clause-ends : goal.returns-clause-ends
 returns-clause-ends g c = λ all a. ends all a

@@ -1,5 +1,5 @@
 -- The modules are taken as a slice, and written back whole.
-use Rattle.strm_frame.proofs.Prelude.{◌-◌, ◌∙◌, List, ap, sym, subst, length, map, arith, slice_index_or}
+use Rattle.strm_frame.proofs.Prelude.{true, ◌-◌, ◌∙◌, List, ap, sym, subst, length, map, arith, slice_index_or}
 use Rattle.strm_frame.specs.Prelude.{own_at, of_part, Standing, token}
 use Rattle.std.specs.Prelude.{ℕ}
 use Rattle.strm_types.specs.Modules.{put_among}
@@ -48,6 +48,7 @@ returns-clause-does g c =
     let same = refilled c.args.self.now.modules.items ys (c.put_among.ensures.length ∙ ap length before) in
     let said = λ (say : Standing w.Plain ℕ → _) (xs : List _). slice_index_or (map say (all_in (standing_in w.plain) s xs)) (to.at - 1) 0 in
     let These = λ (xs zs : List _).
-    Puts (all_in (standing_in w.plain)) (AreHeld (Fits w.IsHeld) owns) (all_of owns) (all_of (keeps_of w.keeps)) s t xs zs n (said (of_part (λ p. own_at (w.does p) to m)) xs)
-    c.put_among.result c.args.told.now c.put_among.new.told (put_among w.puts (to.at - 1) to m (all_in (standing_in w.plain) s xs)) in
+    Puts (all_in (standing_in w.plain)) (AreHeld (Fits w.IsHeld) owns) (all_of owns) (all_of (keeps_of w.keeps)) s t xs zs (slice_index_or (map (of_part w.holds) (all_in (standing_in w.plain) s xs)) (to.at - 1) true) n
+    (said (of_part (λ p. own_at (w.does p) to m)) xs)
+    c.put_among.result c.args.told.now c.put_among.new.told (put_among (w.puts g.M.PutProcedure.by) (to.at - 1) to m (all_in (standing_in w.plain) s xs)) in
     subst (These c.args.self.now.modules.items) (sym same) (subst (λ xs. These xs ys) before c.put_among.ensures.does)

@@ -1,6 +1,7 @@
 use Rattle.std.proofs.Common.{sym, ap, subst, ◌∙◌}
 use Rattle.strm_types.specs.Events.{request}
 use Rattle.strm_types.specs.Journal.{reply_in}
+use Rattle.strm_laws.proofs.NoOwn.{none as no_own}
 use Rattle.strm_laws.specs.Pair.{call_refused}
 use Rattle.strm_locks.specs.Books.{Adds, IsKept, Kept, book_of, kept}
 use Rattle.strm_locks.specs.Shares.{entry_of}
@@ -23,7 +24,7 @@ invariant_of-self-in-Ok g c =
 
 pub returns-in-Err-clause-refused : goal.returns-in-Err-clause-refused
 returns-in-Err-clause-refused g c =
-    refused-on _ _ _ _ _ c.call.result _ c.in-Err.is (ap (λ k. call_refused k.pair c.args.caller (request c.args.event.now)) c.self.view_is)
+    refused-on _ _ _ _ _ c.call.result _ c.in-Err.is (ap (λ k. call_refused no_own k.pair c.args.caller (request c.args.event.now)) c.self.view_is)
     (λ same. (ap (λ p. kept c.self.inside.calls p c.self.inside.left) same.0 ∙ c.self.view_is, same.1)) c.call.ensures.refused
 
 pub returns-in-Ok-clause-book : goal.returns-in-Ok-clause-book
@@ -37,4 +38,4 @@ returns-in-Ok-clause-book g c =
 
 pub returns-in-Ok-clause-refused : goal.returns-in-Ok-clause-refused
 returns-in-Ok-clause-refused g c =
-    answered _ _ _ _ _ c.call.result _ c.in-Ok.is (ap (λ k. call_refused k.pair c.args.caller (request c.args.event.now)) c.self.view_is) c.call.ensures.refused
+    answered _ _ _ _ _ c.call.result _ c.in-Ok.is (ap (λ k. call_refused no_own k.pair c.args.caller (request c.args.event.now)) c.self.view_is) c.call.ensures.refused

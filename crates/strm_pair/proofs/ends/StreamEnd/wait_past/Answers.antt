@@ -2,7 +2,7 @@
 use Rattle.strm_pair.proofs.Prelude.{ℕ, List, map, ap, sym, ◌∙◌, Option}
 use Rattle.strm_pair.specs.Prelude.{waits_on, Standing, module_name}
 use Rattle.strm_types.specs.ModuleQueues.{waits_at}
-use Rattle.strm_laws.proofs.StackStays.{waits-names}
+use Rattle.strm_laws.proofs.SameNames.{waits-names}
 use Rattle.strm_pair.proofs.Puttings.{side-changed}
 use Rattle.strm_pair.proofs.ends.StreamEnd.wait_past.Goals as goal
 use Rattle.strm_pair.specs.Stacks.{modules_in}

@@ -1,9 +1,9 @@
 -- Its settings and both queues are its text.
 use Rattle.strm_pair.proofs.Prelude.{sym, ap, subst, ◌∙◌, IfSome}
 use Rattle.strm_pair.specs.Prelude.{Second, module_format, queue, put, queue_in, IsPairReady, standing, HasInHand}
+use Rattle.strm_pair.specs.Prelude.{OfLdterm, own_in, standing_in}
 use Rattle.strm_image.specs.declared.versions.QueueKind.TheVariants as queues
-use Rattle.strm_pair.specs.declared.modules.AnyModule.TheVariants as kinds
-use Rattle.strm_pair.specs.AnyModules.{module_in}
+use Rattle.strm_laws.specs.Stacked.{of_kind}
 use Rattle.strm_pair.proofs.RestTexts.{ldterm_written}
 use Rattle.strm_pair.proofs.images.modules.put_ldterm.Goals as goal
 
@@ -28,6 +28,6 @@ returns g c =
     let x = c.args.ldterm.now in
     let pair = c.in-Some.pair in
     c.put_queue.ensures ∙ ap (put ((queue Second queues.LdtermWrite).text (queue_in s pair.write)))
-    (c.put_queue-out.ensures ∙ ap (put ((queue Second queues.LdtermRead).text (queue_in s pair.read))) (c.put_settings.ensures s))
+    (c.put_queue-out.ensures ∙ ap (put ((queue Second queues.LdtermRead).text (queue_in s pair.read))) (c.put_line_modes.ensures s))
     ∙ ldterm_written s x pair c.args.out
-    ∙ ap (λ o. put ((module_format Second).text (module_in s (standing (kinds.Ldterm x) o))) c.args.out) (sym c.in-Some.is)
+    ∙ ap (λ o. put ((module_format Second).text (of_kind OfLdterm (standing_in own_in s (standing x o)))) c.args.out) (sym c.in-Some.is)

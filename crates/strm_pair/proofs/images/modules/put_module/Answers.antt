@@ -7,7 +7,8 @@ use Rattle.strm_pair.specs.AnyModules.{AnyStanding, IsKindHeld, kind_in, module_
 use Rattle.strm_pair.proofs.images.modules.put_module.Goals as goal
 
 -- one without queues stands by itself
-stands-alone : (s : StoreValue) (x : AnyStanding) (m : AnyModule) → x.module ≡ m → x.queues ≡ None → alone (kind_in s m) ≡ module_in s x
+stands-alone : (s : StoreValue) (x : AnyStanding) (m : AnyModule) → x.module ≡ m → x.queues ≡ None → alone (kind_in s m)
+    ≡ module_in s x
 stands-alone s x m is none = sym (ap (λ m. module_in s (standing m x.queues)) is ∙ ap (λ o. module_in s (standing m o)) none)
 
 pub put_ldterm-requires : goal.put_ldterm-requires
@@ -34,3 +35,9 @@ returns-in-Pckt g c =
     let s = g.B.Blocks.value c.args.store.now in
     let none = subst (λ m. IsKindHeld s m c.args.any.now.queues) c.in-Pckt.is c.requires.held.itself in
     c.put_pckt.ensures ∙ ap (λ p. put ((module_format Second).text p) c.args.out) (stands-alone s c.args.any.now _ c.in-Pckt.is none)
+
+pub returns-in-Own : goal.returns-in-Own
+returns-in-Own g c =
+    let s = g.B.Blocks.value c.args.store.now in
+    let none = subst (λ m. IsKindHeld s m c.args.any.now.queues) c.in-Own.is c.requires.held.itself in
+    c.put_own.ensures ∙ ap (λ p. put ((module_format Second).text p) c.args.out) (stands-alone s c.args.any.now _ c.in-Own.is none)

@@ -1,5 +1,5 @@
 -- Its kind says it.
-use Rattle.strm_pair.proofs.KindsDo.{kind-fits, ldterm-kind, pckt-kind, ptem-kind}
+use Rattle.strm_pair.proofs.KindsDo.{kind-fits, ldterm-kind, own-kind, pckt-kind, ptem-kind}
 use Rattle.strm_pair.proofs.modules.AnyModuleModule.asks.Goals as goal
 
 pub asks-requires : goal.asks-requires
@@ -28,3 +28,12 @@ returns-in-Pckt-clause-asks g c = rw c.in-Pckt.is c.asks-in-Pckt.ensures.asks
 
 pub returns-in-Pckt-clause-few : goal.returns-in-Pckt-clause-few
 returns-in-Pckt-clause-few g c = c.asks-in-Pckt.ensures.few
+
+pub asks-requires-in-Own : goal.asks-requires-in-Own
+asks-requires-in-Own g c = record { held = kind-fits _ _ _ _ _ own-kind _ _ _ _ c.in-Own.is c.requires.held }
+
+pub returns-in-Own-clause-asks : goal.returns-in-Own-clause-asks
+returns-in-Own-clause-asks g c = rw c.in-Own.is c.asks-in-Own.ensures.asks
+
+pub returns-in-Own-clause-few : goal.returns-in-Own-clause-few
+returns-in-Own-clause-few g c = c.asks-in-Own.ensures.few

@@ -1,6 +1,6 @@
 -- By its kind.
 use Rattle.std.proofs.Common.{length, ap, sym, ◌∙◌}
-use Rattle.strm_laws.specs.Stacked.{OfPtem, kind_line, without_kind_line}
+use Rattle.strm_laws.specs.Stacked.{OfOwn, OfPtem, kind_line, without_kind_line}
 use Rattle.strm_pair.specs.AnyModules.{kind_in}
 use Rattle.strm_pair.proofs.modules.AnyModuleModule.clear_line.Goals as goal
 
@@ -15,3 +15,9 @@ returns-in-Ptem-clause-line c = λ s. ap OfPtem (c.clear_line-in-Ptem.ensures.li
 
 pub returns-in-Pckt-clause-gone : goal.returns-in-Pckt-clause-gone
 returns-in-Pckt-clause-gone c = λ s. ap (λ x. length (kind_line (kind_in s x))) c.in-Pckt.is ∙ c.clear_line-in-Pckt.ensures.gone s
+
+pub returns-in-Own-clause-gone : goal.returns-in-Own-clause-gone
+returns-in-Own-clause-gone c = λ s. ap (λ x. length (kind_line (kind_in s x))) c.in-Own.is ∙ c.clear_line-in-Own.ensures.gone s
+
+pub returns-in-Own-clause-line : goal.returns-in-Own-clause-line
+returns-in-Own-clause-line c = λ s. ap OfOwn (c.clear_line-in-Own.ensures.line s) ∙ sym (ap (λ x. without_kind_line (kind_in s x)) c.in-Own.is)

@@ -12,3 +12,6 @@ returns-in-Ptem-clause-line c = λ s. c.line_len-in-Ptem.ensures.line s ∙ ap (
 
 pub returns-in-Pckt-clause-line : goal.returns-in-Pckt-clause-line
 returns-in-Pckt-clause-line c = λ s. c.line_len-in-Pckt.ensures.line s ∙ ap (λ x. length (kind_line (kind_in s x))) (sym c.in-Pckt.is)
+
+pub returns-in-Own-clause-line : goal.returns-in-Own-clause-line
+returns-in-Own-clause-line c = λ s. c.line_len-in-Own.ensures.line s ∙ ap (λ x. length (kind_line (kind_in s x))) (sym c.in-Own.is)

@@ -12,3 +12,6 @@ returns-in-Ptem c = λ s. c.name-in-Ptem.ensures s ∙ ap (λ x. kind_name (kind
 
 pub returns-in-Pckt : goal.returns-in-Pckt
 returns-in-Pckt c = λ s. c.name-in-Pckt.ensures s ∙ ap (λ x. kind_name (kind_in s x)) (sym c.in-Pckt.is)
+
+pub returns-in-Own : goal.returns-in-Own
+returns-in-Own c = λ s. c.name-in-Own.ensures s ∙ ap (λ x. kind_name (kind_in s x)) (sym c.in-Own.is)

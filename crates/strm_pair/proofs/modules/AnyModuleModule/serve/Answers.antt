@@ -4,7 +4,7 @@ use Rattle.strm_pair.specs.Prelude.{Ends, discipline_of, AreIn}
 use Rattle.strm_types.specs.LdtermStands.{discipline_at}
 use Rattle.strm_ldterm.specs.Bounds.{turn_cost}
 use Rattle.strm_pair.specs.AnyModules.{kind_cost, kind_keeps}
-use Rattle.strm_pair.proofs.KindsDo.{kind-fits, kind-serves, ldterm-kind, pckt-kind, ptem-kind}
+use Rattle.strm_pair.proofs.KindsDo.{kind-fits, kind-serves, ldterm-kind, own-kind, pckt-kind, ptem-kind}
 use Rattle.strm_pair.proofs.modules.AnyModuleModule.serve.Goals as goal
 
 pub serve-requires-clause-held : goal.serve-requires-clause-held
@@ -39,3 +39,12 @@ returns-in-Pckt g c =
     rw c.in-Pckt.is (rw c.in-Pckt.is (kind-serves _ _ _ _ _ pckt-kind (λ p. 0) (kind_cost c.args.here true)
     (λ n x. ⊥) (λ n x. Ends c.args.here.way c.args.again (discipline_of x) n) (λ n x never. absurd never)
     _ _ _ _ _ _ _ _ _ _ (λ on p. absurd (false≢true on)) c.serve-in-Pckt.ensures))
+
+pub serve-requires-in-Own-clause-held : goal.serve-requires-in-Own-clause-held
+serve-requires-in-Own-clause-held g c = kind-fits _ _ _ _ _ own-kind _ _ _ _ c.in-Own.is c.requires.held
+
+pub returns-in-Own : goal.returns-in-Own
+returns-in-Own g c =
+    rw c.in-Own.is (rw c.in-Own.is (kind-serves _ _ _ _ _ own-kind (λ p. 0) (kind_cost c.args.here true)
+    (λ n x. ⊥) (λ n x. Ends c.args.here.way c.args.again (discipline_of x) n) (λ n x never. absurd never)
+    _ _ _ _ _ _ _ _ _ _ (λ on p. absurd (false≢true on)) c.serve-in-Own.ensures))

@@ -17,51 +17,58 @@ use Rattle.strm_pair.proofs.pair.Pair.audit.Goals as goal
 
 pub returns-clause-ordered : goal.returns-clause-ordered
 returns-clause-ordered g c =
+    let K = g.M.Behaves.does in
     let p = c.self.inside in
     let s = g.B.Blocks.value p.store in
-    subst (λ (v : PairState). AreOrdered v.state) c.self.view_is (kept-base s p.streams p.journal (start_in p.base) p.limits p.fates c.self.invariant.kept).ordered
+    subst (λ (v : PairState). AreOrdered v.state) c.self.view_is (kept-base K s p.streams p.journal (start_in p.base) p.limits p.fates c.self.invariant.kept).ordered
 
 pub returns-clause-restorable : goal.returns-clause-restorable
 returns-clause-restorable g c =
+    let K = g.M.Behaves.does in
     let p = c.self.inside in
     let s = g.B.Blocks.value p.store in
-    subst (λ (v : PairState). Restorable v.state) c.self.view_is (kept-base s p.streams p.journal (start_in p.base) p.limits p.fates c.self.invariant.kept).restorable
+    subst (λ (v : PairState). Restorable v.state) c.self.view_is (kept-base K s p.streams p.journal (start_in p.base) p.limits p.fates c.self.invariant.kept).restorable
 
 pub returns-clause-blocks : goal.returns-clause-blocks
 returns-clause-blocks g c =
     let p = c.self.inside in
     let s = g.B.Blocks.value p.store in
-    let idle = led-idle s p.streams p.journal (start_in p.base) p.limits p.fates c.self.invariant.kept in
+    let idle = led-idle g.M.Behaves.does s p.streams p.journal (start_in p.base) p.limits p.fates c.self.invariant.kept in
     subst (λ (v : PairState). IsPoolOf (messages_in v.state) v.limits v.free) c.self.view_is
     (free-shown s p.streams c.self.invariant.kept.held idle p.limits c.audit.ensures c.self.invariant.kept.mblks c.self.invariant.kept.dblks)
 
 pub returns-clause-replayed : goal.returns-clause-replayed
-returns-clause-replayed g c = subst (λ (v : PairState). v.state ≡ replay plain v.base v.journal) c.self.view_is c.self.invariant.kept.replayed
+returns-clause-replayed g c =
+    subst (λ (v : PairState). v.state ≡ replay g.M.Behaves.does plain v.base v.journal) c.self.view_is c.self.invariant.kept.replayed
 
 pub returns-clause-legal : goal.returns-clause-legal
-returns-clause-legal g c = subst (λ (v : PairState). IsLegal plain v.base v.journal) c.self.view_is c.self.invariant.kept.legal
+returns-clause-legal g c = subst (λ (v : PairState). IsLegal g.M.Behaves.does plain v.base v.journal) c.self.view_is c.self.invariant.kept.legal
 
 pub returns-clause-told : goal.returns-clause-told
-returns-clause-told g c = subst (λ (v : PairState). v.fates ≡ told_by plain v.base v.journal v.base_fates) c.self.view_is c.self.invariant.kept.told
+returns-clause-told g c =
+    subst (λ (v : PairState). v.fates ≡ told_by g.M.Behaves.does plain v.base v.journal v.base_fates) c.self.view_is c.self.invariant.kept.told
 
 pub returns-clause-balanced : goal.returns-clause-balanced
 returns-clause-balanced g c dir =
+    let K = g.M.Behaves.does in
     let p = c.self.inside in
     let s = g.B.Blocks.value p.store in
-    subst (λ (v : PairState). Balanced dir v.state v.fates) c.self.view_is ((kept-base s p.streams p.journal (start_in p.base) p.limits p.fates c.self.invariant.kept).balanced dir)
+    subst (λ (v : PairState). Balanced dir v.state v.fates) c.self.view_is ((kept-base K s p.streams p.journal (start_in p.base) p.limits p.fates c.self.invariant.kept).balanced dir)
 
 pub returns-clause-once : goal.returns-clause-once
 returns-clause-once g c = λ o.
+    let K = g.M.Behaves.does in
     let p = c.self.inside in
     let base = (start_in p.base).state in
     let is = c.self.invariant.kept.based.restorable in
-    subst (λ (v : PairState). places_of o v.base v.journal ≡ (if is_booked o v.base (replay tagged (based v.base) v.journal) then 1 else 0)) c.self.view_is
-    (one-place o base (journal_of p.journal) (restorable-unread base is) is.idle (legal-from base (journal_of p.journal) is.idle c.self.invariant.kept.legal))
+    subst (λ (v : PairState). places_of K o v.base v.journal ≡ (if is_booked o v.base (replay K tagged (based v.base) v.journal) then 1 else 0)) c.self.view_is
+    (one-place K o base (journal_of p.journal) (restorable-unread base is) is.idle (legal-from K base (journal_of p.journal) is.idle c.self.invariant.kept.legal))
 
 pub returns-clause-own : goal.returns-clause-own
 returns-clause-own g c = λ o.
+    let K = g.M.Behaves.does in
     let p = c.self.inside in
     let base = (start_in p.base).state in
     let is = c.self.invariant.kept.based.restorable in
-    subst (λ (v : PairState). own_places_of o v.base v.journal ≡ (if is_booked o v.base (replay tagged (based v.base) v.journal) then 1 else 0)) c.self.view_is
-    (own-place o base (journal_of p.journal) (restorable-unread base is) is.idle (legal-from base (journal_of p.journal) is.idle c.self.invariant.kept.legal))
+    subst (λ (v : PairState). own_places_of K o v.base v.journal ≡ (if is_booked o v.base (replay K tagged (based v.base) v.journal) then 1 else 0)) c.self.view_is
+    (own-place K o base (journal_of p.journal) (restorable-unread base is) is.idle (legal-from K base (journal_of p.journal) is.idle c.self.invariant.kept.legal))

@@ -10,15 +10,16 @@ use Rattle.strm_pair.proofs.pair.Pair.ledger.Goals as goal
 
 pub sum-requires : goal.sum-requires
 sum-requires g c =
+    let K = g.M.Behaves.does in
     let p = c.self.inside in
-    let low = elsewhere-few (g.B.Blocks.value p.store) p.streams p.journal (start_in p.base) p.limits p.fates c.self.invariant.kept c.args.direction in
+    let low = elsewhere-few K (g.B.Blocks.value p.store) p.streams p.journal (start_in p.base) p.limits p.fates c.self.invariant.kept c.args.direction in
     omega (arith, low, ap (λ counts. sum_of counts) c.of-fates.ensures)
 
 pub overflow_add-elsewhere : goal.overflow_add-elsewhere
 overflow_add-elsewhere g c =
     let p = c.self.inside in
     let s = g.B.Blocks.value p.store in
-    let low = elsewhere-few s p.streams p.journal (start_in p.base) p.limits p.fates c.self.invariant.kept c.args.direction in
+    let low = elsewhere-few g.M.Behaves.does s p.streams p.journal (start_in p.base) p.limits p.fates c.self.invariant.kept c.args.direction in
     omega (arith, low, c.sum.ensures, ap (λ counts. sum_of counts) c.of-fates.ensures, c.line_lens-inline.ensures s)
 
 pub overflow_add-result : goal.overflow_add-result
@@ -36,7 +37,7 @@ overflow_sub-result g c =
     let p = c.self.inside in
     let s = g.B.Blocks.value p.store in
     let dir = c.args.direction in
-    let all = balance s p.streams p.journal (start_in p.base) p.limits p.fates c.self.invariant.kept dir in
+    let all = balance g.M.Behaves.does s p.streams p.journal (start_in p.base) p.limits p.fates c.self.invariant.kept dir in
     let gone = c.sum.ensures ∙ ap (λ counts. sum_of counts) c.of-fates.ensures in
     let is = c.book-book.ensures s in
     omega (arith, all, gone, c.line_lens-inline.ensures s, ap (λ (b : Book). b.written) is, ap (λ (b : Book). b.made) is)
@@ -47,7 +48,7 @@ returns-clause-ledger g c =
     let s = g.B.Blocks.value p.store in
     let dir = c.args.direction in
     let st = state_in s p.streams in
-    let all = balance s p.streams p.journal (start_in p.base) p.limits p.fates c.self.invariant.kept dir in
+    let all = balance g.M.Behaves.does s p.streams p.journal (start_in p.base) p.limits p.fates c.self.invariant.kept dir in
     let gone = c.sum.ensures ∙ ap (λ counts. sum_of counts) c.of-fates.ensures in
     let is = c.book-book.ensures s in
     let written = ap (λ (b : Book). b.written) is in
@@ -72,7 +73,7 @@ returns-clause-balance g c =
     let p = c.self.inside in
     let s = g.B.Blocks.value p.store in
     let dir = c.args.direction in
-    let all = balance s p.streams p.journal (start_in p.base) p.limits p.fates c.self.invariant.kept dir in
+    let all = balance g.M.Behaves.does s p.streams p.journal (start_in p.base) p.limits p.fates c.self.invariant.kept dir in
     let is = c.book-book.ensures s in
     let gone = ap (λ counts. sum_of counts) c.of-fates.ensures in
     omega (arith, all, gone, c.sum.ensures, c.line_lens-inline.ensures s, ap (λ (b : Book). b.written) is, ap (λ (b : Book). b.made) is)

@@ -30,6 +30,7 @@ at-base-requires-clause-room g c =
 
 pub invariant_of-result : goal.invariant_of-result
 invariant_of-result g c =
+    let K = g.M.Behaves.does in
     let x = imaged_now c.args.text.now in
     let made = c.streams_of-streams.ensures in
     let u = g.B.Blocks.value c.streams_of-streams.new.store in
@@ -41,7 +42,7 @@ invariant_of-result g c =
     let r = c.requires.reserved in
     record {
       kept =
-          restored-kept u c.streams_of-streams.result c.args.reserved.journal (start_in c.at-base.result) c.args.limits fates x begins made.state r.journal c.fates_of-fates.ensures
+          restored-kept u c.streams_of-streams.result c.args.reserved.journal (start_in c.at-base.result) c.args.limits fates x begins made.state r.journal c.fates_of-fates.ensures K c.requires.known
           (image_base x (fates_in x) told refl) made.held m d r.events r.bytes;
       written = is-written c.at-base.result _ fates [] c.args.limits c.at-base.ensures.start c.at-base.ensures.text (omega (arith, r.base, c.at-base.ensures.memory));
     }

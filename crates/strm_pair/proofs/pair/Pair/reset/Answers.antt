@@ -36,6 +36,7 @@ write-requires-clause-room g c =
 
 pub invariant_of-self : goal.invariant_of-self
 invariant_of-self g c =
+    let K = g.M.Behaves.does in
     let l = c.self.inside.limits in
     let fresh = c.renew.ensures in
     let kept = c.self.invariant.kept in
@@ -44,7 +45,7 @@ invariant_of-self g c =
     let as_new : AreFresh l.mblks l.dblks c.renew.new.self = record { state = fresh.state old l.mblks l.dblks kept.held.beside; held = fresh.held old l.mblks l.dblks kept.held.beside } in
     let start = fresh-start _ c.renew.new.self (start_in c.write.new.self) _ _ l.mblks l.dblks blank as_new c.none-self-inside.ensures c.none-self-inside-2.ensures c.write.ensures.start in
     record {
-      kept = fresh-kept _ _ _ _ l _ start blank as_new c.clear.ensures.empty (c.clear.ensures.most_entries ∙ kept.events) (c.clear.ensures.most_bytes ∙ kept.bytes) c.none-self-inside.ensures;
+      kept = fresh-kept K _ _ _ _ l _ start blank as_new c.clear.ensures.empty (c.clear.ensures.most_entries ∙ kept.events) (c.clear.ensures.most_bytes ∙ kept.bytes) c.none-self-inside.ensures;
       written = is-written c.write.new.self _ _ _ l c.write.ensures.start c.write.ensures.text (omega (arith, c.self.invariant.written.room, c.write.ensures.memory));
     }
 

@@ -12,7 +12,7 @@ pub returns-in-Err-clause-ran : goal.returns-in-Err-clause-ran
 returns-in-Err-clause-ran g c =
     let l = c.loop-turns in
     let stays = refused-by (queue_refused l.self c.in-Some.queue) c.turn.result c.turn.ensures.refused c.in-Err.refusal c.in-Err.is in
-    subst (λ (p : PairState). RanTurns l.turns c.args.self.now p) (sym stays.1) l.invariant.ran
+    subst (λ (p : PairState). RanTurns g.M.Behaves.does l.turns c.args.self.now p) (sym stays.1) l.invariant.ran
 
 pub returns-in-Err-clause-entries : goal.returns-in-Err-clause-entries
 returns-in-Err-clause-entries g c =
@@ -28,8 +28,9 @@ returns-in-Err-clause-stopped g c =
 
 pub loop-turns-preserved : goal.loop-turns-preserved
 loop-turns-preserved g c =
+    let K = g.M.Behaves.does in
     let l = c.loop-turns in
-    one-more l.turns c.entries_left-left.result c.args.self.now l.self c.turn.new.self c.in-Some.queue c.in_default-turn.field-0 l.invariant
+    one-more K l.turns c.entries_left-left.result c.args.self.now l.self c.turn.new.self c.in-Some.queue c.in_default-turn.field-0 l.invariant
     (sym c.first_enabled.ensures ∙ c.in-Some.is) c.in_default-turn.ensures.adds c.in_default-turn.ensures.stops
 
 pub returns-in-None-clause-rest : goal.returns-in-None-clause-rest
@@ -41,7 +42,8 @@ returns-in_default-clause-rests g c = λ once events bytes range blocks. none-fi
 
 pub returns-in-Err-clause-rests : goal.returns-in-Err-clause-rests
 returns-in-Err-clause-rests g c = λ once events bytes range blocks.
-    let going = next-allowed c.loop-turns.turns c.args.self.now c.turn.new.self (returns-in-Err-clause-ran g c) c.audit.ensures.restorable once events bytes range blocks in
+    let K = g.M.Behaves.does in
+    let going = next-allowed K c.loop-turns.turns c.args.self.now c.turn.new.self (returns-in-Err-clause-ran g c) c.audit.ensures.restorable once events bytes range blocks in
     absurd (cc (returns-in-Err-clause-stopped g c ∙ going))
 
 pub returns-in-None-clause-rests : goal.returns-in-None-clause-rests
@@ -49,8 +51,9 @@ returns-in-None-clause-rests g c = λ once events bytes range blocks. none-first
 
 pub returns-in-Some-first_enabled-clause-rests : goal.returns-in-Some-first_enabled-clause-rests
 returns-in-Some-first_enabled-clause-rests g c = λ once events bytes range blocks.
+    let K = g.M.Behaves.does in
     let l = c.loop-turns in
-    let going = next-allowed l.turns c.args.self.now l.self l.invariant.ran c.audit.ensures.restorable once events bytes range blocks in
+    let going = next-allowed K l.turns c.args.self.now l.self l.invariant.ran c.audit.ensures.restorable once events bytes range blocks in
     let name = c.in-Some-first_enabled.queue in
     let first : slice_get l.self.state.enabled 0 ≡ Some name = sym c.first_enabled-2.ensures ∙ c.in-Some-first_enabled.is in
     let full : l.self.limits.journal_events ≤ length l.self.journal =

@@ -15,19 +15,22 @@ use Rattle.strm_pair.proofs.pair.Pair.stop.Goals as goal
 
 pub invariant_of-self : goal.invariant_of-self
 invariant_of-self g c =
+    let K = g.M.Behaves.does in
     let p = c.self.inside in
     let s = g.B.Blocks.value p.store in
     let asked = request c.args.event.now in
     let old = state_in s p.streams in
     let entry : PlainEntry = Called c.args.caller asked (Stop c.args.signal) in
-    let verdict = judged-stopped c.args.signal (call_refused c.args.self.now c.args.caller asked) (stop_of c.args.self.now.state c.args.caller asked) c.requires in
-    let allowed : call_refused (pair_of s p.streams p.journal (start_in p.base) p.limits p.fates) c.args.caller asked ≡ None = ap (λ (v : PairState). call_refused v c.args.caller asked) c.self.view_is ∙ verdict.0 in
+    let verdict = judged-stopped c.args.signal (call_refused K c.args.self.now c.args.caller asked) (stop_of c.args.self.now.state c.args.caller asked) c.requires in
+    let allowed : call_refused K (pair_of s p.streams p.journal (start_in p.base) p.limits p.fates) c.args.caller asked ≡ None = ap (λ (v : PairState). call_refused K v c.args.caller asked) c.self.view_is ∙ verdict.0 in
     let stopped : stop_of old c.args.caller asked ≡ Some c.args.signal = ap (λ (v : PairState). stop_of v.state c.args.caller asked) c.self.view_is ∙ verdict.1 in
-    let same = as-stopped c.args.caller asked old c.args.signal stopped in
+    let same = as-stopped K c.args.caller asked old c.args.signal stopped in
     record {
-      kept = kept-step s s p.streams p.streams p.journal c.add_call.new.self (start_in p.base) p.limits p.fates p.fates entry c.self.invariant.kept
+      kept =
+          kept-step K s s p.streams p.streams p.journal c.add_call.new.self (start_in p.base) p.limits p.fates p.fates entry c.self.invariant.kept
           (record {
-            allowed = (call-allowed old (journal_of p.journal) p.limits (enough (blocks_asked asked) (free_in s)) c.args.caller asked allowed).0;
+            allowed =
+                (call-allowed K old (journal_of p.journal) p.limits (enough (blocks_asked asked) (free_in s)) c.args.caller asked allowed).0;
             answered = sym (ap (λ (o : Outcome ℕ). o.answer) same);
             leads = refl;
           })
@@ -38,24 +41,26 @@ invariant_of-self g c =
 
 pub returns-clause-adds : goal.returns-clause-adds
 returns-clause-adds g c =
+    let K = g.M.Behaves.does in
     let p = c.self.inside in
     let s = g.B.Blocks.value p.store in
     let asked = request c.args.event.now in
     let old = state_in s p.streams in
     let entry : PlainEntry = Called c.args.caller asked (Stop c.args.signal) in
-    let verdict = judged-stopped c.args.signal (call_refused c.args.self.now c.args.caller asked) (stop_of c.args.self.now.state c.args.caller asked) c.requires in
-    let allowed : call_refused (pair_of s p.streams p.journal (start_in p.base) p.limits p.fates) c.args.caller asked ≡ None = ap (λ (v : PairState). call_refused v c.args.caller asked) c.self.view_is ∙ verdict.0 in
+    let verdict = judged-stopped c.args.signal (call_refused K c.args.self.now c.args.caller asked) (stop_of c.args.self.now.state c.args.caller asked) c.requires in
+    let allowed : call_refused K (pair_of s p.streams p.journal (start_in p.base) p.limits p.fates) c.args.caller asked ≡ None = ap (λ (v : PairState). call_refused K v c.args.caller asked) c.self.view_is ∙ verdict.0 in
     let stopped : stop_of old c.args.caller asked ≡ Some c.args.signal = ap (λ (v : PairState). stop_of v.state c.args.caller asked) c.self.view_is ∙ verdict.1 in
-    let same = as-stopped c.args.caller asked old c.args.signal stopped in
-    let taken : IsCall plain old c.args.caller asked (Stop c.args.signal) (after plain old entry) = record {
-      allowed = (call-allowed old (journal_of p.journal) p.limits (enough (blocks_asked asked) (free_in s)) c.args.caller asked allowed).0;
+    let same = as-stopped K c.args.caller asked old c.args.signal stopped in
+    let taken : IsCall K plain old c.args.caller asked (Stop c.args.signal) (after K plain old entry) = record {
+      allowed =
+          (call-allowed K old (journal_of p.journal) p.limits (enough (blocks_asked asked) (free_in s)) c.args.caller asked allowed).0;
       answered = sym (ap (λ (o : Outcome ℕ). o.answer) same);
       leads = refl;
     } in
-    subst (λ (v : PairState). AddsEntry v (pair_of s p.streams c.add_call.new.self (start_in p.base) p.limits p.fates) entry) c.self.view_is
+    subst (λ (v : PairState). AddsEntry K v (pair_of s p.streams c.add_call.new.self (start_in p.base) p.limits p.fates) entry) c.self.view_is
     (record {
       journal = c.add_call.ensures.added;
-      step = step-shown s s p.streams p.streams entry (ap (λ (o : Outcome ℕ). o.state) same) taken;
+      step = step-shown K s s p.streams p.streams entry (ap (λ (o : Outcome ℕ). o.state) same) taken;
       fates = ap (λ (o : Outcome ℕ). tallied o.gone p.fates) same;
       base = refl;
       base_fates = refl;
@@ -65,23 +70,25 @@ returns-clause-adds g c =
 
 pub add_call-requires-clause-small : goal.add_call-requires-clause-small
 add_call-requires-clause-small g c =
+    let K = g.M.Behaves.does in
     let p = c.self.inside in
     let s = g.B.Blocks.value p.store in
     let asked = request c.args.event.now in
     let old = state_in s p.streams in
-    let allowed : call_refused (pair_of s p.streams p.journal (start_in p.base) p.limits p.fates) c.args.caller asked ≡ None = ap (λ (v : PairState). call_refused v c.args.caller asked) c.self.view_is ∙ (judged-stopped c.args.signal (call_refused c.args.self.now c.args.caller asked) (stop_of c.args.self.now.state c.args.caller asked) c.requires).0 in
-    let parts = call-allowed old (journal_of p.journal) p.limits (enough (blocks_asked asked) (free_in s)) c.args.caller asked allowed in
-    let at_once = (or_else-none (refused_at_once old c.args.caller asked) (refused_by_state old c.args.caller asked) parts.0).0 in
+    let allowed : call_refused K (pair_of s p.streams p.journal (start_in p.base) p.limits p.fates) c.args.caller asked ≡ None = ap (λ (v : PairState). call_refused K v c.args.caller asked) c.self.view_is ∙ (judged-stopped c.args.signal (call_refused K c.args.self.now c.args.caller asked) (stop_of c.args.self.now.state c.args.caller asked) c.requires).0 in
+    let parts = call-allowed K old (journal_of p.journal) p.limits (enough (blocks_asked asked) (free_in s)) c.args.caller asked allowed in
+    let at_once = (or_else-none (refused_at_once old c.args.caller asked) (refused_by_state K old c.args.caller asked) parts.0).0 in
     let blocks : blocks_asked asked ≤ free_m s = (asked-free (blocks_asked asked) s parts.2).mblks in
     few-kept old c.args.caller asked at_once (omega (arith, blocks, c.audit.ensures.few_mblks, free_m-is s))
 
 pub add_call-requires-clause-room : goal.add_call-requires-clause-room
 add_call-requires-clause-room g c =
+    let K = g.M.Behaves.does in
     let p = c.self.inside in
     let s = g.B.Blocks.value p.store in
     let asked = request c.args.event.now in
     let old = state_in s p.streams in
-    let allowed : call_refused (pair_of s p.streams p.journal (start_in p.base) p.limits p.fates) c.args.caller asked ≡ None = ap (λ (v : PairState). call_refused v c.args.caller asked) c.self.view_is ∙ (judged-stopped c.args.signal (call_refused c.args.self.now c.args.caller asked) (stop_of c.args.self.now.state c.args.caller asked) c.requires).0 in
-    let room = (call-allowed old (journal_of p.journal) p.limits (enough (blocks_asked asked) (free_in s)) c.args.caller asked allowed).1 in
+    let allowed : call_refused K (pair_of s p.streams p.journal (start_in p.base) p.limits p.fates) c.args.caller asked ≡ None = ap (λ (v : PairState). call_refused K v c.args.caller asked) c.self.view_is ∙ (judged-stopped c.args.signal (call_refused K c.args.self.now c.args.caller asked) (stop_of c.args.self.now.state c.args.caller asked) c.requires).0 in
+    let room = (call-allowed K old (journal_of p.journal) p.limits (enough (blocks_asked asked) (free_in s)) c.args.caller asked allowed).1 in
     room-less (journal_of p.journal) p.limits p.journal.most_entries p.journal.most_bytes (length (payload_of asked) + content_max asked) (length (payload_of asked) + 0)
     c.self.invariant.kept.events c.self.invariant.kept.bytes (omega arith) room

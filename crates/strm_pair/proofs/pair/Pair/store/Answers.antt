@@ -14,7 +14,7 @@ returns g c =
     let p = c.self.inside in
     let s = g.B.Blocks.value p.store in
     let kept = c.self.invariant.kept.held in
-    let idle = led-idle s p.streams p.journal (start_in p.base) p.limits p.fates c.self.invariant.kept in
+    let idle = led-idle g.M.Behaves.does s p.streams p.journal (start_in p.base) p.limits p.fates c.self.invariant.kept in
     subst (λ (v : PairState). Shows s v.state) c.self.view_is (record {
       hand = kept.hand;
       streams = each-side (λ side t. ShowsStream s (first_list side) t) (state_in s p.streams).ends

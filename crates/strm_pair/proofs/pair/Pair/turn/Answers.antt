@@ -12,6 +12,7 @@ use Rattle.strm_pair.proofs.pair.Pair.turn.Goals as goal
 
 pub invariant_of-self : goal.invariant_of-self
 invariant_of-self g c =
+    let K = g.M.Behaves.does in
     let p = c.self.inside in
     let s = g.B.Blocks.value p.store in
     let new = g.B.Blocks.value c.turn-turn.new.store in
@@ -19,7 +20,7 @@ invariant_of-self g c =
     let entry : PlainEntry = Turned c.args.name c.turn-turn.result in
     let allowed : queue_refused (pair_of s p.streams p.journal (start_in p.base) p.limits p.fates) c.args.name ≡ None = ap (λ (v : PairState). queue_refused v c.args.name) c.self.view_is ∙ sym c.turn_refusal.ensures ∙ c.in_default.is in
     record {
-      kept = kept-step s new p.streams c.turn-turn.new.self p.journal c.add_turn.new.self (start_in p.base) p.limits p.fates c.turn-turn.new.told entry c.self.invariant.kept
+      kept = kept-step K s new p.streams c.turn-turn.new.self p.journal c.add_turn.new.self (start_in p.base) p.limits p.fates c.turn-turn.new.told entry c.self.invariant.kept
           (record {
             enabled = (turn-allowed old (journal_of p.journal) p.limits (enough (turn_blocks c.args.name.place) (free_in s)) c.args.name allowed).0;
             in_range = (turn-allowed old (journal_of p.journal) p.limits (enough (turn_blocks c.args.name.place) (free_in s)) c.args.name allowed).1;
@@ -32,6 +33,7 @@ invariant_of-self g c =
 
 pub returns-clause-adds : goal.returns-clause-adds
 returns-clause-adds g c =
+    let K = g.M.Behaves.does in
     let p = c.self.inside in
     let s = g.B.Blocks.value p.store in
     let new = g.B.Blocks.value c.turn-turn.new.store in
@@ -40,16 +42,16 @@ returns-clause-adds g c =
     let old = state_in s p.streams in
     let entry : PlainEntry = Turned c.args.name c.turn-turn.result in
     let allowed : queue_refused (pair_of s p.streams p.journal (start_in p.base) p.limits p.fates) c.args.name ≡ None = ap (λ (v : PairState). queue_refused v c.args.name) c.self.view_is ∙ sym c.turn_refusal.ensures ∙ c.in_default.is in
-    let taken : IsTurn plain old c.args.name c.turn-turn.result (after plain old entry) = record {
+    let taken : IsTurn K plain old c.args.name c.turn-turn.result (after K plain old entry) = record {
       enabled = (turn-allowed old (journal_of p.journal) p.limits (enough (turn_blocks c.args.name.place) (free_in s)) c.args.name allowed).0;
       in_range = (turn-allowed old (journal_of p.journal) p.limits (enough (turn_blocks c.args.name.place) (free_in s)) c.args.name allowed).1;
       answered = sym c.turn-turn.ensures.turn;
       leads = refl;
     } in
-    subst (λ (v : PairState). AddsEntry v (pair_of new q k (start_in p.base) p.limits c.turn-turn.new.told) entry) c.self.view_is
+    subst (λ (v : PairState). AddsEntry K v (pair_of new q k (start_in p.base) p.limits c.turn-turn.new.told) entry) c.self.view_is
     (record {
       journal = c.add_turn.ensures.added;
-      step = step-shown s new p.streams q entry c.turn-turn.ensures.leads.state taken;
+      step = step-shown K s new p.streams q entry c.turn-turn.ensures.leads.state taken;
       fates = c.turn-turn.ensures.leads.tells;
       base = refl;
       base_fates = refl;
@@ -83,7 +85,7 @@ turn-turn-requires g c =
     let asked = enough (turn_blocks c.args.name.place) (free_in s) in
     let allowed : queue_refused (pair_of s p.streams p.journal (start_in p.base) p.limits p.fates) c.args.name ≡ None = ap (λ (v : PairState). queue_refused v c.args.name) c.self.view_is ∙ sym c.turn_refusal.ensures ∙ c.in_default.is in
     record {
-      rests = led-rests s p.streams p.journal (start_in p.base) p.limits p.fates c.self.invariant.kept;
+      rests = led-rests g.M.Behaves.does s p.streams p.journal (start_in p.base) p.limits p.fates c.self.invariant.kept;
       room = asked-free (turn_blocks c.args.name.place) s (turn-free old (journal_of p.journal) p.limits asked c.args.name allowed);
       range = (turn-allowed old (journal_of p.journal) p.limits asked c.args.name allowed).1;
     }

@@ -14,7 +14,7 @@ returns-then-not-has_room g c =
     let at_once : refused_at_once v.state c.args.caller asked ≡ None =
     ap (λ (n : Needs). unmet v.state c.args.caller.side n) (sym c.needs-needs.ensures.value)
     ∙ ap (λ (x : PairState). unmet x.state c.args.caller.side c.needs-needs.result) (sym c.self.view_is) ∙ sym (c.unmet.ensures (g.B.Blocks.value c.self.inside.store)) ∙ c.in_default.is in
-    ap (λ told. judged told (stop_of v.state c.args.caller asked)) (full-told v c.args.caller asked at_once
+    ap (λ told. judged told (stop_of v.state c.args.caller asked)) (full-told g.M.Behaves.does v c.args.caller asked at_once
     (ap (λ (n : Needs). has_room v.journal v.limits (n.brings + n.gives)) (sym c.needs-needs.ensures.value) ∙ sym c.has_room.ensures ∙ c.if-not-has_room.true))
 
 pub returns-then-not-has_blocks : goal.returns-then-not-has_blocks
@@ -24,19 +24,20 @@ returns-then-not-has_blocks g c =
     let at_once : refused_at_once v.state c.args.caller asked ≡ None =
     ap (λ (n : Needs). unmet v.state c.args.caller.side n) (sym c.needs-needs.ensures.value)
     ∙ ap (λ (x : PairState). unmet x.state c.args.caller.side c.needs-needs.result) (sym c.self.view_is) ∙ sym (c.unmet.ensures (g.B.Blocks.value c.self.inside.store)) ∙ c.in_default.is in
-    ap (λ told. judged told (stop_of v.state c.args.caller asked)) (few-told v c.args.caller asked at_once
+    ap (λ told. judged told (stop_of v.state c.args.caller asked)) (few-told g.M.Behaves.does v c.args.caller asked at_once
     (ap (λ (n : Needs). has_room v.journal v.limits (n.brings + n.gives)) (sym c.needs-needs.ensures.value) ∙ sym c.has_room.ensures ∙ c.if-not-has_room.false)
     (ap (λ (n : Needs). enough n.blocks v.free) (sym c.needs-needs.ensures.value) ∙ sym c.has_blocks.ensures ∙ c.if-not-has_blocks.true))
 
 pub returns : goal.returns
 returns g c =
+    let K = g.M.Behaves.does in
     let v = c.args.self.now in
     let asked = request c.args.event.now in
     let at_once : refused_at_once v.state c.args.caller asked ≡ None =
     ap (λ (n : Needs). unmet v.state c.args.caller.side n) (sym c.needs-needs.ensures.value)
     ∙ ap (λ (x : PairState). unmet x.state c.args.caller.side c.needs-needs.result) (sym c.self.view_is) ∙ sym (c.unmet.ensures (g.B.Blocks.value c.self.inside.store)) ∙ c.in_default.is in
-    c.verdict.ensures ∙ ap (λ (x : PairState). judged (refused_by_state x.state c.args.caller asked) (stop_of x.state c.args.caller asked)) c.self.view_is
-    ∙ ap (λ told. judged told (stop_of v.state c.args.caller asked)) (state-told v c.args.caller asked at_once
+    c.verdict.ensures ∙ ap (λ (x : PairState). judged (refused_by_state K x.state c.args.caller asked) (stop_of x.state c.args.caller asked)) c.self.view_is
+    ∙ ap (λ told. judged told (stop_of v.state c.args.caller asked)) (state-told K v c.args.caller asked at_once
     (ap (λ (n : Needs). has_room v.journal v.limits (n.brings + n.gives)) (sym c.needs-needs.ensures.value) ∙ sym c.has_room.ensures ∙ c.if-not-has_room.false)
     (ap (λ (n : Needs). enough n.blocks v.free) (sym c.needs-needs.ensures.value) ∙ sym c.has_blocks.ensures ∙ c.if-not-has_blocks.false))
 

@@ -10,7 +10,7 @@ returns-clause-puts g c =
     let s = g.B.Blocks.value c.args.store.now in
     let i = token c.args.message in
     let e = c.put.ensures.does in
-    let spends = puts-spend c.args.to (message_in s i) (state_in s c.args.self.now) (plain-few s i c.audit.ensures) in
+    let spends = puts-spend g.M.Behaves.does c.args.to (message_in s i) (state_in s c.args.self.now) (plain-few s i c.audit.ensures) in
     record {
       state = e.state;
       sent = e.sent;

@@ -20,10 +20,11 @@ returns-in-Free-clause-begins g c =
     let found = sym (c.module_named.ensures s) ∙ c.in-Some.is in
     let asks = sym c.in-Free.is ∙ c.asks.ensures.asks ∙ ap (λ (t : Stream ℕ). at_place (module_asks name.way) asked.Empty at t.modules) (c.end.ensures.stream s) in
     let few = subst (λ (t : Stream ℕ). at_place (λ p. first_size (messages_at name.way p)) 0 at t.modules ≤ 16777216) (c.end.ensures.stream s) c.asks.ensures.few in
-    may-move name at st found few (λ turn. turned-asks name at asked.Free turn st c.requires.idle found asks)
+    may-move g.M.Behaves.does name at st found few (λ turn. turned-asks g.M.Behaves.does name at asked.Free turn st c.requires.idle found asks)
 
 pub returns-then-has_room_past-clause-begins : goal.returns-then-has_room_past-clause-begins
 returns-then-has_room_past-clause-begins g c =
+    let K = g.M.Behaves.does in
     let s = g.B.Blocks.value c.args.store.now in
     let st = state_in s c.args.self.now in
     let name = c.args.name in
@@ -33,7 +34,7 @@ returns-then-has_room_past-clause-begins g c =
     let asks = sym c.in-Room.is ∙ c.asks.ensures.asks ∙ ap (λ (t : Stream ℕ). at_place (module_asks name.way) asked.Empty at t.modules) (c.end.ensures.stream s) in
     let room = sym c.has_room_past.ensures ∙ c.if-has_room_past.true in
     let few = subst (λ (t : Stream ℕ). at_place (λ p. first_size (messages_at name.way p)) 0 at t.modules ≤ 16777216) (c.end.ensures.stream s) c.asks.ensures.few in
-    may-move name at st found few (λ turn. turned-asks name at (asked.Room band) turn st c.requires.idle found asks ∙ turned-room name at band turn st room)
+    may-move K name at st found few (λ turn. turned-asks K name at (asked.Room band) turn st c.requires.idle found asks ∙ turned-room K name at band turn st room)
 
 pub overflow_cast-here : goal.overflow_cast-here
 overflow_cast-here g c =
@@ -62,6 +63,7 @@ stay-requires-in-Room-clause-within g c =
 
 pub returns-else-has_room_past-clause-begins : goal.returns-else-has_room_past-clause-begins
 returns-else-has_room_past-clause-begins g c =
+    let K = g.M.Behaves.does in
     let s = g.B.Blocks.value c.args.store.now in
     let st = state_in s c.args.self.now in
     let name = c.args.name in
@@ -72,11 +74,12 @@ returns-else-has_room_past-clause-begins g c =
     let asks = sym c.in-Room.is ∙ c.asks.ensures.asks ∙ ap (λ (t : Stream ℕ). at_place (module_asks name.way) asked.Empty at t.modules) (c.end.ensures.stream s) in
     let none = sym c.has_room_past.ensures ∙ c.if-has_room_past.false in
     let behind = c.stay-in-Room.ensures.state ∙ ap (λ (v : State ℕ). (stayed_at Blocked (spot_of name at) v).state) (c.wait_past.ensures.state s) in
-    subst (BeginsAs st new name) (sym c.stay-in-Room.ensures.over)
-    (refl, λ turn. turned-asks name at (asked.Room band) turn st c.requires.idle found asks ∙ turned-waits name at band turn st none ∙ ap (stayed_put Blocked) (sym behind))
+    subst (BeginsAs K st new name) (sym c.stay-in-Room.ensures.over)
+    (refl, λ turn. turned-asks K name at (asked.Room band) turn st c.requires.idle found asks ∙ turned-waits K name at band turn st none ∙ ap (stayed_put Blocked) (sym behind))
 
 pub returns-in-Held-clause-begins : goal.returns-in-Held-clause-begins
 returns-in-Held-clause-begins g c =
+    let K = g.M.Behaves.does in
     let s = g.B.Blocks.value c.args.store.now in
     let st = state_in s c.args.self.now in
     let name = c.args.name in
@@ -84,10 +87,11 @@ returns-in-Held-clause-begins g c =
     let new = state_in s c.stay-in-Held.new.self in
     let found = sym (c.module_named.ensures s) ∙ c.in-Some.is in
     let asks = sym c.in-Held.is ∙ c.asks.ensures.asks ∙ ap (λ (t : Stream ℕ). at_place (module_asks name.way) asked.Empty at t.modules) (c.end.ensures.stream s) in
-    subst (BeginsAs st new name) (sym c.stay-in-Held.ensures.over) (refl, λ turn. turned-asks name at asked.Held turn st c.requires.idle found asks ∙ ap (stayed_put Blocked) (sym c.stay-in-Held.ensures.state))
+    subst (BeginsAs K st new name) (sym c.stay-in-Held.ensures.over) (refl, λ turn. turned-asks K name at asked.Held turn st c.requires.idle found asks ∙ ap (stayed_put Blocked) (sym c.stay-in-Held.ensures.state))
 
 pub returns-in-Empty-clause-begins : goal.returns-in-Empty-clause-begins
 returns-in-Empty-clause-begins g c =
+    let K = g.M.Behaves.does in
     let s = g.B.Blocks.value c.args.store.now in
     let st = state_in s c.args.self.now in
     let name = c.args.name in
@@ -95,7 +99,7 @@ returns-in-Empty-clause-begins g c =
     let new = state_in s c.stay.new.self in
     let found = sym (c.module_named.ensures s) ∙ c.in-Some.is in
     let asks = sym c.in-Empty.is ∙ c.asks.ensures.asks ∙ ap (λ (t : Stream ℕ). at_place (module_asks name.way) asked.Empty at t.modules) (c.end.ensures.stream s) in
-    subst (BeginsAs st new name) (sym c.stay.ensures.over) (refl, λ turn. turned-asks name at asked.Empty turn st c.requires.idle found asks ∙ ap (stayed_put Idle) (sym c.stay.ensures.state))
+    subst (BeginsAs K st new name) (sym c.stay.ensures.over) (refl, λ turn. turned-asks K name at asked.Empty turn st c.requires.idle found asks ∙ ap (stayed_put Idle) (sym c.stay.ensures.state))
 
 pub asks-requires : goal.asks-requires
 asks-requires g c =

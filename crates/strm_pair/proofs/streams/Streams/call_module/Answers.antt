@@ -15,9 +15,10 @@ deliver_all-requires-clause-may g c =
 
 pub returns : goal.returns
 returns g c =
+    let K = g.M.Behaves.does in
     let d = c.deliver_all.ensures.delivers in
     let st = state_in (g.B.Blocks.value c.args.store.now) c.args.self.now in
     let low : c.args.here.at - 1 < length (stream c.args.here.side st).modules = let inside = c.requires.may.inside in let within = c.requires.may.within in omega arith in
     calls-by (g.B.Blocks.value c.args.store.now) (g.B.Blocks.value c.act-served.new.store) c.args.self.now c.act-served.new.self c.args.here c.args.again
     (call_of c.act-served.result) (sent_of c.act-served.result.acts.sent) c.args.told.now c.act-served.new.told c.requires.may.inside c.requires.may.begins low c.act-served.ensures
-    (g.B.Blocks.value c.deliver_all.new.store) c.deliver_all.new.stations c.deliver_all.new.told c.requires.may.hand c.deliver_all.ensures.blocks d.told d.state d.held d.hands d.takes d.pool
+    K (g.B.Blocks.value c.deliver_all.new.store) c.deliver_all.new.stations c.deliver_all.new.told c.requires.may.hand c.deliver_all.ensures.blocks d.told d.state d.held d.hands d.takes d.pool

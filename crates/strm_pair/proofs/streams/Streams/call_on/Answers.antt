@@ -11,6 +11,7 @@ use Rattle.strm_pair.proofs.streams.Streams.call_on.Goals as goal
 
 pub loop-call-init : goal.loop-call-init
 loop-call-init g c =
+    let K = g.M.Behaves.does in
     let here = c.args.here in
     let st0 = state_in (g.B.Blocks.value c.args.store.now) c.args.self.now in
     let m = c.call_module-call in
@@ -20,11 +21,11 @@ loop-call-init g c =
     let low : here.at - 1 < length (stream here.side st0).modules = let inside = c.requires.inside in let within = c.requires.within in omega arith in
     let begins = first-begins here st0 c.requires.may.rests.idle low in
     let full = full-at here (g.B.Blocks.value c.args.store.now) c.args.self.now (c.requires.may.rests.held.beside here.side).stack in
-    let since : Since here false 0 st0 st0 = record { all = omega arith; full = λ first. full; opened = λ side. refl } in
-    let first = along here st0 false 0 [] st0 st (reached-first here st0 low begins) m.result e.itself e.state f f m.new.told refl e.tells e.left 0 (omega arith) (omega arith) since
+    let since : Since here false 0 st0 st0 = record { all = omega arith; full = λ first. full; opened = λ side. refl; stands = refl } in
+    let first = along here K st0 false 0 [] st0 st (reached-first here st0 K low begins) m.result e.itself e.state f f m.new.told refl e.tells e.left 0 (omega arith) (omega arith) since
     (λ over none. first-went here m.result st0 e.itself low full over (omega (arith, none)) (HasRoom (g.B.Blocks.value c.args.store.now) STOP_BLOCKS) c.requires.may.room e.some) m.result.again refl in
     record {
-      along = subst (λ n. Along m.result.again here n st0 st f m.new.told) (let none : 0 + m.result.bytes ≡ m.result.bytes = omega arith in none) first;
+      along = subst (λ n. Along K m.result.again here n st0 st f m.new.told) (let none : 0 + m.result.bytes ≡ m.result.bytes = omega arith in none) first;
       few = subst (λ n. FewAt m.result.again here n st0 (g.B.Blocks.value m.new.store)) (let none : 0 + m.result.bytes ≡ m.result.bytes = omega arith in none)
           (few-along here false m.result st0 e.itself low full 0 st0 (g.B.Blocks.value m.new.store) since e.few m.result.again refl);
       room = e.room;
@@ -38,21 +39,23 @@ call_module-call-requires-clause-books g c = first-books c.args.here (state_in (
 
 pub call_module-call-requires-in-loop-call-clause-books : goal.call_module-call-requires-in-loop-call-clause-books
 call_module-call-requires-in-loop-call-clause-books g c =
+    let K = g.M.Behaves.does in
     let here = c.args.here in
     let l = c.loop-call in
     let st0 = state_in (g.B.Blocks.value c.args.store.now) c.args.self.now in
     let st = state_in (g.B.Blocks.value l.store) l.self in
-    let on : GoOn here l.bytes st0 st c.args.told.now l.told = subst (λ more. Along more here l.bytes st0 st c.args.told.now l.told) c.loop-call-test.true l.invariant.along in
-    next-books here l.bytes st0 st c.args.told.now l.told c.requires.may.range c.requires.few on
+    let on : GoOn K here l.bytes st0 st c.args.told.now l.told = subst (λ more. Along K more here l.bytes st0 st c.args.told.now l.told) c.loop-call-test.true l.invariant.along in
+    next-books here K l.bytes st0 st c.args.told.now l.told c.requires.may.range c.requires.few on
 
 pub overflow_add-bytes : goal.overflow_add-bytes
 overflow_add-bytes g c =
+    let K = g.M.Behaves.does in
     let here = c.args.here in
     let l = c.loop-call in
     let m = c.call_module-call-in-loop-call in
     let st0 = state_in (g.B.Blocks.value c.args.store.now) c.args.self.now in
     let st = state_in (g.B.Blocks.value l.store) l.self in
-    let on : GoOn here l.bytes st0 st c.args.told.now l.told = subst (λ more. Along more here l.bytes st0 st c.args.told.now l.told) c.loop-call-test.true l.invariant.along in
+    let on : GoOn K here l.bytes st0 st c.args.told.now l.told = subst (λ more. Along K more here l.bytes st0 st c.args.told.now l.told) c.loop-call-test.true l.invariant.along in
     let most = call-within here true m.result st m.ensures.itself on.reached.begins on.reached.inside in
     let within = on.reached.within in
     let few = c.requires.few in
@@ -60,6 +63,7 @@ overflow_add-bytes g c =
 
 pub loop-call-smaller : goal.loop-call-smaller
 loop-call-smaller g c =
+    let K = g.M.Behaves.does in
     let here = c.args.here in
     let l = c.loop-call in
     let m = c.call_module-call-in-loop-call in
@@ -68,12 +72,14 @@ loop-call-smaller g c =
     let st = state_in (g.B.Blocks.value l.store) l.self in
     let behind = state_in (g.B.Blocks.value m.new.store) m.new.self in
     let f = c.args.told.now in
-    let on : GoOn here l.bytes st0 st f l.told = subst (λ more. Along more here l.bytes st0 st f l.told) c.loop-call-test.true l.invariant.along in
-    let closer = comes-closer here st0 true l.bytes on.gone st behind on.reached m.result e.itself e.state f l.told m.new.told on.tells e.tells e.left m.result.again refl in
+    let on : GoOn K here l.bytes st0 st f l.told = subst (λ more. Along K more here l.bytes st0 st f l.told) c.loop-call-test.true
+    l.invariant.along in
+    let closer = comes-closer here K st0 true l.bytes on.gone st behind on.reached m.result e.itself e.state f l.told m.new.told on.tells e.tells e.left m.result.again refl in
     subst (λ n. still_to_come m.result.again here behind < n) (sym (ap (λ more. still_to_come more here st) c.loop-call-test.true)) closer
 
 pub loop-call-preserved : goal.loop-call-preserved
 loop-call-preserved g c =
+    let K = g.M.Behaves.does in
     let here = c.args.here in
     let l = c.loop-call in
     let m = c.call_module-call-in-loop-call in
@@ -82,12 +88,14 @@ loop-call-preserved g c =
     let st = state_in (g.B.Blocks.value l.store) l.self in
     let behind = state_in (g.B.Blocks.value m.new.store) m.new.self in
     let f = c.args.told.now in
-    let on : GoOn here l.bytes st0 st f l.told = subst (λ more. Along more here l.bytes st0 st f l.told) c.loop-call-test.true l.invariant.along in
-    let since : Since here true l.bytes st0 st = record { all = on.all; full = λ first. absurd (false≢true (sym first)); opened = on.opened } in
+    let on : GoOn K here l.bytes st0 st f l.told = subst (λ more. Along K more here l.bytes st0 st f l.told) c.loop-call-test.true
+    l.invariant.along in
+    let since : Since here true l.bytes st0 st = record
+    { all = on.all; full = λ first. absurd (false≢true (sym first)); opened = on.opened; stands = on.stands } in
     record {
       few = few-along here true m.result st e.itself on.reached.inside (full-at here (g.B.Blocks.value l.store) l.self (l.invariant.beside here.side).stack) l.bytes st0 (g.B.Blocks.value m.new.store) since e.few m.result.again refl;
-      along = along here st0 true l.bytes on.gone st behind on.reached m.result e.itself e.state f l.told m.new.told on.tells e.tells e.left on.count on.few on.left since
-          (λ over none. later-went here l.bytes st0 st f l.told m.result on e.itself over none) m.result.again refl;
+      along = along here K st0 true l.bytes on.gone st behind on.reached m.result e.itself e.state f l.told m.new.told on.tells e.tells e.left on.count on.few on.left since
+          (λ over none. later-went here K l.bytes st0 st f l.told m.result on e.itself over none) m.result.again refl;
       room = e.room;
       beside = e.beside;
       hand = e.hand;

@@ -10,7 +10,7 @@ invariant-loop-call g l =
     let value = g.B.Blocks.value in
     let st = state_in (value l.store) l.self in
     record {
-      along : Along l.call.again l.here l.bytes (state_in (value l.fn.store) l.fn.self) st l.fn.told l.told;
+      along : Along g.M.Behaves.does l.call.again l.here l.bytes (state_in (value l.fn.store) l.fn.self) st l.fn.told l.told;
       few : FewAt l.call.again l.here l.bytes (state_in (value l.fn.store) l.fn.self) (value l.store);
       room : OnTrue l.call.again (HasRoom (value l.store) (next_cost l.here st));
       beside : AreBeside (value l.store) l.self;

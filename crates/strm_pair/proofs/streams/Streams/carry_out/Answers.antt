@@ -37,8 +37,8 @@ ioctl-requires-clause-numbered g c =
 pub push-requires-clause-may_stand : goal.push-requires-clause-may_stand
 push-requires-clause-may_stand g c =
     let old = state_in (g.B.Blocks.value c.args.store.now) c.args.self.now in
-    unless-none (may_stand (named_by c.in-Push.name) (stream c.args.caller.side old).modules) Einval
-    (ap (λ (e : Event (Bor (List ℕ))). unfit old c.args.caller (request e)) (sym c.in-Push.is) ∙ c.requires.fits)
+    unless-none (may_stand (named_by g.M.Behaves.does c.in-Push.name) (stream c.args.caller.side old).modules) Einval
+    (ap (λ (e : Event (Bor (List ℕ))). unfit g.M.Behaves.does old c.args.caller (request e)) (sym c.in-Push.is) ∙ c.requires.fits)
 
 pub returns-in-Look-clause-answer : goal.returns-in-Look-clause-answer
 returns-in-Look-clause-answer g c = rw c.in-Look.is (c.look.ensures.answer (g.B.Blocks.value c.args.store.now) c.clear.new.self.items)

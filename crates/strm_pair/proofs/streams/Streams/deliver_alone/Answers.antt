@@ -50,7 +50,7 @@ returns-clause-leads g c =
     let i = token c.args.message in
     let is = c.requires.alone in
     let e = c.deliver.ensures.delivers in
-    let idle = subst AreIdle (sym e.state) (delivered-idle plain c.args.to (message_of (in_hand s i)) (state_in s p) is.idle) in
+    let idle = subst AreIdle (sym e.state) (delivered-idle g.M.Behaves.does plain c.args.to (message_of (in_hand s i)) (state_in s p) is.idle) in
     record {
       state = e.state;
       tells = e.told;

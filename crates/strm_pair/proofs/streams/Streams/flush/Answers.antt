@@ -36,6 +36,7 @@ deliver_alone-requires-clause-room g c =
 
 pub returns-clause-delivers : goal.returns-clause-delivers
 returns-clause-delivers g c =
+    let K = g.M.Behaves.does in
     let s = g.B.Blocks.value c.args.store.now in
     let made = g.B.Blocks.value c.make_flush-message.new.store in
     let t = g.B.Blocks.value c.deliver_alone.new.store in
@@ -47,6 +48,6 @@ returns-clause-delivers g c =
     let e = c.deliver_alone.ensures in
     let shown : message_of (in_hand made i) ≡ flush_message (flush_bytes (asked_of c.args.what c.args.band)) = sends.shows ∙ ap (λ a. flush_message (flush_bytes a)) c.of.ensures in
     record {
-      leads = made-leads s made p c.requires.rests i sends.after t q c.args.told.now c.deliver_alone.new.told to (flush_message (flush_bytes (asked_of c.args.what c.args.band))) shown e.leads;
+      leads = made-leads s made p c.requires.rests i sends.after K t q c.args.told.now c.deliver_alone.new.told to (flush_message (flush_bytes (asked_of c.args.what c.args.band))) shown e.leads;
       left = made-left s made p c.requires.rests i sends.after t q to (flush_message (flush_bytes c.of.result)) 5 sends.shows (flush-few c.args.side c.of.result) e.takes;
     }

@@ -26,7 +26,7 @@ returns-clause-delivers g c =
     let sent = state_in t c.send_ioctl.new.self in
     let sends = c.send_ioctl.ensures in
     let told = c.tell_ioctl.ensures.becomes in
-    let is : Carried ℕ (State ℕ) = ioctl_sent plain c.args.side c.args.command c.args.body.now (state_in s c.args.self.now) in
+    let is : Carried ℕ (State ℕ) = ioctl_sent g.M.Behaves.does plain c.args.side c.args.command c.args.body.now (state_in s c.args.self.now) in
     record {
       leads = rw (sym c.asks_group.ensures ∙ c.if-asks_group.false) (leads-becoming (λ (v : State ℕ). (ioctl_told c.args.side v).state) s t c.send_ioctl.new.self c.tell_ioctl.new.self c.args.told.now c.send_ioctl.new.told is sends.leads told);
       left = omega (arith, sends.left, ap spare (told.state t), same-spare sent (ioctl_told c.args.side sent).state (told-books c.args.side sent));

@@ -43,6 +43,7 @@ overflow_cast-result g c =
 
 pub returns : goal.returns
 returns g c =
+    let K = g.M.Behaves.does in
     let side = c.args.side in
     let s = g.B.Blocks.value c.args.store.now in
     let took = g.B.Blocks.value c.take_first.new.store in
@@ -57,9 +58,9 @@ returns g c =
     let place_is = c.modules_on-at.ensures.on took in
     let up : Side → ℕ → Spot = λ sd n. record { side = sd; at = n; way = Up } in
     let led =
-    ap (λ n. delivered plain (up c.other-above.result n) m got) place_is
-    ∙ ap (λ sd. delivered plain (up sd (modules_on sd got)) m got) c.other-above.ensures
-    ∙ ap (λ v. delivered plain (up (other side) (modules_on (other side) v)) m v) e.state in
+    ap (λ n. delivered K plain (up c.other-above.result n) m got) place_is
+    ∙ ap (λ sd. delivered K plain (up sd (modules_on sd got)) m got) c.other-above.ensures
+    ∙ ap (λ v. delivered K plain (up (other side) (modules_on (other side) v)) m v) e.state in
     record {
       message = m;
       rest = e.rest;

@@ -12,14 +12,16 @@ use Rattle.strm_pair.proofs.streams.Streams.push.Goals as goal
 
 pub put_on-requires-clause-may_stand : goal.put_on-requires-clause-may_stand
 put_on-requires-clause-may_stand g c =
+    let K = g.M.Behaves.does in
     let s = state_in (g.B.Blocks.value c.args.store.now) c.args.self.now in
-    let named = ap (λ (o : Option _). may_stand (named_by o) (stream c.args.side s).modules) (sym c.in-Some.is) ∙ c.requires.may_stand in
-    ap (λ ms. may_stand (named_by (Some c.in-Some.name)) ms)
+    let named = ap (λ (o : Option _). may_stand (named_by K o) (stream c.args.side s).modules) (sym c.in-Some.is) ∙ c.requires.may_stand in
+    ap (λ ms. may_stand (named_by K (Some c.in-Some.name)) ms)
     (ap (λ (x : State ℕ). (stream c.args.side x).modules) c.put_mode.ensures.state ∙ modules-stay c.args.side c.mode_on_push.result s)
     ∙ named
 
 pub returns-clause-leads : goal.returns-clause-leads
 returns-clause-leads g c =
+    let K = g.M.Behaves.does in
     let s = state_in (g.B.Blocks.value c.args.store.now) c.args.self.now in
     let t = g.B.Blocks.value c.put_mode.new.store in
     let u = state_in t c.put_mode.new.self in
@@ -27,12 +29,12 @@ returns-clause-leads g c =
     let name = c.in-Some.name in
     let told = c.put_mode.ensures in
     let reads = have_queues name in
-    let may = ap (λ (o : Option _). may_stand (named_by o) (stream c.args.side s).modules) (sym c.in-Some.is) ∙ c.requires.may_stand in
+    let may = ap (λ (o : Option _). may_stand (named_by K o) (stream c.args.side s).modules) (sym c.in-Some.is) ∙ c.requires.may_stand in
     let now = g.B.Blocks.value c.args.store.now in
     let items = (end_at c.args.side c.args.self.now).stack.modules.items in
     let has = subst (AllByRecursion HasAsNamed) (sym (modules-are now c.args.self.now c.args.side)) (all-have now items (c.requires.rests.held.beside c.args.side).stack.each) in
-    let new = made-named name (stream c.args.side s).modules may in
-    let pushed = pushed-is c.args.side name new.0 s new.1 has may in
+    let new = made-named K name (stream c.args.side s).modules may in
+    let pushed = pushed-is K c.args.side name new.0 s new.1 has may in
     let stands : v ≡ with_modules c.args.side (new.0 ∷ (stream c.args.side u).modules) u =
     subst (λ o. IfSome o (λ p. v ≡ with_modules c.args.side (p ∷ (stream c.args.side u).modules) u)) new.1 c.put_on.ensures.state in
     let held = c.put_on.ensures.held in

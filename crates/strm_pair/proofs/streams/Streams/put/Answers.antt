@@ -58,15 +58,17 @@ put_up-requires-clause-room g c =
 
 pub returns-then-to-eq0-clause-does : goal.returns-then-to-eq0-clause-does
 returns-then-to-eq0-clause-does g c =
+    let K = g.M.Behaves.does in
     let s = g.B.Blocks.value c.args.store.now in
-    head-put s (g.B.Blocks.value c.put_head.new.store) c.args.self.now c.put_head.new.self (token c.args.message) c.args.to (sent_of c.put_head.result) c.args.told.now c.put_head.new.told
+    head-put K s (g.B.Blocks.value c.put_head.new.store) c.args.self.now c.put_head.new.self (token c.args.message) c.args.to (sent_of c.put_head.result) c.args.told.now c.put_head.new.told
     c.requires.may.chain c.if-to-eq0.true c.put_head.ensures.does
 
 pub returns-then-to-modules_on-clause-does : goal.returns-then-to-modules_on-clause-does
 returns-then-to-modules_on-clause-does g c =
+    let K = g.M.Behaves.does in
     let s = g.B.Blocks.value c.args.store.now in
     let at = c.args.to.at in
-    module-put s (g.B.Blocks.value c.put_module.new.store) c.args.self.now c.put_module.new.self (token c.args.message) c.args.to (sent_of c.put_module.result) c.args.told.now c.put_module.new.told
+    module-put K s (g.B.Blocks.value c.put_module.new.store) c.args.self.now c.put_module.new.self (token c.args.message) c.args.to (sent_of c.put_module.result) c.args.told.now c.put_module.new.told
     c.if-to-eq0.false (subst (λ n. nat_le at n ≡ true) (c.modules_on.ensures.on s) (stands-at at c.modules_on.result c.if-to-modules_on.true)) c.put_module.ensures.does
 
 pub returns-in-Down-clause-does : goal.returns-in-Down-clause-does
@@ -79,15 +81,16 @@ returns-in-Down-clause-does g c =
     let to = c.args.to in
     let sent = sent_of c.put_driver.result in
     let told = c.put_driver.new.told in
-    behind-put Down s t p q i to sent c.args.told.now told c.in-Down.is c.if-to-eq0.false
+    behind-put g.M.Behaves.does Down s t p q i to sent c.args.told.now told c.in-Down.is c.if-to-eq0.false
     (subst (λ n. nat_le to.at n ≡ false) (c.modules_on.ensures.on s) (stands-above to.at c.modules_on.result c.if-to-modules_on.false))
     (subst (λ way. PutBy s t p q i (driver_own way (message_in s i)) sent c.args.told.now told (put_at_driver to.side to (message_in s i) (state_in s p))) c.in-Down.is c.put_driver.ensures.does)
 
 pub returns-in-Up-clause-does : goal.returns-in-Up-clause-does
 returns-in-Up-clause-does g c =
+    let K = g.M.Behaves.does in
     let s = g.B.Blocks.value c.args.store.now in
     let i = token c.args.message in
-    behind-put Up s (g.B.Blocks.value c.put_up.new.store) c.args.self.now c.put_up.new.self i c.args.to (sent_of c.put_up.result) c.args.told.now c.put_up.new.told
+    behind-put K Up s (g.B.Blocks.value c.put_up.new.store) c.args.self.now c.put_up.new.self i c.args.to (sent_of c.put_up.result) c.args.told.now c.put_up.new.told
     c.in-Up.is c.if-to-eq0.false (subst (λ n. nat_le c.args.to.at n ≡ false) (c.modules_on.ensures.on s) (stands-above c.args.to.at c.modules_on.result c.if-to-modules_on.false)) c.put_up.ensures.does
 
 pub returns-in-Down-clause-blocks : goal.returns-in-Down-clause-blocks

@@ -23,7 +23,8 @@ returns-clause-does g c =
     let acts = c.put-acts.result in
     let t = g.B.Blocks.value c.put-acts.new.store in
     let f = c.args.told.now in
-    let did : StreamEnd → Acted ℕ (Queue ℕ) = λ x. driver_put side c.across-across.result (record c.args.to { at = at }) (message_in s (token c.args.message)) (queue_in s x.driver) in
+    let did : StreamEnd → Acted ℕ (Queue ℕ) = λ x. driver_put side c.across-across.result (record c.args.to { at = at })
+    (message_in s (token c.args.message)) (queue_in s x.driver) in
     let is = c.get_mut.ensures.value in
     let e = c.put-acts.ensures in
     let end = record (end_at side p) { driver = c.put-acts.new.queue } in
@@ -42,4 +43,4 @@ returns-clause-does g c =
 pub returns-clause-blocks : goal.returns-clause-blocks
 returns-clause-blocks g c = λ way is.
     let st = state_in (g.B.Blocks.value c.args.store.now) c.args.self.now in
-    c.put-acts.ensures.blocks is.held (ap (λ (x : Across). x.ended) (c.across-across.ensures (g.B.Blocks.value c.args.store.now)) ∙ subst (λ w. IsKeptAhead w c.args.to.side st) way is.kept)
+    c.put-acts.ensures.blocks is.held (ap (λ (x : Across). x.ended) (c.across-across.ensures (g.B.Blocks.value c.args.store.now)) ∙ (subst (λ w. IsKeptAhead w c.args.to.side st) way is.kept).opened)

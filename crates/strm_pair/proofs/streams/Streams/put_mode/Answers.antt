@@ -31,6 +31,7 @@ deliver_alone-requires-clause-room g c =
 
 pub returns : goal.returns
 returns g c =
+    let K = g.M.Behaves.does in
     let s = g.B.Blocks.value c.args.store.now in
     let made = g.B.Blocks.value c.make-message.new.store in
     let t = g.B.Blocks.value c.deliver_alone.new.store in
@@ -40,5 +41,5 @@ returns g c =
     let m = message_of (in_hand made i) in
     let shown : m ≡ mode_message c.in-Some.mode false = c.make-message.ensures.shows ∙ ap (λ (n : ℕ). record { kind = Setopts; band = 0; control = None; body = None; plain = n ∷ 0 ∷ [] }) c.mode_number.ensures in
     rw c.in-Some.is
-    (subst (λ (o : Carried ℕ (State ℕ)). Leads s t q c.args.told.now c.deliver_alone.new.told o.state o.gone) (mode-delivered c.args.side c.in-Some.mode (state_in s p))
-    (made-leads s made p c.requires.rests i c.make-message.ensures.after t q c.args.told.now c.deliver_alone.new.told (head_above c.args.side) (mode_message c.in-Some.mode false) shown c.deliver_alone.ensures.leads))
+    (subst (λ (o : Carried ℕ (State ℕ)). Leads s t q c.args.told.now c.deliver_alone.new.told o.state o.gone) (mode-delivered K c.args.side c.in-Some.mode (state_in s p))
+    (made-leads s made p c.requires.rests i c.make-message.ensures.after K t q c.args.told.now c.deliver_alone.new.told (head_above c.args.side) (mode_message c.in-Some.mode false) shown c.deliver_alone.ensures.leads))

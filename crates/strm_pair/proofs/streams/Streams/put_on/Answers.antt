@@ -10,8 +10,11 @@ use Rattle.strm_pair.specs.Stacks.{modules_in}
 
 pub push_named-requires-clause-may_stand : goal.push_named-requires-clause-may_stand
 push_named-requires-clause-may_stand g c =
+    let K = g.M.Behaves.does in
     let s = g.B.Blocks.value c.args.store.now in
-    ap (λ ms. may_stand (named_by (Some c.args.name)) ms) (ap (λ (e : StreamEnd). modules_in s e.stack) c.get_mut-end.ensures.value ∙ sym (modules-are s c.args.self.now c.args.side)) ∙ c.requires.may_stand
+    ap (λ ms. may_stand (named_by K (Some c.args.name)) ms)
+    (ap (λ (e : StreamEnd). modules_in s e.stack) c.get_mut-end.ensures.value ∙ sym (modules-are s c.args.self.now c.args.side)) ∙
+    c.requires.may_stand
 
 pub push_named-requires-clause-held : goal.push_named-requires-clause-held
 push_named-requires-clause-held g c = rw c.get_mut-end.ensures.value (c.requires.held.beside c.args.side).stack
@@ -27,16 +30,18 @@ push_named-requires-clause-shelf g c = rw (c.get_mut-end.ensures.value, c.first_
 
 pub returns-clause-state : goal.returns-clause-state
 returns-clause-state g c =
+    let K = g.M.Behaves.does in
     rw c.get_mut-end.ensures.value
-    (put-state (g.B.Blocks.value c.args.store.now) c.args.self.now c.args.side c.push_named.new.stack c.push_named.new.shelf (named_by (Some c.args.name)) (rw c.get_mut-end.ensures.value at c.push_named.ensures.modules))
+    (put-state (g.B.Blocks.value c.args.store.now) c.args.self.now c.args.side c.push_named.new.stack c.push_named.new.shelf (named_by K (Some c.args.name)) (rw c.get_mut-end.ensures.value at c.push_named.ensures.modules))
 
 pub returns-clause-held : goal.returns-clause-held
 returns-clause-held g c =
+    let K = g.M.Behaves.does in
     let s = g.B.Blocks.value c.args.store.now in
     let p = c.args.self.now in
     let side = c.args.side in
     let y = c.push_named.new.stack in
     let e = rw (c.get_mut-end.ensures.value, c.first_list.ensures.list) at c.push_named.ensures in
-    let may = ap (λ ms. may_stand (named_by (Some c.args.name)) ms) (sym (modules-are s p side)) ∙ c.requires.may_stand in
+    let may = ap (λ ms. may_stand (named_by K (Some c.args.name)) ms) (sym (modules-are s p side)) ∙ c.requires.may_stand in
     rw c.get_mut-end.ensures.value
-    (held-put s p side y c.push_named.new.shelf c.requires.held e.held (pushed-once (named_by (Some c.args.name)) (modules_in s y) (modules_in s (end_at side p).stack) may e.modules (c.requires.held.beside side).once) e.owned e.spare e.shelf)
+    (held-put s p side y c.push_named.new.shelf c.requires.held e.held (pushed-once (named_by K (Some c.args.name)) (modules_in s y) (modules_in s (end_at side p).stack) may e.modules (c.requires.held.beside side).once) e.owned e.spare e.shelf)

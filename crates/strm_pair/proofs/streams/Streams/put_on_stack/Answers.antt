@@ -46,5 +46,5 @@ returns-clause-takes g c =
     let t = g.B.Blocks.value c.put.new.store in
     let x = (end_at c.args.to.side c.args.self.now).stack in
     let e = rw c.get_mut.ensures.value at c.put.ensures.does in
-    subst (λ y. StackTakes s t x y (token c.args.message) c.args.to c.put.result c.args.told.now c.put.new.told)
+    subst (λ y. StackTakes g.M.Behaves.does s t x y (token c.args.message) c.args.to c.put.result c.args.told.now c.put.new.told)
     (sym (stack-there c.args.self.now c.args.to.side c.get_mut.result.now c.put.new.self c.get_mut.ensures.value).0) e

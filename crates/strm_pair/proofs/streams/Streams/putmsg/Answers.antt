@@ -44,13 +44,14 @@ with_written-book-requires g c =
     let to : Spot = record { side = c.args.side; at = 1; way = Down } in
     let is = ap (λ (b : Book). b.written) (c.book_of.ensures t) in
     let sent = ap (λ (v : State ℕ). (book dir v).written) c.deliver_alone.ensures.leads.state in
-    let stays = sent-written to (message_of (in_hand made i)) dir (state_in made c.args.self.now) in
+    let stays = sent-written g.M.Behaves.does to (message_of (in_hand made i)) dir (state_in made c.args.self.now) in
     let same = ap (λ (v : State ℕ). (book dir v).written) (made-state s made c.args.self.now c.requires.may.rests i c.in-Some.ensures.made.after) in
     let few = parts-few c.args.prio (shown c.args.control) (shown c.args.body) c.requires.allowed in
     omega (arith, book-low c.args.side old c.requires.may.range, is, sent, stays, same, few, c.len_of.ensures.value, c.len_of-2.ensures.value)
 
 pub returns-clause-delivers : goal.returns-clause-delivers
 returns-clause-delivers g c =
+    let K = g.M.Behaves.does in
     let s = g.B.Blocks.value c.args.store.now in
     let made = g.B.Blocks.value c.make_message.new.store in
     let t = g.B.Blocks.value c.deliver_alone.new.store in
@@ -65,16 +66,17 @@ returns-clause-delivers g c =
     let n = c.len_of.result + c.len_of-2.result in
     let sends = c.in-Some.ensures in
     let e = c.deliver_alone.ensures in
-    let sent = made-leads s made p c.requires.may.rests i sends.made.after t q c.args.told.now c.deliver_alone.new.told to m sends.made.shows e.leads in
+    let sent = made-leads s made p c.requires.may.rests i sends.made.after K t q c.args.told.now c.deliver_alone.new.told to m sends.made.shows e.leads in
     let left = made-left s made p c.requires.may.rests i sends.made.after t q to m 0 sends.made.shows (omega (arith, parts-free c.args.side c.args.prio control body sends.none)) e.takes in
     let kept = c.keep_book.ensures in
     let is = c.with_written-book.ensures ∙ ap (with_written n) (c.book_of.ensures t) in
     let booked = kept.state t ∙ ap (λ (b : Book). with_book dir b (state_in t q)) is in
     record {
       leads = record {
-        state = put-state c.args.side c.args.prio control body (state_in s p) sends.none m refl (state_in t q) (state_in t c.keep_book.new.self) c.with_written-book.result n sent.state (kept.state t) is
+        state = put-state K c.args.side c.args.prio control body (state_in s p) sends.none m refl (state_in t q) (state_in t c.keep_book.new.self) c.with_written-book.result n sent.state (kept.state t) is
             (ap (λ k. k + c.len_of-2.result) c.len_of.ensures.value ∙ ap (λ k. length (part control) + k) c.len_of-2.ensures.value);
-        tells = put-told c.args.side c.args.prio control body (state_in s p) sends.none m refl c.args.told.now c.deliver_alone.new.told sent.tells;
+        tells =
+            put-told K c.args.side c.args.prio control body (state_in s p) sends.none m refl c.args.told.now c.deliver_alone.new.told sent.tells;
         held = kept.held t sent.held;
         pool = sent.pool;
       };

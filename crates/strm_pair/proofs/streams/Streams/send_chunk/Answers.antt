@@ -42,6 +42,7 @@ returns-clause-delivers g c =
     let sends = c.write-message.ensures in
     let e = c.deliver_alone.ensures in
     record {
-      leads = made-leads s made p c.requires.rests i sends.after t q c.args.told.now c.deliver_alone.new.told to m sends.shows e.leads;
+      leads =
+          made-leads s made p c.requires.rests i sends.after g.M.Behaves.does t q c.args.told.now c.deliver_alone.new.told to m sends.shows e.leads;
       left = made-left s made p c.requires.rests i sends.after t q to m 0 sends.shows (omega (arith, chunk-free c.args.side c.args.chunk.now)) e.takes;
     }

@@ -30,7 +30,8 @@ begun-spare : (side : Side) (command : ℕ) (s : State ℕ) → spare (ioctl_beg
 begun-spare side command s = refl
 
 -- the streams are at rest where it is under way, as they were
-begun-rests : (s : StoreValue) (p q : Streams) (side : Side) (command : ℕ) → AreAtRest s p → Becomes p q (ioctl_begun side command) → AreAtRest s q
+begun-rests : (s : StoreValue) (p q : Streams) (side : Side) (command : ℕ) → AreAtRest s p → Becomes p q (ioctl_begun side command)
+    → AreAtRest s q
 begun-rests s p q side command at_rest begun = record {
   held = begun.held s at_rest.held;
   idle = subst AreIdle (sym (begun.state s)) (begun-idle side command (state_in s p) at_rest.idle);
@@ -60,6 +61,7 @@ deliver_alone-requires-clause-room g c =
 
 pub returns : goal.returns
 returns g c =
+    let K = g.M.Behaves.does in
     let s = g.B.Blocks.value c.args.store.now in
     let made = g.B.Blocks.value c.make_ioctl-message.new.store in
     let t = g.B.Blocks.value c.deliver_alone.new.store in
@@ -75,7 +77,7 @@ returns g c =
     let shown : message_of (in_hand made i) ≡ m = sends.shows ∙ ap (λ ioc. ioctl_message ioc c.args.body.now) c.asking.ensures in
     let left = made-left s made begun rests i sends.after t q to (ioctl_message c.asking.result c.args.body.now) 30 sends.shows (ioctl-few c.args.side c.asking.result c.args.body.now) e.takes in
     record {
-      leads = subst (λ (v : State ℕ). let is = delivered plain to m v in Leads s t q c.args.told.now c.deliver_alone.new.told is.state is.gone) (c.begin_ioctl.ensures.state s)
-          (made-leads s made begun rests i sends.after t q c.args.told.now c.deliver_alone.new.told to m shown e.leads);
+      leads = subst (λ (v : State ℕ). let is = delivered K plain to m v in Leads s t q c.args.told.now c.deliver_alone.new.told is.state is.gone) (c.begin_ioctl.ensures.state s)
+          (made-leads s made begun rests i sends.after K t q c.args.told.now c.deliver_alone.new.told to m shown e.leads);
       left = omega (arith, left, ap spare (c.begin_ioctl.ensures.state s), begun-spare c.args.side c.args.command (state_in s p));
     }

@@ -31,7 +31,9 @@ serve-requires g c =
             (
               turn,
               (
-                record { apart = λ i. omega (arith, c.requires.hand i, kept-parts here.side p i, ap (λ (e : StreamEnd). stack_keeps e.stack i) is) },
+                record {
+                  apart = λ i. omega (arith, c.requires.hand i, kept-parts here.side p i, ap (λ (e : StreamEnd). stack_keeps e.stack i) is);
+                },
                 subst (λ ms. HasRoom s (at_place (turn_cost here c.args.again) 0 here.at ms)) same c.requires.room,
               ),
             ),

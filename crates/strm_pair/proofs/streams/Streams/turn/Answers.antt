@@ -8,12 +8,13 @@ use Rattle.strm_pair.proofs.streams.Streams.turn.Goals as goal
 
 pub returns-in-Driver-clause-few : goal.returns-in-Driver-clause-few
 returns-in-Driver-clause-few g c =
+    let K = g.M.Behaves.does in
     let side = c.args.name.side in
     let from = state_in (g.B.Blocks.value c.args.store.now) (record c.args.self.now { enabled = c.remove.new.self }) in
-    let behind = driver_turned plain side from in
+    let behind = driver_turned K plain side from in
     let e = c.turn_driver.ensures in
     subst FewBooked (sym e.delivers.leads.state)
-    (turn-few plain from behind.state behind.gone c.requires.range (serves-books plain side (stream side from).driver.queue.messages from)
+    (turn-few plain from behind.state behind.gone c.requires.range (serves-books plain K side (stream side from).driver.queue.messages from)
     (spare-low behind.state (omega (arith, e.delivers.left, ap spare e.delivers.leads.state, range-spare from c.requires.range))))
 
 -- a driver's message goes whole
@@ -22,7 +23,7 @@ returns-in-Driver-clause-stops g c =
     let from = state_in (g.B.Blocks.value c.args.store.now) (record c.args.self.now { enabled = c.remove.new.self }) in
     let free = free_in (g.B.Blocks.value c.turn_driver.new.store) in
     moves-taken c.remove.new.self (state_in (g.B.Blocks.value c.args.store.now) c.args.self.now) free c.args.name c.turn_driver.result
-    (driver-moves c.args.name c.turn_driver.result from free c.in-Driver.is c.turn_driver.ensures.turn)
+    (driver-moves g.M.Behaves.does c.args.name c.turn_driver.result from free c.in-Driver.is c.turn_driver.ensures.turn)
 
 pub returns-in-Module-clause-stops : goal.returns-in-Module-clause-stops
 returns-in-Module-clause-stops g c =

@@ -11,6 +11,7 @@ use Rattle.strm_pair.proofs.streams.Streams.turn_driver.Goals as goal
 
 pub returns-then-is_stopped-clause-turn : goal.returns-then-is_stopped-clause-turn
 returns-then-is_stopped-clause-turn g c =
+    let K = g.M.Behaves.does in
     let s = g.B.Blocks.value c.args.store.now in
     let p = c.args.self.now in
     let side = c.args.side in
@@ -18,11 +19,12 @@ returns-then-is_stopped-clause-turn g c =
     let x_is = c.end-across.ensures.end ∙ ap (λ sd. end_at sd p) c.other-above.ensures in
     let opened = sym c.is_open.ensures ∙ c.if-not-is_open.false in
     let asked = c.is_stopped.ensures ∙ ap (λ sd. is_held c.in-Some.first.kind && not (has_room_past sd Up (driver_place sd st) c.in-Some.first.band.0 st)) c.other-above.ensures in
-    let is = turned-stopped s p side c.end.result.now c.end-across.result.now c.end.ensures.end x_is opened c.in-Some.first c.in-Some.ensures c.is_stopped.result asked c.if-is_stopped.true in
+    let is = turned-stopped s p side c.end.result.now c.end-across.result.now c.end.ensures.end x_is opened c.in-Some.first c.in-Some.ensures c.is_stopped.result asked K c.if-is_stopped.true in
     ap (λ (o : TurnOutcome ℕ). o.turn) (sym is)
 
 pub returns-then-is_stopped-clause-delivers : goal.returns-then-is_stopped-clause-delivers
 returns-then-is_stopped-clause-delivers g c =
+    let K = g.M.Behaves.does in
     let s = g.B.Blocks.value c.args.store.now in
     let p = c.args.self.now in
     let side = c.args.side in
@@ -30,7 +32,7 @@ returns-then-is_stopped-clause-delivers g c =
     let x_is = c.end-across.ensures.end ∙ ap (λ sd. end_at sd p) c.other-above.ensures in
     let opened = sym c.is_open.ensures ∙ c.if-not-is_open.false in
     let asked = c.is_stopped.ensures ∙ ap (λ sd. is_held c.in-Some.first.kind && not (has_room_past sd Up (driver_place sd st) c.in-Some.first.band.0 st)) c.other-above.ensures in
-    let is = turned-stopped s p side c.end.result.now c.end-across.result.now c.end.ensures.end x_is opened c.in-Some.first c.in-Some.ensures c.is_stopped.result asked c.if-is_stopped.true in
+    let is = turned-stopped s p side c.end.result.now c.end-across.result.now c.end.ensures.end x_is opened c.in-Some.first c.in-Some.ensures c.is_stopped.result asked K c.if-is_stopped.true in
     let kept = state_in s c.keep-then-is_stopped.new.self in
     let keeps = c.keep-then-is_stopped.ensures in
     let waits = c.wait_past.ensures in
@@ -57,6 +59,7 @@ returns-then-is_stopped-clause-delivers g c =
 
 pub returns-clause-turn : goal.returns-clause-turn
 returns-clause-turn g c =
+    let K = g.M.Behaves.does in
     let s = g.B.Blocks.value c.args.store.now in
     let p = c.args.self.now in
     let side = c.args.side in
@@ -65,11 +68,12 @@ returns-clause-turn g c =
     let opened = sym c.is_open.ensures ∙ c.if-not-is_open.false in
     let w = c.move_across.ensures in
     let asked = c.is_stopped.ensures ∙ ap (λ sd. is_held c.in-Some.first.kind && not (has_room_past sd Up (driver_place sd st) c.in-Some.first.band.0 st)) c.other-above.ensures in
-    let is = turned-moved s p side c.end.result.now c.end-across.result.now c.end.ensures.end x_is opened c.in-Some.first c.in-Some.ensures c.is_stopped.result asked c.if-is_stopped.false w.message w.rest w.first in
+    let is = turned-moved s p side c.end.result.now c.end-across.result.now c.end.ensures.end x_is opened c.in-Some.first c.in-Some.ensures c.is_stopped.result asked K c.if-is_stopped.false w.message w.rest w.first in
     w.answer ∙ ap (λ (o : TurnOutcome ℕ). o.turn) (sym is)
 
 pub returns-clause-delivers : goal.returns-clause-delivers
 returns-clause-delivers g c =
+    let K = g.M.Behaves.does in
     let s = g.B.Blocks.value c.args.store.now in
     let p = c.args.self.now in
     let side = c.args.side in
@@ -78,7 +82,7 @@ returns-clause-delivers g c =
     let opened = sym c.is_open.ensures ∙ c.if-not-is_open.false in
     let w = c.move_across.ensures in
     let asked = c.is_stopped.ensures ∙ ap (λ sd. is_held c.in-Some.first.kind && not (has_room_past sd Up (driver_place sd st) c.in-Some.first.band.0 st)) c.other-above.ensures in
-    let is = turned-moved s p side c.end.result.now c.end-across.result.now c.end.ensures.end x_is opened c.in-Some.first c.in-Some.ensures c.is_stopped.result asked c.if-is_stopped.false w.message w.rest w.first in
+    let is = turned-moved s p side c.end.result.now c.end-across.result.now c.end.ensures.end x_is opened c.in-Some.first c.in-Some.ensures c.is_stopped.result asked K c.if-is_stopped.false w.message w.rest w.first in
     subst (λ (o : TurnOutcome ℕ). Delivers s (g.B.Blocks.value c.move_across.new.store) p c.move_across.new.self c.args.told.now c.move_across.new.told o.state o.gone 8) (sym is) w.delivers
 
 -- nothing moves, and the queue keeps what it has
@@ -97,16 +101,18 @@ returns-in_default-clause-delivers g c =
     let s = g.B.Blocks.value c.args.store.now in
     let p = c.args.self.now in
     let f = c.args.told.now in
-    let is = turned-none s p c.args.side c.end.result.now c.end.ensures.end (rw c.in_default.is at c.peek.ensures) in
+    let is = turned-none g.M.Behaves.does s p c.args.side c.end.result.now c.end.ensures.end (rw c.in_default.is at c.peek.ensures) in
     subst (λ (o : TurnOutcome ℕ). Delivers s s p c.keep.new.self f f o.state o.gone 8) (sym is) (stays-put c.args.side true s p c.keep.new.self f c.requires.rests.held c.keep.ensures)
 
 pub returns-then-not-is_open-clause-delivers : goal.returns-then-not-is_open-clause-delivers
 returns-then-not-is_open-clause-delivers g c =
+    let K = g.M.Behaves.does in
     let s = g.B.Blocks.value c.args.store.now in
     let p = c.args.self.now in
     let f = c.args.told.now in
     let q = c.keep-then-not-is_open.new.self in
     let x_is = c.end-across.ensures.end ∙ ap (λ sd. end_at sd p) c.other-above.ensures in
     let closed = sym c.is_open.ensures ∙ c.if-not-is_open.true in
-    let is = turned-closed s p c.args.side c.end.result.now c.end-across.result.now c.end.ensures.end x_is closed c.in-Some.first c.in-Some.ensures in
+    let is = turned-closed K s p c.args.side c.end.result.now c.end-across.result.now c.end.ensures.end x_is closed c.in-Some.first
+    c.in-Some.ensures in
     subst (λ (o : TurnOutcome ℕ). Delivers s s p q f f o.state o.gone 8) (sym is) (stays-put c.args.side false s p q f c.requires.rests.held c.keep-then-not-is_open.ensures)

@@ -38,24 +38,26 @@ returns-in-Over-clause-leads g c =
 
 pub returns-in-Serves-clause-turn : goal.returns-in-Serves-clause-turn
 returns-in-Serves-clause-turn g c =
+    let K = g.M.Behaves.does in
     let s = g.B.Blocks.value c.args.store.now in
     let on = c.call_on-bytes in
     sym (ap (λ (t : TurnOutcome ℕ). t.turn)
-    (turned-by c.args.name c.in-Serves.here on.result (state_in s c.args.self.now) (state_in s c.begin_module_turn.new.self) (state_in (g.B.Blocks.value on.new.store) on.new.self)
+    (turned-by K c.args.name c.in-Serves.here on.result (state_in s c.args.self.now) (state_in s c.begin_module_turn.new.self) (state_in (g.B.Blocks.value on.new.store) on.new.self)
     c.args.told.now on.new.told c.in-Serves.ensures.begins on.ensures.treats))
 
 -- Nothing of a turn is under way behind it, so that nothing is in hand.
 pub returns-in-Serves-clause-leads : goal.returns-in-Serves-clause-leads
 returns-in-Serves-clause-leads g c =
+    let K = g.M.Behaves.does in
     let s = g.B.Blocks.value c.args.store.now in
     let on = c.call_on-bytes in
     let t = g.B.Blocks.value on.new.store in
     let old = state_in s c.args.self.now in
     let st = state_in t on.new.self in
     let q = c.end_module_turn.new.self in
-    let is = turned-by c.args.name c.in-Serves.here on.result old (state_in s c.begin_module_turn.new.self) st c.args.told.now on.new.told c.in-Serves.ensures.begins on.ensures.treats in
+    let is = turned-by K c.args.name c.in-Serves.here on.result old (state_in s c.begin_module_turn.new.self) st c.args.told.now on.new.told c.in-Serves.ensures.begins on.ensures.treats in
     let state = c.end_module_turn.ensures.state ∙ ap (λ took. module_turn_ended c.args.name c.in-Serves.here took st) (some-taken on.result) ∙ sym (ap (λ (t : TurnOutcome ℕ). t.state) is) in
-    let idle = subst AreIdle (sym state) (module_turned-rests plain c.args.name (Moved on.result) old c.requires.rests.idle) in
+    let idle = subst AreIdle (sym state) (module_turned-rests K plain c.args.name (Moved on.result) old c.requires.rests.idle) in
     record {
       state = state;
       tells = on.ensures.treats.tells ∙ sym (ap (λ (t : TurnOutcome ℕ). tallied t.gone c.args.told.now) is);
@@ -69,22 +71,25 @@ returns-in-Serves-clause-leads g c =
 -- no book goes round
 pub returns-in-Over-clause-few : goal.returns-in-Over-clause-few
 returns-in-Over-clause-few g c =
+    let K = g.M.Behaves.does in
     let s = g.B.Blocks.value c.args.store.now in
     let old = state_in s c.args.self.now in
     let is = c.in-Over.ensures.begins.1 c.in-Over.turn in
-    let books = subst (λ (t : TurnOutcome ℕ). BooksMade plain old t.gone t.state) is (module-books plain c.args.name c.in-Over.turn old) in
+    let books = subst (λ (t : TurnOutcome ℕ). BooksMade plain old t.gone t.state) is (module-books plain K c.args.name c.in-Over.turn old) in
     turn-few plain old (state_in s c.begin_module_turn.new.self) [] c.requires.range books (λ dir. let low = range-low dir old c.requires.range in let same = books.made dir in omega (arith, low.1, same))
 
 pub returns-in-Serves-clause-few : goal.returns-in-Serves-clause-few
 returns-in-Serves-clause-few g c =
+    let K = g.M.Behaves.does in
     let s = g.B.Blocks.value c.args.store.now in
     let on = c.call_on-bytes in
     let old = state_in s c.args.self.now in
     let begun = state_in s c.begin_module_turn.new.self in
     let st = state_in (g.B.Blocks.value on.new.store) on.new.self in
     let new = state_in (g.B.Blocks.value on.new.store) c.end_module_turn.new.self in
-    let is = turned-by c.args.name c.in-Serves.here on.result old begun st c.args.told.now on.new.told c.in-Serves.ensures.begins on.ensures.treats in
-    let shows : new ≡ (module_turned plain c.args.name (Moved on.result) old).state =
+    let is = turned-by K c.args.name c.in-Serves.here on.result old begun st c.args.told.now on.new.told c.in-Serves.ensures.begins
+    on.ensures.treats in
+    let shows : new ≡ (module_turned K plain c.args.name (Moved on.result) old).state =
     c.end_module_turn.ensures.state ∙ ap (λ took. module_turn_ended c.args.name c.in-Serves.here took st) (some-taken on.result) ∙ sym (ap (λ (t : TurnOutcome ℕ). t.state) is) in
     let ended = ended-books plain c.in-Serves.here c.args.name (not (on.result == 0)) st in
     let within = on.ensures.treats.within in
@@ -94,8 +99,8 @@ returns-in-Serves-clause-few g c =
     let same = same-spare st (module_turn_ended c.args.name c.in-Serves.here (not (on.result == 0)) st) ended in
     let left = ap (λ v. bytes_left c.in-Serves.here.way false (discipline_of (module_at c.in-Serves.here v))) c.in-Serves.ensures.begins.stays in
     subst FewBooked (sym shows)
-    (turn-few plain old (module_turned plain c.args.name (Moved on.result) old).state (module_turned plain c.args.name (Moved on.result) old).gone c.requires.range (module-books plain c.args.name (Moved on.result) old)
-    (spare-low (module_turned plain c.args.name (Moved on.result) old).state (omega (arith, range-spare old c.requires.range, stays, behind, same, on.ensures.treats.left, within, few, left))))
+    (turn-few plain old (module_turned K plain c.args.name (Moved on.result) old).state (module_turned K plain c.args.name (Moved on.result) old).gone c.requires.range (module-books plain K c.args.name (Moved on.result) old)
+    (spare-low (module_turned K plain c.args.name (Moved on.result) old).state (omega (arith, range-spare old c.requires.range, stays, behind, same, on.ensures.treats.left, within, few, left))))
 
 -- a byte went, where the message has one
 pub returns-in-Over-clause-stops : goal.returns-in-Over-clause-stops
@@ -103,6 +108,7 @@ returns-in-Over-clause-stops g c = λ owner place. stays-moves c.args.name (stat
 
 pub returns-in-Serves-clause-stops : goal.returns-in-Serves-clause-stops
 returns-in-Serves-clause-stops g c = λ owner place.
+    let K = g.M.Behaves.does in
     let s = g.B.Blocks.value c.args.store.now in
-    serves-moves c.args.name c.in-Serves.here (state_in s c.args.self.now) (state_in s c.begin_module_turn.new.self) (g.B.Blocks.value c.call_on-bytes.new.store) c.call_on-bytes.result c.in-Serves.ensures.begins
+    serves-moves K c.args.name c.in-Serves.here (state_in s c.args.self.now) (state_in s c.begin_module_turn.new.self) (g.B.Blocks.value c.call_on-bytes.new.store) c.call_on-bytes.result c.in-Serves.ensures.begins
     c.call_on-bytes.ensures.treats.within c.call_on-bytes.ensures.treats.some c.call_on-bytes.ensures.few owner place

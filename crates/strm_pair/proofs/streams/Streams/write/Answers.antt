@@ -16,7 +16,7 @@ with_written-book-requires g c =
     let dir = direction_from c.args.side in
     let is = ap (λ (b : Book). b.written) (c.book_of.ensures t) in
     let sent = ap (λ (v : State ℕ). (book dir v).written) c.send_chunks-taken.ensures.delivers.leads.state in
-    let stays = (chunks-book plain c.args.side (chunks_of c.chunk_count-chunks.result c.args.bytes.now) old).written dir in
+    let stays = (chunks-book plain g.M.Behaves.does c.args.side (chunks_of c.chunk_count-chunks.result c.args.bytes.now) old).written dir in
     omega (arith, book-low c.args.side old c.requires.range, is, sent, stays, c.send_chunks-taken.ensures.fits)
 
 -- No more is taken than a store has blocks for.
@@ -30,11 +30,12 @@ pub returns-clause-answer : goal.returns-clause-answer
 returns-clause-answer g c =
     let s = g.B.Blocks.value c.args.store.now in
     let old = state_in s c.args.self.now in
-    let e = wrote-chunks c.args.side c.args.bytes.now old c.chunk_count-chunks.result c.chunk_count-chunks.ensures.value in
+    let e = wrote-chunks c.args.side c.args.bytes.now old c.chunk_count-chunks.result c.chunk_count-chunks.ensures.value g.M.Behaves.does in
     ap Count c.send_chunks-taken.ensures.taken ∙ ap (λ (o : Outcome ℕ). o.answer) (sym e)
 
 pub returns-clause-delivers : goal.returns-clause-delivers
 returns-clause-delivers g c =
+    let K = g.M.Behaves.does in
     let s = g.B.Blocks.value c.args.store.now in
     let t = g.B.Blocks.value c.send_chunks-taken.new.store in
     let side = c.args.side in
@@ -42,7 +43,7 @@ returns-clause-delivers g c =
     let old = state_in s c.args.self.now in
     let sent = state_in t c.send_chunks-taken.new.self in
     let dir = direction_from side in
-    let e = wrote-chunks side c.args.bytes.now old c.chunk_count-chunks.result c.chunk_count-chunks.ensures.value in
+    let e = wrote-chunks side c.args.bytes.now old c.chunk_count-chunks.result c.chunk_count-chunks.ensures.value K in
     let chunks = c.send_chunks-taken.ensures.delivers in
     let kept = c.keep_book.ensures in
     let booked = kept.state t ∙ ap (λ (b : Book). with_book dir b sent) (c.with_written-book.ensures ∙ ap (with_written n) (c.book_of.ensures t)) in
@@ -50,7 +51,7 @@ returns-clause-delivers g c =
       leads = record {
         state = booked
             ∙ ap (λ k. with_book dir (with_written k (book dir sent)) sent) c.send_chunks-taken.ensures.taken
-            ∙ ap (λ (v : State ℕ). with_book dir (with_written (chunks-written side c.chunk_count-chunks.result c.args.bytes.now old).taken (book dir v)) v) chunks.leads.state
+            ∙ ap (λ (v : State ℕ). with_book dir (with_written (chunks-written K side c.chunk_count-chunks.result c.args.bytes.now old).taken (book dir v)) v) chunks.leads.state
             ∙ ap (λ (o : Outcome ℕ). o.state) (sym e);
         tells = chunks.leads.tells ∙ ap (λ (o : Outcome ℕ). tallied o.gone c.args.told.now) (sym e);
         held = kept.held t chunks.leads.held;

@@ -5,6 +5,7 @@ use Rattle.strm_types.specs.declared.entries.Entry.TheVariants.{Called}
 use Rattle.strm_types.specs.declared.refusals.Refusal.{Refusal}
 use Rattle.strm_types.specs.Events.{request}
 use Rattle.strm_types.specs.Journal.{reply_in}
+use Rattle.strm_laws.proofs.NoOwn.{none as no_own}
 use Rattle.strm_laws.specs.Pair.{AddsEntry}
 use Rattle.strm_locks.specs.Tallies.{Tallies}
 use Rattle.strm_system.proofs.Tallying.{adds-tally}
@@ -14,7 +15,7 @@ pub returns-clause-tally : goal.returns-clause-tally
 returns-clause-tally g c = at c.call-answer.result c.call-answer.ensures.adds
   where
     at : (r : Result (Answer ℕ) Refusal)
-        → IfOk r (λ answer. AddsEntry c.args.self.now.pair c.call-answer.new.self (Called c.args.caller (request c.args.event.now) (reply_in answer c.call-answer.new.out.items)))
+        → IfOk r (λ answer. AddsEntry no_own c.args.self.now.pair c.call-answer.new.self (Called c.args.caller (request c.args.event.now) (reply_in answer c.call-answer.new.out.items)))
         → IfOk r (λ answer. Tallies c.args.self.now.pair c.call-answer.new.self (Called c.args.caller (request c.args.event.now) (reply_in answer c.call-answer.new.out.items)))
     at (Err z) adds = adds
     at (Ok answer) adds =

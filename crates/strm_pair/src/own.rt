@@ -1,0 +1,155 @@
+//! Modules of a user's own, which are pushed on a side's stream beside those that are there (STREAMS Programming Guide, "Modules", "Put Procedures").
+
+ghost use Rattle.std.specs.Prelude.{ℕ, ◌≡◌, ◌<◌, ◌≤◌, false, true, length, MatchOption};
+ghost use Rattle.strm_types.specs.Cells.{plain};
+ghost use Rattle.strm_types.specs.Budgets.{own_at};
+ghost use Rattle.strm_types.specs.Tables.{own_does};
+ghost use Rattle.strm_types.specs.declared.rules.Fates.{Fates};
+ghost use Rattle.strm_types.specs.declared.limits.TheConstants.{MODULES, SETTINGS_MAX};
+ghost use Rattle.strm_types.specs.Owns.{Own};
+ghost use Rattle.strm_laws.specs.Behaviours.{fresh_own, passes_all};
+ghost use Rattle.strm_laws.specs.Pushes.{is_known};
+ghost use Rattle.strm_blocks.specs.Blocks.{StoreValue, token};
+ghost use Rattle.strm_frame.specs.Outboxes.{message_in};
+ghost use Rattle.strm_pty.specs.Beside.{MayPass};
+ghost use Rattle.strm_pair.specs.OwnPuts.{OwnPuts};
+
+use arrayvec::ArrayVec;
+use std::marker::Model;
+use strm_blocks::{Blocks, InHand};
+use strm_frame::{Outbox, Sent};
+use strm_laws::Behaves;
+use strm_types::{Fates, ModuleName, SETTINGS_MAX, Spot};
+
+/// A module of a user's own, as it stands on a stream: its number, by which it is pushed and found, and the bytes that it is set to, which are all
+/// that it keeps (STREAMS Programming Guide, "Private Data"). An image keeps both. It has no queues and no line, so nothing waits in it.
+#[derive(Drop)]
+pub struct Own {
+    number: u8,
+    settings: ArrayVec<u8, SETTINGS_MAX>,
+}
+
+impl Model for Own {
+    ghost use Rattle.strm_types.specs.Owns as plain;
+
+    ghost Value = { plain.Own };
+
+    ghost view = { λ o. record { number = o.number; settings = o.settings.items } };
+}
+
+impl Own {
+    /// One of a number that is set to some bytes, at most `SETTINGS_MAX`.
+    pub fn new(number: u8, settings: &[u8]) -> Own
+        requires { length settings.now ≤ SETTINGS_MAX }
+        ensures { result ≡ record { number = number; settings = settings.now } }
+    {
+        let mut own = Own {
+            number,
+            settings: ArrayVec::new(),
+        };
+        own.set(settings);
+        own
+    }
+
+    /// Its number.
+    pub fn number(&self) -> u8
+        ensures { result ≡ self.now.number }
+    {
+        self.number
+    }
+
+    /// What it is set to.
+    pub fn settings(&self) -> &[u8]
+        ensures settings { result.now ≡ self.now.settings }
+        ensures few { length self.now.settings ≤ SETTINGS_MAX }
+    {
+        self.settings.as_slice()
+    }
+
+    /// Sets it to other bytes, at most `SETTINGS_MAX`.
+    pub fn set(&mut self, settings: &[u8])
+        requires { length settings.now ≤ SETTINGS_MAX }
+        ensures { self.new ≡ record self.old { settings = settings.now } }
+    {
+        self.settings.clear();
+        if self.settings.try_extend_from_slice(settings).is_err() {
+            unreachable!()
+        }
+    }
+}
+
+/// What modules of a user's own do, all kinds of them, by their numbers.
+///
+/// A user says by [`Behaves`] what they do over any cells, with the laws of that: no cell is lost or doubled, and a put keeps within the table of
+/// such modules. A put takes no block: it hands the message on, with its bytes changed or not, answers an M_IOCTL in the blocks of that, or frees
+/// what it drops and tells the rule.
+pub trait OwnModule: Behaves {
+    /// One of a number, as it is pushed. `None` where there are none of the number (streamio(7I): I_PUSH).
+    fn made(number: u8) -> Option<Own>
+        ensures { MatchOption result (Self.does.knows number ≡ false)
+            (λ x. (Self.does.knows number ≡ true) × (x ≡ fresh_own Self.does number)) };
+
+    /// Puts a message in hand at one, on its way up or down, and says what is sent on: `put(9E)`. What it drops it tells by its rule. It may be
+    /// called for any message and one of any number, and counts on no free block. What one of a number does of which there are none is
+    /// [`Behaves`]' to say; [`pass_on`] hands the message on.
+    fn put<B: Blocks>(
+        own: &mut Own,
+        store: &mut B,
+        here: Spot,
+        message: InHand,
+        told: &mut Fates,
+    ) -> Outbox
+        requires may { MayPass (B.value store.old) (token message) here }
+        ensures { let s = B.value store.old in let m = message_in s (token message) in
+            OwnPuts s (B.value store.new) own.new (token message) (own_at own_does here m) result told.old told.new
+            (Self.does.puts plain here m own.old) };
+}
+
+/// Hands a message on, as a module does that leaves it as it is (STREAMS Programming Guide, "Put Procedures").
+pub fn pass_on(here: Spot, message: InHand) -> Outbox
+    requires inside { 0 < here.at }
+    requires small { here.at ≤ MODULES }
+    ensures { (s : StoreValue) (own : Own) (told : Fates) (most : ℕ) → MayPass s (token message) here
+        → OwnPuts s s own (token message) most result told told (passes_all here (message_in s (token message)) own) }
+{
+    Outbox::one(Sent {
+        to: here.toward(here.way),
+        message,
+    })
+}
+
+/// Whether there are modules of a name: of those of a user's own there are some of the numbers that one can be made of.
+pub(crate) fn is_known<M: OwnModule>(name: ModuleName) -> bool
+    ensures { result ≡ is_known M.does name }
+{
+    match name {
+        ModuleName::Own(number) => M::made(number).is_some(),
+        ModuleName::Ldterm | ModuleName::Ptem | ModuleName::Pckt => true,
+    }
+}
+
+/// No module of a user's own: there is none.
+#[derive(Drop)]
+pub enum NoModule {}
+
+impl Behaves for NoModule {
+    ghost use Rattle.strm_laws.proofs.NoOwn.{none};
+
+    ghost does = { none };
+}
+
+impl OwnModule for NoModule {
+    fn made(_number: u8) -> Option<Own> {
+        None
+    }
+
+    fn put<B: Blocks>(
+        _own: &mut Own,
+        _store: &mut B,
+        here: Spot,
+        message: InHand,
+        _told: &mut Fates,
+    ) -> Outbox {
+        pass_on(here, message)
+    }
+}
