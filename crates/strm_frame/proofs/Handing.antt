@@ -2,7 +2,7 @@
 use Rattle.strm_frame.proofs.Prelude.{ℕ, ◌≡◌, ◌≤◌, ◌<◌, ◌+◌, true, false, cond, List, [], ◌∷◌, length, refl, sym, ap, subst, ◌∙◌, arith, inl, inr}
 use Rattle.strm_frame.proofs.Prelude.{cases_eq, nat_tests, sum_by-cons}
 use Rattle.strm_frame.specs.Prelude.{Block, StoreValue, IsStore, IsInHand, in_hand, dropped, times_in, token, Parcel, IsChain, beyond, cost_of, most}
-use Rattle.strm_frame.specs.Prelude.{At}
+use Rattle.strm_frame.specs.Prelude.{At, FreesBlocks}
 use Rattle.std.proofs.Common.{◌≢◌, eqb}
 use Rattle.strm_blocks.specs.Blocks.{Held, without, names_of}
 use Rattle.strm_blocks.proofs.Laws.{in_hand-dropped, total-dropped, used-is, free_m-is, free_d-more, references-is}
@@ -11,6 +11,7 @@ use Rattle.strm_frame.specs.declared.parcels.Sent.{Sent}
 use Rattle.strm_frame.specs.Hands.{once, AreIn, CanPut, Handles, Hands, HasRoom, MayDeliver, Spends, Takes}
 use Rattle.strm_frame.specs.Outboxes.{times_sent, parcels_in, parcel_in, spot_in, AreChains}
 use Rattle.strm_frame.specs.Serves.{later_cost}
+use Rattle.strm_frame.proofs.WidePools.{room-more}
 
 same-name : (i : ℕ) → eqb i i ≡ true
 same-name i = grind (arith, nat_tests)
@@ -60,13 +61,18 @@ freed-hands s i keeps st can =
     }
 
 -- no fewer blocks are free
+pub dropped-frees : (s : StoreValue) (i : ℕ) → IsInHand s i → FreesBlocks s (dropped s i)
+dropped-frees s i is = record {
+  mblks = omega (arith, total-dropped length s i is, used-is s, used-is (dropped s i), free_m-is s, free_m-is (dropped s i));
+  dblks = free_d-more s (dropped s i) refl (λ d. omega (arith, total-dropped (names_of d) s i is, references-is s d, references-is (dropped s i) d));
+}
+
 pub freed-spends : (s : StoreValue) (i : ℕ) (keeps : ℕ → ℕ) (most : ℕ) → IsStore s → CanPut s i keeps → Spends s (dropped s i) most 0
 freed-spends s i keeps most st can =
-    let is = can-in_hand s i keeps st can in
-    record {
-      mblks = (let t = total-dropped length s i is in let u = used-is s in let v = used-is (dropped s i) in let a = free_m-is s in let b = free_m-is (dropped s i) in omega arith);
-      dblks = (let m = free_d-more s (dropped s i) refl (λ d. let t = total-dropped (names_of d) s i is in let u = references-is s d in let v = references-is (dropped s i) d in omega arith) in omega arith);
-    }
+    let frees = dropped-frees s i (can-in_hand s i keeps st can) in
+    let m = frees.mblks in
+    let d = room-more s (dropped s i) (record { mblks = refl; dblks = refl }) frees in
+    record { mblks = omega arith; dblks = omega arith }
 
 -- what was sent stands for the same, where those messages stay
 pub parcels-same : (s t : StoreValue) (sent : List Sent) → ((i : ℕ) → 0 < times_sent i sent → in_hand t i ≡ in_hand s i) → parcels_in t sent ≡ parcels_in s sent

@@ -1,4 +1,5 @@
 pub mod Prelude
+pub mod WidePools
 pub mod Handing
 pub mod Budgeting
 pub mod Shifting

@@ -1,5 +1,5 @@
 -- Messages that go one after the other, as the M_IOCTL of a number is sought among them.
-use Rattle.strm_frame.proofs.Prelude.{ℕ, ◌≡◌, ◌≤◌, ◌<◌, ◌+◌, Bool, true, false, cond, List, [], ◌∷◌, length, refl, sym, ap, subst, ◌∙◌, arith}
+use Rattle.strm_frame.proofs.Prelude.{ℕ, ◌≡◌, ◌<◌, Bool, true, false, cond, List, [], ◌∷◌, length, refl, sym, ap, subst, ◌∙◌, arith}
 use Rattle.strm_frame.proofs.Prelude.{nat_tests, ◌||◌, ◌==◌}
 use Rattle.strm_frame.specs.Prelude.{of_all, Message, is_none_left, StoreValue, IsInHand, IsStore, dropped, in_hand, times_in, Queue, queue_in}
 use Rattle.strm_frame.specs.Prelude.{messages_on, IsReady, Changes, FreesBlocks, Dequeued}
@@ -9,9 +9,8 @@ use Rattle.strm_types.specs.Queue as plain
 use Rattle.strm_blocks.specs.Blocks.{without}
 use Rattle.strm_msg.proofs.Hands.{held-is}
 use Rattle.strm_queue.specs.Flows.{plain_flows}
-use Rattle.strm_frame.specs.Hands.{once}
 use Rattle.strm_frame.specs.Outboxes.{message_in}
-use Rattle.strm_frame.proofs.Handing.{freed-spends}
+use Rattle.strm_frame.proofs.Handing.{dropped-frees}
 
 -- all messages go
 pub all-gone : (ms : List (Message ℕ)) → stayed of_all ms ≡ []
@@ -47,19 +46,6 @@ module _ (s t : StoreValue) (q q' : Queue) (i : ℕ) (is : Dequeued s t q q' i) 
       let yes : (i == i) ≡ true = grind (arith, nat_tests) in
       ap (without i) is.hand ∙ ap (λ b. cond b s.hand (record { name = i; chain = in_hand t i } ∷ without i s.hand)) yes
 
-  freed-frees : IsStore t → FreesBlocks t (dropped t i)
-  unfolding once
-  freed-frees st =
-      let spends = freed-spends t i (λ _. 0) 0 st (record { apart = λ j. once-in j }) in
-      record { mblks = let m = spends.mblks in omega arith; dblks = let d = spends.dblks in omega arith }
-    where
-      by : (j : ℕ) (b : Bool) → (i == j) ≡ b → cond {A = ℕ} b 1 0 + 0 ≤ times_in j t.hand
-      by j false other = omega arith
-      by j true same = let e : i ≡ j = grind (arith, nat_tests) in let here = ap (λ k. times_in k t.hand) e in let one = taken-in_hand in omega arith
-
-      once-in : (j : ℕ) → once i j + 0 ≤ times_in j t.hand
-      once-in j = by j (i == j) refl
-
   pub freed-changes : (u : StoreValue) → u ≡ dropped t i → Changes s u q q'
   freed-changes u u_is = subst (λ v. Changes s v q q') (sym u_is) (record {
     ready = record { messages = is.ready.messages; counted = is.ready.counted };
@@ -70,10 +56,10 @@ module _ (s t : StoreValue) (q q' : Queue) (i : ℕ) (is : Dequeued s t q q' i) 
     dblks = is.dblks;
   })
 
-  pub freed-all : (u : StoreValue) → u ≡ dropped t i → IsStore t → FreesBlocks s u
-  freed-all u u_is st =
+  pub freed-all : (u : StoreValue) → u ≡ dropped t i → FreesBlocks s u
+  freed-all u u_is =
       let first = is.frees in
-      let second = subst (λ v. FreesBlocks t v) (sym u_is) (freed-frees st) in
+      let second = subst (λ v. FreesBlocks t v) (sym u_is) (dropped-frees t i taken-in_hand) in
       record { mblks = omega (arith, first.mblks, second.mblks); dblks = omega (arith, first.dblks, second.dblks) }
 
   -- it is looked at first
@@ -96,7 +82,7 @@ pub going-on : (number : ℕ) (r s t u : StoreValue) (p q q' : Queue) (met now :
     → Going number r u p q' now
 going-on number r s t u p q q' met now i was is st u_is looked =
     let c = freed-changes s t q q' i is u u_is in
-    let f = freed-all s t q q' i is u u_is st in
+    let f = freed-all s t q q' i is u u_is in
     record {
       changes = record {
         ready = c.ready;
