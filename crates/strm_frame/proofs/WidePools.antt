@@ -6,7 +6,7 @@ use Rattle.std.proofs.lemmas.List.Sums.{count_by-le-length, sum_by-le-sum_by}
 use Rattle.strm_blocks.specs.Blocks.{Block, Held, StoreValue, free_d, free_m, names_of, references, total, zeros_below}
 use Rattle.strm_blocks.proofs.Laws.{free_m-is, references-is, used-is}
 use Rattle.strm_frame.specs.Prelude.{FreesBlocks}
-use Rattle.strm_frame.specs.Hands.{room_d, HasRoom, SamePool, Spends}
+use Rattle.strm_frame.specs.Hands.{room_d, HasRoom, IsWide, SamePool, Spends}
 
 -- how many blocks of a chain name a data block of a number below a bound
 abbrev within : ℕ → List Block → ℕ
@@ -118,3 +118,8 @@ module _ (s t : StoreValue) (pool : SamePool s t) where
   room-same m d =
       let same : nat_le t.mblks t.dblks ≡ nat_le s.mblks s.dblks = rw (pool.mblks, pool.dblks) refl in
       rw (same, m, d) refl
+
+-- a store stays as wide as it is wanted, where it has as many blocks as before
+pub wide-on : (wanted : Bool) (s t : StoreValue) → t.mblks ≡ s.mblks → t.dblks ≡ s.dblks → IsWide wanted s → IsWide wanted t
+wide-on true s t mblks dblks wide = omega (arith, mblks, dblks, wide)
+wide-on false s t mblks dblks wide = tt

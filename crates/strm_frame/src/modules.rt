@@ -22,7 +22,7 @@ ghost use Rattle.strm_frame.specs.Outboxes.{message_in};
 ghost use Rattle.strm_frame.specs.Does.{Puts, Serves};
 ghost use Rattle.strm_frame.specs.Serves.{stop_of};
 ghost use Rattle.strm_frame.specs.Standings.{Fits, keeps_of, lists_of, owns, queues_own, standing, standing_in};
-ghost use Rattle.strm_frame.specs.Hands.{AreIn, CanPut, SameOwn, HasRoom};
+ghost use Rattle.strm_frame.specs.Hands.{AreIn, CanPut, SameOwn, HasRoom, IsWide};
 
 use crate::parcels::Outbox;
 use crate::queue_pair::QueuePair;
@@ -187,6 +187,9 @@ pub trait PutProcedure<W>: Module {
     /// What is done at modules of a user's own.
     ghost by: { Spot → Message ℕ → Own → Acted ℕ Own };
 
+    /// Whether a put may free blocks and take as many anew: then it counts on a store with as many data blocks as message blocks.
+    ghost wide: { Bool };
+
     /// Puts a message in hand here, on its way up or down, and says what it does: `put(9E)`. Where it holds what it is given an
     /// M_DATA or M_PROTO frees no block.
     fn put<B: Blocks>(
@@ -202,6 +205,7 @@ pub trait PutProcedure<W>: Module {
         requires chain { IsChain (in_hand (B.value store.old) (token message)) }
         requires room { let s = B.value store.old in
             HasRoom s (own_at (Self.does (Self.plain s self.old)) here (message_in s (token message))) }
+        requires wide { IsWide Self.wide (B.value store.old) }
         requires inside { 0 < here.at }
         requires small { here.at ≤ MODULES }
         ensures { let s = B.value store.old in let m = message_in s (token message) in let x = standing self.old queues.old in

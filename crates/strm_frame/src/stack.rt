@@ -13,7 +13,7 @@ ghost use Rattle.strm_frame.specs.Standings.{Fits, keeps_of, owns, standing_in};
 ghost use Rattle.strm_frame.specs.Stacks.{all_in, all_of, AreHeld};
 ghost use Rattle.strm_types.specs.ModuleQueues.{at_place};
 ghost use Rattle.strm_frame.specs.Outboxes.{message_in};
-ghost use Rattle.strm_frame.specs.Hands.{CanPut, HasRoom};
+ghost use Rattle.strm_frame.specs.Hands.{CanPut, HasRoom, IsWide};
 
 use crate::modules::{Acts, Module, PutProcedure};
 use crate::standing::Standing;
@@ -65,6 +65,7 @@ fn put_among<W, B: Blocks, M: PutProcedure<W>>(
     requires room { let s = B.value store.old in
         HasRoom s (slice_index_or (map (of_part (λ p. own_at (M.does p) to (message_in s (token message))))
         (map (standing_in M.plain s) modules.old)) at 0) }
+    requires wide { IsWide M.wide (B.value store.old) }
     requires inside { 0 < to.at }
     requires small { to.at ≤ MODULES }
     ensures length { length modules.new ≡ length modules.old }
@@ -154,6 +155,7 @@ impl<M: Module + Default> Stack<M> {
         requires room { let s = B.value store.old in
             HasRoom s (at_place (of_part (λ p. own_at (M.does p) to (message_in s (token message)))) 0 to.at
             (map (standing_in M.plain s) self.old.modules.items)) }
+        requires wide { IsWide M.wide (B.value store.old) }
         ensures length { length self.new.modules.items ≡ length self.old.modules.items }
         ensures does { let s = B.value store.old in let m = message_in s (token message) in
             let xs = self.old.modules.items in let ps = all_in (standing_in M.plain) s xs in

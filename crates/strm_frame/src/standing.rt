@@ -15,7 +15,7 @@ ghost use Rattle.strm_types.specs.Standings.{of_part, has_queues, messages_at, q
 ghost use Rattle.strm_blocks.specs.Blocks.{StoreValue, in_hand, token};
 ghost use Rattle.strm_msg.specs.Messages.{IsChain};
 ghost use Rattle.strm_frame.specs.Does.{Changes, Clears, ClearsQueue, EndsTurn, Puts, Serves};
-ghost use Rattle.strm_frame.specs.Hands.{AreIn, CanPut, HasRoom};
+ghost use Rattle.strm_frame.specs.Hands.{AreIn, CanPut, HasRoom, IsWide};
 ghost use Rattle.strm_frame.specs.Outboxes.{message_in};
 ghost use Rattle.strm_frame.specs.Serves.{stop_of};
 ghost use Rattle.strm_frame.specs.Standings.{Fits, IsPairReady, keeps_of, owns, standing_in};
@@ -185,6 +185,7 @@ impl<M: Module> Standing<M> {
         requires chain { IsChain (in_hand (B.value store.old) (token message)) }
         requires room { let s = B.value store.old in
             HasRoom s (own_at (M.does (M.plain s self.old.module)) here (message_in s (token message))) }
+        requires wide { IsWide M.wide (B.value store.old) }
         requires inside { 0 < here.at }
         requires small { here.at ≤ MODULES }
         ensures { let s = B.value store.old in let m = message_in s (token message) in let x = standing_in M.plain s self.old in

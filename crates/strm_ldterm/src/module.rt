@@ -98,12 +98,14 @@ impl Module for Ldterm {
 }
 
 impl PutProcedure<()> for Ldterm {
-    ghost use Rattle.std.specs.Prelude.{[]};
+    ghost use Rattle.std.specs.Prelude.{false, []};
     ghost use Rattle.strm_types.specs.LdtermStands as there;
     ghost use Rattle.strm_types.proofs.LdtermWithin.{ldterm-within};
     ghost use Rattle.strm_ldterm.specs.ServedLaws.{puts-served};
 
     ghost by = { λ here m x. record { state = x; notes = []; sent = []; gone = [] } };
+
+    ghost wide = { false };
 
     fn put<B: Blocks>(
         &mut self,

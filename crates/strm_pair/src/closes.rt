@@ -7,6 +7,7 @@ ghost use Rattle.strm_types.specs.Cells.{plain};
 ghost use Rattle.strm_laws.specs.Closes.{head_emptied, driver_emptied, ended, hung_up_at, closed_at};
 ghost use Rattle.strm_types.specs.Emptied.{of_all};
 ghost use Rattle.strm_laws.specs.Puts.{flushed_on};
+ghost use Rattle.strm_frame.specs.Hands.{IsWide};
 
 use crate::own::OwnModule;
 use crate::streams::Streams;
@@ -30,7 +31,8 @@ impl Streams {
         band: Option<Band>,
         told: &mut Fates,
     ) -> Answer<u32>
-        requires { MayDeliver (B.value store.old) self.old 6 }
+        requires may { MayDeliver (B.value store.old) self.old 6 }
+        requires wide { IsWide M.wide (B.value store.old) }
         ensures answer { result ≡ Done }
         ensures delivers { let s = B.value store.old in let is = flushed_on M.does plain band side what (state_in s self.old) in
             Delivers s (B.value store.new) self.old self.new told.old told.new is.state is.gone 5 }

@@ -4,7 +4,7 @@ ghost use Rattle.strm_types.specs.Cells.{plain};
 ghost use Rattle.strm_laws.specs.Puts.{delivered};
 ghost use Rattle.strm_laws.specs.Spares.{spare};
 ghost use Rattle.strm_types.specs.Budgets.{most_of};
-ghost use Rattle.strm_frame.specs.Hands.{MayTake, Takes};
+ghost use Rattle.strm_frame.specs.Hands.{IsWide, MayTake, Takes};
 ghost use Rattle.strm_frame.specs.Outboxes.{message_in};
 ghost use Rattle.strm_pair.specs.Alone.{IsAlone};
 ghost use Rattle.strm_blocks.specs.Blocks.{token};
@@ -31,6 +31,7 @@ impl Streams {
         requires alone { IsAlone (B.value store.old) self.old (token message) }
         requires room { let s = B.value store.old in
             MayTake s (spare (state_in s self.old)) (most_of to (message_in s (token message))) }
+        requires wide { IsWide M.wide (B.value store.old) }
         ensures leads { let s = B.value store.old in let is = delivered M.does plain to (message_in s (token message)) (state_in s self.old) in
             Leads s (B.value store.new) self.new told.old told.new is.state is.gone }
         ensures takes { let s = B.value store.old in let t = B.value store.new in

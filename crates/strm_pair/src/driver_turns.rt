@@ -9,6 +9,7 @@ ghost use Rattle.strm_laws.specs.Past.{has_room_past};
 ghost use Rattle.strm_laws.specs.Turns.{driver_turned, turn_ended, with_driver};
 ghost use Rattle.strm_types.specs.Queue.{is_none_left};
 ghost use Rattle.strm_laws.specs.State.{stream};
+ghost use Rattle.strm_frame.specs.Hands.{IsWide};
 ghost use Rattle.strm_queue.specs.Stored.{messages_on, queue_in, IsReady};
 ghost use Rattle.strm_pty.specs.Does.{OnlyQueue};
 ghost use Rattle.strm_pair.specs.Took.{settled, settling_relieves, TookFirst, MovesAcross};
@@ -79,6 +80,7 @@ impl Streams {
     ) -> Turn
         requires may { MayDeliver (B.value store.old) self.old 8 }
         requires some { is_none_left (messages_on (B.value store.old) (end_at side self.old).driver.list) ≡ false }
+        requires wide { IsWide M.wide (B.value store.old) }
         ensures { MovesAcross M.does side (B.value store.old) (B.value store.new) self.old self.new result told.old told.new }
     {
         let Some(message) = self.take_first(store, side) else {
@@ -126,7 +128,8 @@ impl Streams {
         side: Side,
         told: &mut Fates,
     ) -> Turn
-        requires { MayDeliver (B.value store.old) self.old 8 }
+        requires may { MayDeliver (B.value store.old) self.old 8 }
+        requires wide { IsWide M.wide (B.value store.old) }
         ensures turn { result ≡ (driver_turned M.does plain side (state_in (B.value store.old) self.old)).turn }
         ensures delivers { let s = B.value store.old in let is = driver_turned M.does plain side (state_in s self.old) in
             Delivers s (B.value store.new) self.old self.new told.old told.new is.state is.gone 8 }

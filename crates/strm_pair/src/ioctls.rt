@@ -10,6 +10,7 @@ ghost use Rattle.strm_types.specs.Message.{Message};
 ghost use Rattle.strm_laws.specs.Pushes.{ioctl_dropped};
 ghost use Rattle.strm_laws.specs.State.{stream};
 ghost use Rattle.strm_blocks.specs.Blocks.{StoreValue};
+ghost use Rattle.strm_frame.specs.Hands.{IsWide};
 
 use crate::own::OwnModule;
 use crate::streams::Streams;
@@ -52,6 +53,7 @@ impl Streams {
         requires may { MayDeliver (B.value store.old) self.old IOCTL_BLOCKS }
         requires small { length body.now ≤ IOCTL_MAX }
         requires numbered { self.old.next_ioctl < IOCTL_END }
+        requires wide { IsWide M.wide (B.value store.old) }
         ensures { let s = B.value store.old in let is = ioctl_sent M.does plain side command body.now (state_in s self.old) in
             Delivers s (B.value store.new) self.old self.new told.old told.new is.state is.gone 30 }
     {
@@ -113,6 +115,7 @@ impl Streams {
         requires small { length body.now ≤ IOCTL_MAX }
         requires numbered { self.old.next_ioctl < IOCTL_END }
         requires fresh { out.old.items ≡ [] }
+        requires wide { IsWide M.wide (B.value store.old) }
         ensures answer { reply_in result out.new.items
             ≡ (ioctl_called M.does plain side command body.now (state_in (B.value store.old) self.old)).answer }
         ensures filled { answer_len result ≡ length out.new.items }

@@ -11,6 +11,7 @@ ghost use Rattle.strm_types.specs.Message.{part};
 ghost use Rattle.strm_types.specs.Names.{direction_from};
 ghost use Rattle.strm_types.specs.PutMsg.{put_blocks, put_refusal};
 ghost use Rattle.strm_laws.specs.State.{with_book};
+ghost use Rattle.strm_frame.specs.Hands.{IsWide};
 ghost use Rattle.strm_pair.specs.Parts.{longest_part};
 
 use crate::own::OwnModule;
@@ -57,6 +58,7 @@ impl Streams {
         requires allowed { put_refusal prio (option_map (λ bytes. bytes.now) control) (option_map (λ bytes. bytes.now) body) ≡ None }
         requires may { MayDeliver (B.value store.old) self.old
             (WRITE_BLOCKS + put_blocks (option_map (λ bytes. bytes.now) control) (option_map (λ bytes. bytes.now) body)) }
+        requires wide { IsWide M.wide (B.value store.old) }
         ensures answer { result ≡ Done }
         ensures delivers { let c = option_map (λ bytes. bytes.now) control.entry in let b = option_map (λ bytes. bytes.now) body.entry in
             let s = B.value store.old in let is = put_at M.does plain side prio c b (state_in s self.old) in

@@ -13,6 +13,7 @@ ghost use Rattle.strm_laws.specs.Pair.{MovesOn};
 ghost use Rattle.strm_types.specs.Service.{end_relieves, has_more};
 ghost use Rattle.strm_laws.specs.State.{stream, with_stream};
 ghost use Rattle.strm_blocks.specs.Blocks.{StoreValue};
+ghost use Rattle.strm_frame.specs.Hands.{IsWide};
 ghost use Rattle.strm_pair.specs.declared.module_turns.Begun.TheVariants.{Over};
 ghost use Rattle.strm_pair.specs.ModuleTurned.{BeginsAs};
 
@@ -133,7 +134,8 @@ impl Streams {
         name: QueueName,
         told: &mut Fates,
     ) -> Turn
-        requires { MayDeliver (B.value store.old) self.old STOP_BLOCKS }
+        requires may { MayDeliver (B.value store.old) self.old STOP_BLOCKS }
+        requires wide { IsWide M.wide (B.value store.old) }
         ensures turn { result ≡ (module_turned M.does plain name result (state_in (B.value store.old) self.old)).turn }
         ensures leads { let s = B.value store.old in let is = module_turned M.does plain name result (state_in s self.old) in
             Leads s (B.value store.new) self.new told.old told.new is.state is.gone }

@@ -170,6 +170,8 @@ impl<M: OwnModule> PutProcedure<M> for AnyModule {
 
     ghost by = { λ here m x. M.does.puts cells.plain here m x };
 
+    ghost wide = { M.wide };
+
     fn put<B: Blocks>(
         &mut self,
         queues: &mut Option<QueuePair>,

@@ -1,6 +1,6 @@
 //! Modules of a user's own, which are pushed on a side's stream beside those that are there (STREAMS Programming Guide, "Modules", "Put Procedures").
 
-ghost use Rattle.std.specs.Prelude.{ℕ, ◌≡◌, ◌<◌, ◌≤◌, false, true, length, MatchOption};
+ghost use Rattle.std.specs.Prelude.{ℕ, ◌≡◌, ◌<◌, ◌≤◌, Bool, false, true, length, MatchOption};
 ghost use Rattle.strm_types.specs.Cells.{plain};
 ghost use Rattle.strm_types.specs.Budgets.{own_at};
 ghost use Rattle.strm_types.specs.Tables.{own_does};
@@ -10,6 +10,7 @@ ghost use Rattle.strm_types.specs.Owns.{Own};
 ghost use Rattle.strm_laws.specs.Behaviours.{fresh_own, passes_all};
 ghost use Rattle.strm_laws.specs.Pushes.{is_known};
 ghost use Rattle.strm_blocks.specs.Blocks.{StoreValue, token};
+ghost use Rattle.strm_frame.specs.Hands.{IsWide};
 ghost use Rattle.strm_frame.specs.Outboxes.{message_in};
 ghost use Rattle.strm_pty.specs.Beside.{MayPass};
 ghost use Rattle.strm_pair.specs.OwnPuts.{OwnPuts};
@@ -81,9 +82,17 @@ impl Own {
 /// What modules of a user's own do, all kinds of them, by their numbers.
 ///
 /// A user says by [`Behaves`] what they do over any cells, with the laws of that: no cell is lost or doubled, and a put keeps within the table of
-/// such modules. A put takes no block: it hands the message on, with its bytes changed or not, answers an M_IOCTL in the blocks of that, or frees
-/// what it drops and tells the rule.
+/// such modules. A put takes no more blocks than it frees: it hands the message on, with its bytes changed or not, answers an M_IOCTL, or frees what it
+/// drops and tells the rule.
+///
+/// A block whose data block another message shares (dupb(9F)) is written anew: the message is freed, and another one taken with as many blocks. That
+/// data block isn't free then, and so a module that does this says that it is `wide`. A pair with such modules stands over a store that has at
+/// least as many data blocks as message blocks, where a data block is free wherever a message block is (`free_m-le-free_d` of
+/// [strm_frame](../strm_frame/proofs/WidePools.antt)).
 pub trait OwnModule: Behaves {
+    /// Whether a put may take blocks anew for those that it frees.
+    ghost wide: { Bool };
+
     /// One of a number, as it is pushed. `None` where there are none of the number (streamio(7I): I_PUSH).
     fn made(number: u8) -> Option<Own>
         ensures { MatchOption result (Self.does.knows number ≡ false)
@@ -100,6 +109,7 @@ pub trait OwnModule: Behaves {
         told: &mut Fates,
     ) -> Outbox
         requires may { MayPass (B.value store.old) (token message) here }
+        requires wide { IsWide Self.wide (B.value store.old) }
         ensures { let s = B.value store.old in let m = message_in s (token message) in
             OwnPuts s (B.value store.new) own.new (token message) (own_at own_does here m) result told.old told.new
             (Self.does.puts plain here m own.old) };
@@ -139,6 +149,8 @@ impl Behaves for NoModule {
 }
 
 impl OwnModule for NoModule {
+    ghost wide = { false };
+
     fn made(_number: u8) -> Option<Own> {
         None
     }

@@ -99,6 +99,8 @@ impl<M: OwnModule> PutProcedure<M> for Own {
 
     ghost by = { λ here m x. M.does.puts cells.plain here m x };
 
+    ghost wide = { M.wide };
+
     fn put<B: Blocks>(
         &mut self,
         _queues: &mut Option<QueuePair>,

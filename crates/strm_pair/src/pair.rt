@@ -18,6 +18,7 @@ ghost use Rattle.strm_types.specs.Queue.{bytes_of};
 ghost use Rattle.strm_laws.specs.ModuleTurns.{place_named};
 ghost use Rattle.strm_laws.specs.Restorable.{Restorable};
 ghost use Rattle.strm_laws.specs.State.{AreOrdered, book, messages_in, stream};
+ghost use Rattle.strm_frame.specs.Hands.{IsWide};
 ghost use Rattle.strm_pair.specs.Shows.{Shows, count_at, first_at, full_at, messages_at};
 ghost use Rattle.strm_pair.specs.Parts.{longest_part};
 ghost use Rattle.strm_pair.specs.Pool.{IsPoolOf};
@@ -74,17 +75,19 @@ impl<B: Blocks + Drop, M: OwnModule> Model for Pair<B, M> {
 
     ghost view = { λ p. pair_of (B.value p.store) p.streams p.journal (start_in p.base) p.limits p.fates };
 
-    ghost invariant = { λ p. IsWhole M.does (B.value p.store) p.streams p.journal p.base p.limits p.fates };
+    ghost invariant = { λ p. IsWhole M.does M.wide (B.value p.store) p.streams p.journal p.base p.limits p.fates };
 }
 
 impl<B: Blocks + Drop, M: OwnModule> Pair<B, M> {
     /// A pair which nobody opened, over a store that holds nothing: its lists are empty, and nothing is in hand. The
     /// sizes of its journal are those of `sizes`, its numbers of blocks are the store's. The memory of the journal with its base, which is
     /// [`IMAGE_FIXED`] bytes and [`IMAGE_BLOCK`] for each message block, and of the queues' bands is reserved here, and no later call takes
-    /// any to keep; where that is refused, the store comes back.
+    /// any to keep; where that is refused, the store comes back. Where the modules of a user's own are `wide`, the store has at least as many data
+    /// blocks as message blocks ([`OwnModule`]).
     pub fn new(alloc: Global, sizes: Config, store: B) -> Result<Pair<B, M>, (NoMemory, B)>
         requires lists { (B.value store).lists ≡ replicate LISTS [] }
         requires hand { (B.value store).hand ≡ [] }
+        requires wide { IsWide M.wide (B.value store) }
         ensures { MatchResult result
             (λ p. p ≡ new_pair (sizes_over (B.value store) sizes))
             (λ e. B.value e.1 ≡ B.value store) }

@@ -10,7 +10,7 @@ ghost use Rattle.strm_laws.specs.Pushes.{all_taken, below_top, may_stand, mode_b
 ghost use Rattle.strm_types.specs.Names.{driver_of, enable_if, have_queues, other};
 ghost use Rattle.strm_types.specs.Queue.{is_none_left};
 ghost use Rattle.strm_laws.specs.State.{stream};
-ghost use Rattle.strm_frame.specs.Hands.{HasRoom};
+ghost use Rattle.strm_frame.specs.Hands.{HasRoom, IsWide};
 ghost use Rattle.strm_pair.specs.Parts.{longest_part};
 ghost use Rattle.strm_pair.specs.Lists.{first_list};
 ghost use Rattle.strm_pair.specs.Stacks.{stack_owns};
@@ -178,6 +178,7 @@ impl Streams {
     )
         requires rests { AreAtRest (B.value store.old) self.old }
         requires room { HasRoom (B.value store.old) 1 }
+        requires wide { IsWide M.wide (B.value store.old) }
         ensures { let s = B.value store.old in let is = mode_put side mode (state_in s self.old) in
             Leads s (B.value store.new) self.new told.old told.new is.state is.gone }
     {
@@ -204,6 +205,7 @@ impl Streams {
     ) -> Answer<u32>
         requires rests { AreAtRest (B.value store.old) self.old }
         requires room { HasRoom (B.value store.old) 1 }
+        requires wide { IsWide M.wide (B.value store.old) }
         ensures answer { result ≡ Done }
         ensures leads { let s = B.value store.old in let is = popped side (state_in s self.old) in
             Leads s (B.value store.new) self.new told.old told.new is.state is.gone }
@@ -277,6 +279,7 @@ impl Streams {
         requires rests { AreAtRest (B.value store.old) self.old }
         requires may_stand { may_stand (named_by M.does name) (stream side (state_in (B.value store.old) self.old)).modules ≡ true }
         requires room { HasRoom (B.value store.old) 1 }
+        requires wide { IsWide M.wide (B.value store.old) }
         ensures answer { result ≡ Done }
         ensures leads { let s = B.value store.old in let is = pushed_named side (named_by M.does name) (state_in s self.old) in
             Leads s (B.value store.new) self.new told.old told.new is.state is.gone }

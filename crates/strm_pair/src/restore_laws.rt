@@ -9,6 +9,7 @@ ghost use Rattle.strm_image.specs.declared.versions.Version.TheVariants.{First, 
 ghost use Rattle.strm_image.specs.Format.{IsTextOf};
 ghost use Rattle.strm_image.specs.HasImage.{counts_of};
 ghost use Rattle.strm_image.specs.Image.{Imaged, image};
+ghost use Rattle.strm_frame.specs.Hands.{IsWide};
 ghost use Rattle.strm_pair.specs.Restored.{IsImageOf, refusal_in, restored};
 
 use crate::{OwnModule, Pair};
@@ -26,6 +27,7 @@ pub fn image_restores<B: Blocks + Drop, C: Blocks + Drop, M: OwnModule>(
 ) -> Result<Pair<C, M>, (Refusal, C)>
     requires lists { (C.value store).lists ≡ replicate LISTS [] }
     requires hand { (C.value store).hand ≡ [] }
+    requires wide { IsWide M.wide (C.value store) }
     ensures is_image { refusal_in result ≢ Some Einval }
     ensures state { IfOk result (λ p. p.state ≡ pair.now.state) }
     ensures gone { IfOk result (λ p. counts_of p.fates ≡ counts_of pair.now.fates) }
@@ -45,6 +47,7 @@ pub fn restored_has_image<B: Blocks + Drop, M: OwnModule>(
 ) -> Result<(Pair<B, M>, Vec<u8>), Refusal>
     requires lists { (B.value store).lists ≡ replicate LISTS [] }
     requires hand { (B.value store).hand ≡ [] }
+    requires wide { IsWide M.wide (B.value store) }
     ensures same { (x : Imaged) → IsTextOf image text.now (Second, x) → IfOk result (λ made. made.1.items ≡ text.now) }
 {
     let pair = match Pair::<B, M>::restore(alloc, sizes, text, store) {

@@ -6,6 +6,7 @@ ghost use Rattle.strm_types.specs.declared.limits.TheConstants.{MODULES, STOP_BL
 ghost use Rattle.strm_laws.specs.State.{stream};
 ghost use Rattle.strm_types.specs.LdtermCalls.{bytes_left};
 ghost use Rattle.strm_laws.specs.TurnCalls.{discipline_of, module_at};
+ghost use Rattle.strm_frame.specs.Hands.{IsWide};
 ghost use Rattle.strm_frame.specs.Outboxes.{sent_of};
 ghost use Rattle.strm_pair.specs.ModuleServed.{ActsAs, BookTakes, CallsAs, IsKeptAll, MayBook, MayCall, StackServes, StopsFew, TreatsAs, between, call_of, with_more};
 
@@ -135,6 +136,7 @@ impl Streams {
         requires may { MayCall (B.value store.old) self.old here again }
         requires low { here.at ≤ MODULES }
         requires books { MayBook here again (state_in (B.value store.old) self.old) }
+        requires wide { IsWide M.wide (B.value store.old) }
         ensures { CallsAs M.does (B.value store.old) (B.value store.new) self.old self.new here again result told.old told.new }
     {
         let served = self.act(store, here, again, told);
@@ -161,6 +163,7 @@ impl Streams {
         requires low { here.at ≤ MODULES }
         requires within { here.at ≤ length (stream here.side (state_in (B.value store.old) self.old)).modules }
         requires few { bytes_left here.way false (discipline_of (module_at here (state_in (B.value store.old) self.old))) ≤ 16777216 }
+        requires wide { IsWide M.wide (B.value store.old) }
         ensures treats { TreatsAs M.does here result (state_in (B.value store.old) self.old)
             (state_in (B.value store.new) self.new) told.old told.new }
         ensures few { StopsFew here result (state_in (B.value store.old) self.old) (B.value store.new) }

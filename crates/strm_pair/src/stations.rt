@@ -15,7 +15,7 @@ ghost use Rattle.strm_laws.specs.State.{stream};
 ghost use Rattle.strm_blocks.specs.Blocks.{in_hand, token};
 ghost use Rattle.strm_msg.specs.Messages.{IsChain};
 ghost use Rattle.strm_queue.specs.Stored.{FreesNone};
-ghost use Rattle.strm_frame.specs.Hands.{HasRoom, MayTake};
+ghost use Rattle.strm_frame.specs.Hands.{HasRoom, IsWide, MayTake};
 ghost use Rattle.strm_frame.specs.Outboxes.{message_in, sent_of, spot_in};
 ghost use Rattle.strm_types.specs.Reads.{is_there};
 ghost use Rattle.strm_head.specs.Heads.{down_message, sent_down};
@@ -170,6 +170,7 @@ impl Streams {
             HasRoom s (at_place (module_takes to m) 0 to.at (stream to.side (state_in s self.old)).modules) }
         requires inside { 0 < to.at }
         requires within { to.at ≤ modules_on to.side (state_in (B.value store.old) self.old) }
+        requires wide { IsWide M.wide (B.value store.old) }
         ensures streams { self.new ≡ with_end to.side (record (end_at to.side self.old) { stack = (end_at to.side self.new).stack }) self.old }
         ensures takes { StackTakes M.does (B.value store.old) (B.value store.new) (end_at to.side self.old).stack (end_at to.side self.new).stack
             (token message) to result told.old told.new }
@@ -196,6 +197,7 @@ impl Streams {
             at_place (module_packs to m) 0 to.at (stream to.side st).modules ≤ spare st }
         requires inside { 0 < to.at }
         requires within { (s : StoreValue) → to.at ≤ modules_on to.side (state_in s self.old) }
+        requires wide { IsWide M.wide (B.value store.old) }
         ensures does { let s = B.value store.old in let m = message_in s (token message) in let st = state_in s self.old in
             let ms = (stream to.side st).modules in
             PutBy s (B.value store.new) self.old self.new (token message) (at_place (module_takes to m) 0 to.at ms)
@@ -293,6 +295,7 @@ impl Streams {
         requires may { MayPut (B.value store.old) self.old (token message) }
         requires room { let s = B.value store.old in let st = state_in s self.old in
             MayTake s (spare st) (costs (stands_of st) (spot_in s to (token message))).own }
+        requires wide { IsWide M.wide (B.value store.old) }
         ensures does { let s = B.value store.old in let m = message_in s (token message) in let st = state_in s self.old in
             PutBy s (B.value store.new) self.old self.new (token message) (costs (stands_of st) (spot_in s to (token message))).own
             (sent_of result) told.old told.new (put_in M.does plain to m st) }
@@ -314,16 +317,16 @@ impl Streams {
 impl<B: Blocks, M: OwnModule> Stations<B, M> for Streams {
     ghost use Rattle.std.specs.Prelude.{ℕ};
     ghost use Rattle.strm_laws.specs.State.{State};
-    ghost use Rattle.strm_pair.specs.Pairs.{state_in, AreBeside, kept_by};
+    ghost use Rattle.strm_pair.specs.Pairs.{state_in, kept_by};
     ghost use Rattle.strm_laws.proofs.PutsWithin.{puts-costed};
-    ghost use Rattle.strm_pair.specs.Framing.{streams-frame};
+    ghost use Rattle.strm_pair.specs.StandWide.{StandOver, wide-frame};
     ghost use Rattle.strm_pair.specs.Staying.{ComesToStand, comes-on};
 
     ghost Plain = { State ℕ };
 
     ghost plain = { state_in };
 
-    ghost IsHeld = { AreBeside };
+    ghost IsHeld = { StandOver M.wide };
 
     ghost keeps = { kept_by };
 
@@ -340,7 +343,7 @@ impl<B: Blocks, M: OwnModule> Stations<B, M> for Streams {
         self.put::<B, M>(store, to, message, told)
     }
 
-    ghost frame = { streams-frame };
+    ghost frame = { wide-frame M.wide };
 
     ghost costed = { puts-costed M.does plain };
 

@@ -12,7 +12,7 @@ ghost use Rattle.strm_laws.specs.Calls.{delivers, mode_set, opened_slave, perfor
 ghost use Rattle.strm_laws.specs.Pair.{MovesOn};
 ghost use Rattle.strm_laws.specs.Turns.{turned};
 ghost use Rattle.strm_types.specs.declared.limits.TheConstants.{READ_MAX};
-ghost use Rattle.strm_frame.specs.Hands.{HasRoom};
+ghost use Rattle.strm_frame.specs.Hands.{HasRoom, IsWide};
 ghost use Rattle.strm_laws.specs.Refusals.{blocks_asked, refused_at_once, unfit};
 ghost use Rattle.strm_types.specs.Refused.{turn_blocks};
 ghost use Rattle.strm_laws.specs.Spares.{spare};
@@ -209,6 +209,7 @@ impl Streams {
         requires allowed { refused_at_once (state_in (B.value store.old) self.old) caller (request event.now) ≡ None }
         requires fits { unfit M.does (state_in (B.value store.old) self.old) caller (request event.now) ≡ None }
         requires room { HasRoom (B.value store.old) (blocks_asked (request event.now)) }
+        requires wide { IsWide M.wide (B.value store.old) }
         ensures answer { reply_in result out.new.items
             ≡ (performed M.does plain caller (request event.now) (state_in (B.value store.old) self.old)).answer }
         ensures filled { answer_len result ≡ length out.new.items }
@@ -263,7 +264,8 @@ impl Streams {
         name: QueueName,
         told: &mut Fates,
     ) -> Turn
-        requires { MayDeliver (B.value store.old) self.old (turn_blocks name.place) }
+        requires may { MayDeliver (B.value store.old) self.old (turn_blocks name.place) }
+        requires wide { IsWide M.wide (B.value store.old) }
         ensures turn { result ≡ (turned M.does plain name result (state_in (B.value store.old) self.old)).turn }
         ensures leads { let s = B.value store.old in let is = turned M.does plain name result (state_in s self.old) in
             Leads s (B.value store.new) self.new told.old told.new is.state is.gone }

@@ -12,7 +12,7 @@ ghost use Rattle.strm_laws.specs.State.{book};
 ghost use Rattle.strm_types.specs.Write.{chunk_count, chunks_of};
 ghost use Rattle.strm_laws.specs.Writes.{below_head, chunks_sent};
 ghost use Rattle.strm_blocks.specs.Blocks.{StoreValue};
-ghost use Rattle.strm_frame.specs.Hands.{HasRoom, Spends};
+ghost use Rattle.strm_frame.specs.Hands.{HasRoom, IsWide, Spends};
 
 use crate::own::OwnModule;
 use crate::streams::Streams;
@@ -53,6 +53,7 @@ impl Streams {
         requires rests { AreAtRest (B.value store.old) self.old }
         requires small { length chunk.now ≤ 256 }
         requires room { HasRoom (B.value store.old) 1 }
+        requires wide { IsWide M.wide (B.value store.old) }
         ensures delivers { let s = B.value store.old in
             let is = delivered M.does plain (below_head side) (data_message chunk.now) (state_in s self.old) in
             Delivers s (B.value store.new) self.old self.new told.old told.new is.state is.gone 0 }
@@ -79,6 +80,7 @@ impl Streams {
     ) -> usize
         requires rests { AreAtRest (B.value store.old) self.old }
         requires room { HasRoom (B.value store.old) chunks }
+        requires wide { IsWide M.wide (B.value store.old) }
         ensures taken { result
             ≡ (chunks_sent M.does plain side (chunks_of chunks bytes.now) (state_in (B.value store.old) self.old)).taken }
         ensures fits { result ≤ length bytes.now }
@@ -107,7 +109,8 @@ impl Streams {
         bytes: &[u8],
         told: &mut Fates,
     ) -> u32
-        requires { MayDeliver (B.value store.old) self.old (chunk_count (length bytes.now)) }
+        requires may { MayDeliver (B.value store.old) self.old (chunk_count (length bytes.now)) }
+        requires wide { IsWide M.wide (B.value store.old) }
         ensures answer { Count result ≡ (wrote M.does plain side bytes.now (state_in (B.value store.old) self.old)).answer }
         ensures delivers { let s = B.value store.old in let is = wrote M.does plain side bytes.now (state_in s self.old) in
             Delivers s (B.value store.new) self.old self.new told.old told.new is.state is.gone 0 }

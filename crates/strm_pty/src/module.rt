@@ -97,11 +97,13 @@ impl Module for Pckt {
 }
 
 impl PutProcedure<()> for Pckt {
-    ghost use Rattle.std.specs.Prelude.{[]};
+    ghost use Rattle.std.specs.Prelude.{false, []};
     ghost use Rattle.strm_types.specs.Cells as cells;
     ghost use Rattle.strm_types.proofs.PcktWithin.{pckt-within};
 
     ghost by = { λ here m x. record { state = x; notes = []; sent = []; gone = [] } };
+
+    ghost wide = { false };
 
     fn put<B: Blocks>(
         &mut self,
@@ -209,11 +211,13 @@ impl Module for Ptem {
 }
 
 impl PutProcedure<()> for Ptem {
-    ghost use Rattle.std.specs.Prelude.{[]};
+    ghost use Rattle.std.specs.Prelude.{false, []};
     ghost use Rattle.strm_types.specs.Ptems as plain;
     ghost use Rattle.strm_types.proofs.PtemWithin.{ptem-within};
 
     ghost by = { λ here m x. record { state = x; notes = []; sent = []; gone = [] } };
+
+    ghost wide = { false };
 
     fn put<B: Blocks>(
         &mut self,

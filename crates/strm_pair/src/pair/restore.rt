@@ -4,7 +4,7 @@ ghost use Rattle.std.specs.Prelude.{◌≡◌, ◌≢◌, ◌≤◌, ◌↔◌, 
 ghost use Rattle.strm_types.specs.declared.limits.TheConstants.{LISTS};
 ghost use Rattle.strm_types.specs.declared.refusals.Refusal.TheVariants.{Einval, Enosr, NoMemory};
 ghost use Rattle.strm_laws.specs.Refusals.{enough};
-ghost use Rattle.strm_frame.specs.Hands.{HasRoom};
+ghost use Rattle.strm_frame.specs.Hands.{HasRoom, IsWide};
 ghost use Rattle.strm_image.specs.declared.versions.Version.{Version};
 ghost use Rattle.strm_image.specs.Image.{Imaged, image};
 ghost use Rattle.strm_image.specs.ImageTexts.{imaged_now};
@@ -59,6 +59,7 @@ impl<B: Blocks + Drop, M: OwnModule> Pair<B, M> {
         requires room { HasRoom (B.value store) (image_blocks (imaged_now text.now)) }
         requires limits { limits ≡ sizes_over (B.value store) limits }
         requires reserved { IsReserved limits reserved }
+        requires wide { IsWide M.wide (B.value store) }
         ensures { result ≡ restored limits (imaged_now text.now) }
     {
         let mut store = store;
@@ -92,6 +93,7 @@ impl<B: Blocks + Drop, M: OwnModule> Pair<B, M> {
     ) -> Result<Pair<B, M>, (Refusal, B)>
         requires lists { (B.value store).lists ≡ replicate LISTS [] }
         requires hand { (B.value store).hand ≡ [] }
+        requires wide { IsWide M.wide (B.value store) }
         ensures einval { (refusal_in result ≡ Some Einval) ↔ IsNoImage M.does text.now }
         ensures enosr { (refusal_in result ≡ Some Enosr)
             ↔ ((x : Imaged) × (IsImageFor M.does text.now x × (enough (image_blocks x) (free_in (B.value store)) ≡ false))) }

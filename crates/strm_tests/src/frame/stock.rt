@@ -193,10 +193,12 @@ impl Module for Stock {
 }
 
 impl PutProcedure<()> for Stock {
-    ghost use Rattle.std.specs.Prelude.{[]};
+    ghost use Rattle.std.specs.Prelude.{false, []};
     ghost use Rattle.strm_tests.specs.ToyLaws.{stocks-within};
 
     ghost by = { λ here m x. record { state = x; notes = []; sent = []; gone = [] } };
+
+    ghost wide = { false };
 
     fn put<B: Blocks>(
         &mut self,
