@@ -21,6 +21,7 @@ pub mod Nearest
 pub mod Pairs
 pub mod PairViews
 pub mod Running
+pub mod StandWide
 pub mod Shows
 pub mod Pool
 pub mod Parts

@@ -12,6 +12,7 @@ put-sent-requires g c = record {
     inside = c.requires.inside;
     small = c.requires.small;
   };
+  wide = c.requires.wide;
 }
 
 pub returns : goal.returns

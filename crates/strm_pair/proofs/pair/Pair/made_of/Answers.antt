@@ -6,6 +6,7 @@ use Rattle.strm_pair.specs.BaseTexts.{begun_at, start_in}
 use Rattle.strm_pair.specs.Restored.{fates_in}
 use Rattle.strm_pair.proofs.BaseRows.{is-written}
 use Rattle.strm_pair.proofs.RestoredPairs.{free-of, left-free, restored-has, restored-kept, restored-room, restored-shown}
+use Rattle.strm_frame.proofs.WidePools.{wide-on}
 use Rattle.strm_pair.proofs.pair.Pair.made_of.Goals as goal
 
 pub streams_of-streams-requires-clause-good : goal.streams_of-streams-requires-clause-good
@@ -44,6 +45,7 @@ invariant_of-result g c =
       kept =
           restored-kept u c.streams_of-streams.result c.args.reserved.journal (start_in c.at-base.result) c.args.limits fates x begins made.state r.journal c.fates_of-fates.ensures K c.requires.known
           (image_base x (fates_in x) told refl) made.held m d r.events r.bytes;
+      wide = wide-on g.M.OwnModule.wide (g.B.Blocks.value c.args.store) u made.pool.mblks made.pool.dblks c.requires.wide;
       written = is-written c.at-base.result _ fates [] c.args.limits c.at-base.ensures.start c.at-base.ensures.text (omega (arith, r.base, c.at-base.ensures.memory));
     }
 

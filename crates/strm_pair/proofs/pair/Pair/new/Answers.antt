@@ -53,6 +53,7 @@ invariant_of-result g c =
     let start = fresh-start s c.new-streams.result (start_in c.at-base.result) _ _ l.mblks l.dblks blank as_new c.none-fates.ensures refl c.at-base.ensures.start in
     record {
       kept = fresh-kept g.M.Behaves.does s _ _ _ l _ start blank as_new j.empty j.most_entries j.most_bytes c.none-fates.ensures;
+      wide = c.requires.wide;
       written = is-written c.at-base.result _ _ _ l c.at-base.ensures.start c.at-base.ensures.text (omega (arith, c.in-Ok-with_capacity.ensures.capacity, c.at-base.ensures.memory));
     }
 

@@ -17,6 +17,7 @@ use Rattle.strm_pair.proofs.JournalLemmas.{room-less}
 use Rattle.strm_pair.proofs.FewBytes.{few-kept}
 use Rattle.strm_pair.proofs.Refusing.{as-performed, asked-free, free-fits, judged-allowed}
 use Rattle.strm_pair.proofs.Steps.{kept-step, led-rests, step-shown}
+use Rattle.strm_frame.proofs.WidePools.{wide-on}
 use Rattle.strm_pair.proofs.pair.Pair.perform.Goals as goal
 
 pub invariant_of-self : goal.invariant_of-self
@@ -49,6 +50,7 @@ invariant_of-self g c =
             leads = refl;
           })
           c.add_call.ensures.within leads (subst FewBooked (sym leads.state) few) added c.add_call.ensures.most_entries c.add_call.ensures.most_bytes;
+      wide = wide-on g.M.OwnModule.wide s new c.carry_out-answer.ensures.leads.pool.mblks c.carry_out-answer.ensures.leads.pool.dblks c.self.invariant.wide;
       written = c.self.invariant.written;
     }
 
@@ -119,6 +121,9 @@ carry_out-answer-requires-clause-room g c =
     let old = state_in s p.streams in
     let allowed : call_refused K (pair_of s p.streams p.journal (start_in p.base) p.limits p.fates) c.args.caller asked ≡ None = ap (λ (v : PairState). call_refused K v c.args.caller asked) c.self.view_is ∙ (judged-allowed _ (stop_of c.args.self.now.state c.args.caller asked) c.requires).0 in
     asked-free (blocks_asked asked) s (call-allowed K old (journal_of p.journal) p.limits (enough (blocks_asked asked) (free_in s)) c.args.caller asked allowed).2
+
+pub carry_out-answer-requires-clause-wide : goal.carry_out-answer-requires-clause-wide
+carry_out-answer-requires-clause-wide g c = c.self.invariant.wide
 
 pub as_slice-requires : goal.as_slice-requires
 as_slice-requires g c = search rules steps 30000

@@ -8,6 +8,7 @@ use Rattle.strm_pair.specs.PairViews.{pair_of}
 use Rattle.strm_pair.proofs.JournalLemmas.{room-less}
 use Rattle.strm_pair.proofs.Steps.{kept-step, led-rests, step-shown}
 use Rattle.strm_pair.proofs.Refusing.{asked-free, turn-free}
+use Rattle.strm_frame.proofs.WidePools.{wide-on}
 use Rattle.strm_pair.proofs.pair.Pair.turn.Goals as goal
 
 pub invariant_of-self : goal.invariant_of-self
@@ -28,6 +29,7 @@ invariant_of-self g c =
             leads = refl;
           })
           tt c.turn-turn.ensures.leads c.turn-turn.ensures.few c.add_turn.ensures.added c.add_turn.ensures.most_entries c.add_turn.ensures.most_bytes;
+      wide = wide-on g.M.OwnModule.wide s new c.turn-turn.ensures.leads.pool.mblks c.turn-turn.ensures.leads.pool.dblks c.self.invariant.wide;
       written = c.self.invariant.written;
     }
 
@@ -77,8 +79,8 @@ add_turn-requires g c =
 pub returns-clause-refused : goal.returns-clause-refused
 returns-clause-refused g c = search rules steps 1000000
 
-pub turn-turn-requires : goal.turn-turn-requires
-turn-turn-requires g c =
+pub turn-turn-requires-clause-may : goal.turn-turn-requires-clause-may
+turn-turn-requires-clause-may g c =
     let p = c.self.inside in
     let s = g.B.Blocks.value p.store in
     let old = state_in s p.streams in
@@ -89,6 +91,9 @@ turn-turn-requires g c =
       room = asked-free (turn_blocks c.args.name.place) s (turn-free old (journal_of p.journal) p.limits asked c.args.name allowed);
       range = (turn-allowed old (journal_of p.journal) p.limits asked c.args.name allowed).1;
     }
+
+pub turn-turn-requires-clause-wide : goal.turn-turn-requires-clause-wide
+turn-turn-requires-clause-wide g c = c.self.invariant.wide
 
 pub returns-clause-stops : goal.returns-clause-stops
 returns-clause-stops g c = subst (λ (v : PairState). MovesOn v.state (free_in (g.B.Blocks.value c.turn-turn.new.store)) c.args.name c.turn-turn.result) c.self.view_is c.turn-turn.ensures.stops

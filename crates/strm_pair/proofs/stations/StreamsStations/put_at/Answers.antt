@@ -3,6 +3,7 @@ use Rattle.strm_pair.proofs.Prelude.{ap, arith}
 use Rattle.strm_pair.specs.Prelude.{spare, message_in, token}
 use Rattle.strm_pair.specs.Pairs.{state_in}
 use Rattle.strm_pair.proofs.PlaceCosts.{plain-few, puts-spend}
+use Rattle.strm_frame.proofs.WidePools.{wide-on}
 use Rattle.strm_pair.proofs.stations.StreamsStations.put_at.Goals as goal
 
 pub returns-clause-puts : goal.returns-clause-puts
@@ -15,7 +16,10 @@ returns-clause-puts g c =
       state = e.state;
       sent = e.sent;
       told = e.tells;
-      held = e.beside;
+      held = record {
+        beside = e.beside;
+        wide = wide-on g.M.OwnModule.wide s (g.B.Blocks.value c.put.new.store) e.pool.mblks e.pool.dblks c.requires.held.wide;
+      };
       chains = e.chains;
       hands = e.hands;
       takes = record { blocks = e.spends; spare = omega (arith, spends, ap spare e.state) };

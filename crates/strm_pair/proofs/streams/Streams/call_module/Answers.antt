@@ -4,6 +4,7 @@ use Rattle.strm_pair.specs.Prelude.{stream, sent_of}
 use Rattle.strm_pair.specs.ModuleServed.{call_of}
 use Rattle.strm_pair.specs.Pairs.{state_in}
 use Rattle.strm_pair.proofs.ServeSteps.{calls-by, calls-may}
+use Rattle.strm_frame.proofs.WidePools.{wide-on}
 use Rattle.strm_pair.proofs.streams.Streams.call_module.Goals as goal
 
 pub deliver_all-requires-clause-may : goal.deliver_all-requires-clause-may
@@ -13,6 +14,14 @@ deliver_all-requires-clause-may g c =
     calls-may (g.B.Blocks.value c.args.store.now) (g.B.Blocks.value c.act-served.new.store) c.args.self.now c.act-served.new.self c.args.here c.args.again
     (call_of c.act-served.result) (sent_of c.act-served.result.acts.sent) c.args.told.now c.act-served.new.told c.requires.may.inside c.requires.may.begins low c.act-served.ensures c.requires.books
 
+pub deliver_all-requires-clause-held : goal.deliver_all-requires-clause-held
+deliver_all-requires-clause-held g c =
+    let e = c.act-served.ensures in
+    record {
+      beside = e.beside;
+      wide = wide-on g.M.OwnModule.wide (g.B.Blocks.value c.args.store.now) (g.B.Blocks.value c.act-served.new.store) e.pool.mblks e.pool.dblks c.requires.wide;
+    }
+
 pub returns : goal.returns
 returns g c =
     let K = g.M.Behaves.does in
@@ -21,4 +30,4 @@ returns g c =
     let low : c.args.here.at - 1 < length (stream c.args.here.side st).modules = let inside = c.requires.may.inside in let within = c.requires.may.within in omega arith in
     calls-by (g.B.Blocks.value c.args.store.now) (g.B.Blocks.value c.act-served.new.store) c.args.self.now c.act-served.new.self c.args.here c.args.again
     (call_of c.act-served.result) (sent_of c.act-served.result.acts.sent) c.args.told.now c.act-served.new.told c.requires.may.inside c.requires.may.begins low c.act-served.ensures
-    K (g.B.Blocks.value c.deliver_all.new.store) c.deliver_all.new.stations c.deliver_all.new.told c.requires.may.hand c.deliver_all.ensures.blocks d.told d.state d.held d.hands d.takes d.pool
+    K (g.B.Blocks.value c.deliver_all.new.store) c.deliver_all.new.stations c.deliver_all.new.told c.requires.may.hand c.deliver_all.ensures.blocks d.told d.state d.held.beside d.hands d.takes d.pool

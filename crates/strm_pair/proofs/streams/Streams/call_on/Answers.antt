@@ -7,6 +7,7 @@ use Rattle.strm_pair.specs.Pairs.{state_in}
 use Rattle.strm_pair.proofs.CallsOn.{Along, FewAt, GoOn, Since, along, comes-closer, few-along, first-begins, first-books, first-cost, first-went, later-went, next-books, still_to_come}
 use Rattle.strm_pair.proofs.MovingOn.{full-at}
 use Rattle.strm_pair.proofs.ServeSteps.{call-within}
+use Rattle.strm_frame.proofs.WidePools.{wide-on}
 use Rattle.strm_pair.proofs.streams.Streams.call_on.Goals as goal
 
 pub loop-call-init : goal.loop-call-init
@@ -119,3 +120,8 @@ call_module-call-requires-clause-may g c =
       hand = λ i. ap (times_in i) at_rest.held.hand ∙ sym (rests s p at_rest.held.beside at_rest.idle i);
       room = record { mblks = omega (arith, cost, room.mblks); dblks = omega (arith, cost, room.dblks) };
     }
+
+pub call_module-call-requires-in-loop-call-clause-wide : goal.call_module-call-requires-in-loop-call-clause-wide
+call_module-call-requires-in-loop-call-clause-wide g c =
+    let pool = c.loop-call.invariant.pool in
+    wide-on g.M.OwnModule.wide (g.B.Blocks.value c.args.store.now) (g.B.Blocks.value c.loop-call.store) pool.mblks pool.dblks c.requires.wide

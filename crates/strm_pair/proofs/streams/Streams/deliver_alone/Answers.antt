@@ -55,8 +55,8 @@ returns-clause-leads g c =
       state = e.state;
       tells = e.told;
       held = record {
-        hand = none-left s t i (in_hand s i) (kept_by p) (kept_by q) is.hand (rests t q e.held idle) e.hands;
-        beside = e.held;
+        hand = none-left s t i (in_hand s i) (kept_by p) (kept_by q) is.hand (rests t q e.held.beside idle) e.hands;
+        beside = e.held.beside;
       };
       pool = record { mblks = e.pool.mblks; dblks = e.pool.dblks };
     }

@@ -7,6 +7,7 @@ use Rattle.strm_msg.proofs.Bounds.{bytes-few}
 use Rattle.strm_msg.proofs.Chains.{size-shown}
 use Rattle.strm_pair.specs.Pairs.{state_in}
 use Rattle.strm_pair.proofs.TurnSteps.{ended-spare, taken-idle, taken-spare, up-few}
+use Rattle.strm_frame.proofs.WidePools.{has-room, room-is-free, wide-on}
 use Rattle.strm_pair.proofs.streams.Streams.move_across.Goals as goal
 
 pub deliver_alone-requires-clause-alone : goal.deliver_alone-requires-clause-alone
@@ -28,10 +29,17 @@ deliver_alone-requires-clause-room g c =
     let few = up-few c.other-above.result c.modules_on-at.result m in
     let e = c.in-Some.ensures.frees in
     let room = c.requires.may.room in
+    let free = room-is-free (g.B.Blocks.value c.args.store.now) 8 room in
+    let left = has-room (g.B.Blocks.value c.take_first.new.store) 8 (omega (arith, e.mblks, room.mblks)) (omega (arith, e.dblks, free)) in
     record {
-      room = record { mblks = omega (arith, few, e.mblks, room.mblks); dblks = omega (arith, few, e.dblks, room.dblks) };
+      room = record { mblks = omega (arith, few, left.mblks); dblks = omega (arith, few, left.dblks) };
       spare = omega (arith, few, range-spare old c.requires.may.range, ap spare c.in-Some.ensures.state, taken-spare c.args.side (left_with c.in-Some.ensures.rest (stream c.args.side old).driver.queue) old);
     }
+
+pub deliver_alone-requires-clause-wide : goal.deliver_alone-requires-clause-wide
+deliver_alone-requires-clause-wide g c =
+    let e = c.in-Some.ensures in
+    wide-on g.M.OwnModule.wide (g.B.Blocks.value c.args.store.now) (g.B.Blocks.value c.take_first.new.store) e.mblks e.dblks c.requires.wide
 
 -- No message has more bytes than all blocks of a store.
 pub overflow_cast-result : goal.overflow_cast-result

@@ -1,12 +1,14 @@
 -- The M_SETOPTS is alone in hand.
 use Rattle.strm_pair.proofs.Prelude.{ℕ, ◌≡◌, ◌≤◌, false, List, [], ◌∷◌, refl, ap, subst, ◌∙◌, arith, None}
 use Rattle.strm_pair.specs.Prelude.{Side, Carried, is_data_kind, mode_message, head_above, spare, most_of, State, in_hand, token, message_of}
+use Rattle.strm_pair.specs.Prelude.{StoreValue}
 use Rattle.strm_types.specs.declared.kinds.MsgKind.TheVariants.{Setopts}
 use Rattle.strm_pair.specs.Pairs.{state_in}
 use Rattle.strm_pair.specs.Effects.{Leads}
 use Rattle.strm_pair.proofs.Modes.{mode-delivered}
 use Rattle.strm_pair.proofs.InHand.{made-alone, made-leads}
 use Rattle.strm_pair.proofs.PlaceCosts.{may-by}
+use Rattle.strm_frame.proofs.WidePools.{wide-on}
 use Rattle.strm_pair.proofs.streams.Streams.put_mode.Goals as goal
 
 pub make-message-requires-clause-kind : goal.make-message-requires-clause-kind
@@ -43,3 +45,9 @@ returns g c =
     rw c.in-Some.is
     (subst (λ (o : Carried ℕ (State ℕ)). Leads s t q c.args.told.now c.deliver_alone.new.told o.state o.gone) (mode-delivered K c.args.side c.in-Some.mode (state_in s p))
     (made-leads s made p c.requires.rests i c.make-message.ensures.after K t q c.args.told.now c.deliver_alone.new.told (head_above c.args.side) (mode_message c.in-Some.mode false) shown c.deliver_alone.ensures.leads))
+
+pub deliver_alone-requires-clause-wide : goal.deliver_alone-requires-clause-wide
+deliver_alone-requires-clause-wide g c =
+    let after = c.make-message.ensures.after in
+    wide-on g.M.OwnModule.wide (g.B.Blocks.value c.args.store.now) (g.B.Blocks.value c.make-message.new.store) (ap (λ (v : StoreValue). v.mblks) after)
+    (ap (λ (v : StoreValue). v.dblks) after) c.requires.wide

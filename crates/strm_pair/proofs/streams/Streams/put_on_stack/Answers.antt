@@ -29,7 +29,10 @@ put-requires g c =
               record { apart = λ i. omega (arith, c.requires.may.can_put.apart i, kept-parts to.side p i, ap (λ (e : StreamEnd). stack_keeps e.stack i) is) },
               (
                 c.requires.may.chain,
-                subst (λ ms. HasRoom s (at_place (module_takes to (message_in s (token c.args.message))) 0 to.at ms)) same c.requires.room,
+                (
+                  subst (λ ms. HasRoom s (at_place (module_takes to (message_in s (token c.args.message))) 0 to.at ms)) same c.requires.room,
+                  c.requires.wide,
+                ),
               ),
             ),
           ),

@@ -1,12 +1,13 @@
 -- The message is alone in hand.
 use Rattle.strm_pair.proofs.Prelude.{ℕ, ◌≡◌, ◌+◌, length, List, false, refl, ap, ◌∙◌, arith, None, Some, option_map, parts-few}
 use Rattle.strm_pair.specs.Prelude.{Book, Prio, High, Band, Side, with_written, direction_from, no_parts, put_message, spare, most_of, State, book}
-use Rattle.strm_pair.specs.Prelude.{with_book, in_hand, token, message_of, part, Message, Down, Spot}
+use Rattle.strm_pair.specs.Prelude.{with_book, in_hand, token, message_of, part, Message, Down, Spot, StoreValue}
 use Rattle.std.proofs.Common.{Option, Bor}
 use Rattle.strm_pair.specs.Pairs.{state_in}
 use Rattle.strm_pair.proofs.InHand.{made-alone, made-state, made-leads, made-left}
 use Rattle.strm_pair.proofs.PlaceCosts.{may-by}
 use Rattle.strm_pair.proofs.PutBooks.{book-low, put-state, put-told, sent-written, written-spare}
+use Rattle.strm_frame.proofs.WidePools.{wide-on}
 use Rattle.strm_pair.proofs.streams.Streams.putmsg.Goals as goal
 
 -- a part's bytes
@@ -82,3 +83,9 @@ returns-clause-delivers g c =
       };
       left = omega (arith, left, ap spare booked, written-spare dir n (state_in t q));
     }
+
+pub deliver_alone-requires-clause-wide : goal.deliver_alone-requires-clause-wide
+deliver_alone-requires-clause-wide g c =
+    let after = c.in-Some.ensures.made.after in
+    wide-on g.M.OwnModule.wide (g.B.Blocks.value c.args.store.now) (g.B.Blocks.value c.make_message.new.store) (ap (λ (v : StoreValue). v.mblks) after)
+    (ap (λ (v : StoreValue). v.dblks) after) c.requires.wide

@@ -1,10 +1,12 @@
 -- The chunk is alone in hand.
 use Rattle.strm_pair.proofs.Prelude.{ℕ, ◌≡◌, List, ap, ◌∙◌, arith}
-use Rattle.strm_pair.specs.Prelude.{Side, Message, data_message, spare, most_of, below_head, in_hand, token, message_of}
+use Rattle.strm_pair.specs.Prelude.{Side, Message, data_message, spare, most_of, below_head, in_hand, token, message_of, StoreValue}
 use Rattle.strm_pair.specs.Pairs.{state_in}
 use Rattle.strm_pair.proofs.ChunkSteps.{chunk-free}
 use Rattle.strm_pair.proofs.InHand.{made-alone, made-leads, made-left}
 use Rattle.strm_pair.proofs.PlaceCosts.{may-by}
+use Rattle.strm_frame.specs.Hands.{SamePool}
+use Rattle.strm_frame.proofs.WidePools.{room-fewer, wide-on}
 use Rattle.strm_pair.proofs.streams.Streams.send_chunk.Goals as goal
 
 pub deliver_alone-requires-clause-alone : goal.deliver_alone-requires-clause-alone
@@ -27,7 +29,11 @@ pub returns-clause-spends : goal.returns-clause-spends
 returns-clause-spends g c =
     let free = free-of c.args.side c.args.chunk.now (message_of (in_hand (g.B.Blocks.value c.write-message.new.store) (token c.write-message.result))) c.write-message.ensures.shows in
     let blocks = c.deliver_alone.ensures.takes.blocks in
-    record { mblks = omega (arith, free, blocks.mblks, c.write-message.ensures.room_m); dblks = omega (arith, free, blocks.dblks, c.write-message.ensures.room_d) }
+    let sends = c.write-message.ensures in
+    let pool : SamePool (g.B.Blocks.value c.args.store.now) (g.B.Blocks.value c.write-message.new.store) =
+    record { mblks = ap (λ (v : StoreValue). v.mblks) sends.after; dblks = ap (λ (v : StoreValue). v.dblks) sends.after } in
+    let made = room-fewer _ _ pool 1 (omega (arith, sends.room_m)) (omega (arith, sends.room_d)) in
+    record { mblks = omega (arith, free, blocks.mblks, sends.room_m); dblks = omega (arith, free, blocks.dblks, made) }
 
 pub returns-clause-delivers : goal.returns-clause-delivers
 returns-clause-delivers g c =
@@ -46,3 +52,9 @@ returns-clause-delivers g c =
           made-leads s made p c.requires.rests i sends.after g.M.Behaves.does t q c.args.told.now c.deliver_alone.new.told to m sends.shows e.leads;
       left = made-left s made p c.requires.rests i sends.after t q to m 0 sends.shows (omega (arith, chunk-free c.args.side c.args.chunk.now)) e.takes;
     }
+
+pub deliver_alone-requires-clause-wide : goal.deliver_alone-requires-clause-wide
+deliver_alone-requires-clause-wide g c =
+    let after = c.write-message.ensures.after in
+    wide-on g.M.OwnModule.wide (g.B.Blocks.value c.args.store.now) (g.B.Blocks.value c.write-message.new.store) (ap (λ (v : StoreValue). v.mblks) after)
+    (ap (λ (v : StoreValue). v.dblks) after) c.requires.wide

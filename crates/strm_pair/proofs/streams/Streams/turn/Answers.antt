@@ -14,8 +14,8 @@ returns-in-Driver-clause-few g c =
     let behind = driver_turned K plain side from in
     let e = c.turn_driver.ensures in
     subst FewBooked (sym e.delivers.leads.state)
-    (turn-few plain from behind.state behind.gone c.requires.range (serves-books plain K side (stream side from).driver.queue.messages from)
-    (spare-low behind.state (omega (arith, e.delivers.left, ap spare e.delivers.leads.state, range-spare from c.requires.range))))
+    (turn-few plain from behind.state behind.gone c.requires.may.range (serves-books plain K side (stream side from).driver.queue.messages from)
+    (spare-low behind.state (omega (arith, e.delivers.left, ap spare e.delivers.leads.state, range-spare from c.requires.may.range))))
 
 -- a driver's message goes whole
 pub returns-in-Driver-clause-stops : goal.returns-in-Driver-clause-stops

@@ -45,7 +45,7 @@ returns-then-is_stopped-clause-delivers g c =
             ∙ ap (λ v. writer_waits (other side) Up (driver_place (other side) v) band v) (keeps.state s)
             ∙ ap (λ (o : TurnOutcome ℕ). o.state) (sym is);
         tells = ap (λ (o : TurnOutcome ℕ). tallied o.gone c.args.told.now) (sym is);
-        held = waits.held s (keeps.held s c.requires.rests.held);
+        held = waits.held s (keeps.held s c.requires.may.rests.held);
         pool = record { mblks = refl; dblks = refl };
       };
       left = omega (
@@ -102,7 +102,7 @@ returns-in_default-clause-delivers g c =
     let p = c.args.self.now in
     let f = c.args.told.now in
     let is = turned-none g.M.Behaves.does s p c.args.side c.end.result.now c.end.ensures.end (rw c.in_default.is at c.peek.ensures) in
-    subst (λ (o : TurnOutcome ℕ). Delivers s s p c.keep.new.self f f o.state o.gone 8) (sym is) (stays-put c.args.side true s p c.keep.new.self f c.requires.rests.held c.keep.ensures)
+    subst (λ (o : TurnOutcome ℕ). Delivers s s p c.keep.new.self f f o.state o.gone 8) (sym is) (stays-put c.args.side true s p c.keep.new.self f c.requires.may.rests.held c.keep.ensures)
 
 pub returns-then-not-is_open-clause-delivers : goal.returns-then-not-is_open-clause-delivers
 returns-then-not-is_open-clause-delivers g c =
@@ -115,4 +115,4 @@ returns-then-not-is_open-clause-delivers g c =
     let closed = sym c.is_open.ensures ∙ c.if-not-is_open.true in
     let is = turned-closed K s p c.args.side c.end.result.now c.end-across.result.now c.end.ensures.end x_is closed c.in-Some.first
     c.in-Some.ensures in
-    subst (λ (o : TurnOutcome ℕ). Delivers s s p q f f o.state o.gone 8) (sym is) (stays-put c.args.side false s p q f c.requires.rests.held c.keep-then-not-is_open.ensures)
+    subst (λ (o : TurnOutcome ℕ). Delivers s s p q f f o.state o.gone 8) (sym is) (stays-put c.args.side false s p q f c.requires.may.rests.held c.keep-then-not-is_open.ensures)

@@ -57,7 +57,7 @@ returns-in-Serves-clause-leads g c =
     let q = c.end_module_turn.new.self in
     let is = turned-by K c.args.name c.in-Serves.here on.result old (state_in s c.begin_module_turn.new.self) st c.args.told.now on.new.told c.in-Serves.ensures.begins on.ensures.treats in
     let state = c.end_module_turn.ensures.state ∙ ap (λ took. module_turn_ended c.args.name c.in-Serves.here took st) (some-taken on.result) ∙ sym (ap (λ (t : TurnOutcome ℕ). t.state) is) in
-    let idle = subst AreIdle (sym state) (module_turned-rests K plain c.args.name (Moved on.result) old c.requires.rests.idle) in
+    let idle = subst AreIdle (sym state) (module_turned-rests K plain c.args.name (Moved on.result) old c.requires.may.rests.idle) in
     record {
       state = state;
       tells = on.ensures.treats.tells ∙ sym (ap (λ (t : TurnOutcome ℕ). tallied t.gone c.args.told.now) is);
@@ -76,7 +76,7 @@ returns-in-Over-clause-few g c =
     let old = state_in s c.args.self.now in
     let is = c.in-Over.ensures.begins.1 c.in-Over.turn in
     let books = subst (λ (t : TurnOutcome ℕ). BooksMade plain old t.gone t.state) is (module-books plain K c.args.name c.in-Over.turn old) in
-    turn-few plain old (state_in s c.begin_module_turn.new.self) [] c.requires.range books (λ dir. let low = range-low dir old c.requires.range in let same = books.made dir in omega (arith, low.1, same))
+    turn-few plain old (state_in s c.begin_module_turn.new.self) [] c.requires.may.range books (λ dir. let low = range-low dir old c.requires.may.range in let same = books.made dir in omega (arith, low.1, same))
 
 pub returns-in-Serves-clause-few : goal.returns-in-Serves-clause-few
 returns-in-Serves-clause-few g c =
@@ -99,8 +99,8 @@ returns-in-Serves-clause-few g c =
     let same = same-spare st (module_turn_ended c.args.name c.in-Serves.here (not (on.result == 0)) st) ended in
     let left = ap (λ v. bytes_left c.in-Serves.here.way false (discipline_of (module_at c.in-Serves.here v))) c.in-Serves.ensures.begins.stays in
     subst FewBooked (sym shows)
-    (turn-few plain old (module_turned K plain c.args.name (Moved on.result) old).state (module_turned K plain c.args.name (Moved on.result) old).gone c.requires.range (module-books plain K c.args.name (Moved on.result) old)
-    (spare-low (module_turned K plain c.args.name (Moved on.result) old).state (omega (arith, range-spare old c.requires.range, stays, behind, same, on.ensures.treats.left, within, few, left))))
+    (turn-few plain old (module_turned K plain c.args.name (Moved on.result) old).state (module_turned K plain c.args.name (Moved on.result) old).gone c.requires.may.range (module-books plain K c.args.name (Moved on.result) old)
+    (spare-low (module_turned K plain c.args.name (Moved on.result) old).state (omega (arith, range-spare old c.requires.may.range, stays, behind, same, on.ensures.treats.left, within, few, left))))
 
 -- a byte went, where the message has one
 pub returns-in-Over-clause-stops : goal.returns-in-Over-clause-stops

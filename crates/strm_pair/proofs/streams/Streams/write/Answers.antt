@@ -17,14 +17,14 @@ with_written-book-requires g c =
     let is = ap (λ (b : Book). b.written) (c.book_of.ensures t) in
     let sent = ap (λ (v : State ℕ). (book dir v).written) c.send_chunks-taken.ensures.delivers.leads.state in
     let stays = (chunks-book plain g.M.Behaves.does c.args.side (chunks_of c.chunk_count-chunks.result c.args.bytes.now) old).written dir in
-    omega (arith, book-low c.args.side old c.requires.range, is, sent, stays, c.send_chunks-taken.ensures.fits)
+    omega (arith, book-low c.args.side old c.requires.may.range, is, sent, stays, c.send_chunks-taken.ensures.fits)
 
 -- No more is taken than a store has blocks for.
 pub overflow_cast-result : goal.overflow_cast-result
 unfolding chunk_count
 overflow_cast-result g c =
     let s = g.B.Blocks.value c.args.store.now in
-    omega (arith, c.requires.room.mblks, c.send_chunks-taken.ensures.fits, c.audit.ensures.few_mblks, free_m-is s)
+    omega (arith, c.requires.may.room.mblks, c.send_chunks-taken.ensures.fits, c.audit.ensures.few_mblks, free_m-is s)
 
 pub returns-clause-answer : goal.returns-clause-answer
 returns-clause-answer g c =
