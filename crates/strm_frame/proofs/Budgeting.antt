@@ -3,6 +3,7 @@ use Rattle.strm_frame.proofs.Prelude.{ℕ, zero, suc, ◌≡◌, ◌≤◌, ◌<
 use Rattle.strm_frame.specs.Prelude.{Costs, Within, beyond, budget, cost_of, Parcel, At, StoreValue}
 use Rattle.std.specs.Prelude.{List}
 use Rattle.strm_frame.specs.Hands.{MayDeliver, MayTake, Takes}
+use Rattle.strm_frame.proofs.WidePools.{room-left}
 
 -- A budget that isn't beyond what may be asked is what a put takes itself, with what it may send.
 pub record Parts (table : At → Costs) (hops : ℕ) (a : At) : Type 0 where
@@ -33,7 +34,7 @@ module _ (table : At → Costs) (hops : ℕ) (a : At) (s : StoreValue) (was : �
 
     pub sent-may : (t : StoreValue) (is : ℕ) → Takes s t was is (table a).own 0 → MayDeliver t is (cost_of (budget table (hops - 1)) sent)
     sent-may t is takes = record {
-      room = record { mblks = omega (arith, sent-few, may.room.mblks, takes.blocks.mblks); dblks = omega (arith, sent-few, may.room.dblks, takes.blocks.dblks) };
+      room = room-left s t (budget table hops a) (table a).own (cost_of (budget table (hops - 1)) sent) (omega (arith, sent-few)) may.room takes.blocks;
       spare = omega (arith, sent-few, may.spare, takes.spare);
       ends = omega (arith, sent-few, may.ends);
     }

@@ -11,7 +11,7 @@ use Rattle.strm_frame.specs.declared.parcels.Sent.{Sent}
 use Rattle.strm_frame.specs.Hands.{once, AreIn, CanPut, Handles, Hands, HasRoom, MayDeliver, Spends, Takes}
 use Rattle.strm_frame.specs.Outboxes.{times_sent, parcels_in, parcel_in, spot_in, AreChains}
 use Rattle.strm_frame.specs.Serves.{later_cost}
-use Rattle.strm_frame.proofs.WidePools.{room-more}
+use Rattle.strm_frame.proofs.WidePools.{frees-spends, room-on}
 
 same-name : (i : ℕ) → eqb i i ≡ true
 same-name i = grind (arith, nat_tests)
@@ -69,10 +69,7 @@ dropped-frees s i is = record {
 
 pub freed-spends : (s : StoreValue) (i : ℕ) (keeps : ℕ → ℕ) (most : ℕ) → IsStore s → CanPut s i keeps → Spends s (dropped s i) most 0
 freed-spends s i keeps most st can =
-    let frees = dropped-frees s i (can-in_hand s i keeps st can) in
-    let m = frees.mblks in
-    let d = room-more s (dropped s i) (record { mblks = refl; dblks = refl }) frees in
-    record { mblks = omega arith; dblks = omega arith }
+    frees-spends s (dropped s i) (record { mblks = refl; dblks = refl }) (dropped-frees s i (can-in_hand s i keeps st can)) most
 
 -- what was sent stands for the same, where those messages stay
 pub parcels-same : (s t : StoreValue) (sent : List Sent) → ((i : ℕ) → 0 < times_sent i sent → in_hand t i ≡ in_hand s i) → parcels_in t sent ≡ parcels_in s sent
@@ -126,9 +123,8 @@ module _ (s0 s t : StoreValue) (gone kept keeps keeps' : ℕ → ℕ) (x : Sent)
       → MayDeliver s is (cost (spot_in s x.to (token x.message)))
   next-may cost most was is may takes ends =
       let e = cost-split cost in
-      let room = may.room in
-      let spends = takes.blocks in
-      record { room = record { mblks = omega arith; dblks = omega arith }; spare = (let a = may.spare in let b = takes.spare in omega arith); ends = omega (arith, e, ends) }
+      let left = room-on s0 s most (cost_of cost (parcels_in s all)) may.room takes.blocks in
+      record { room = record { mblks = omega (arith, e, left.mblks); dblks = omega (arith, e, left.dblks) }; spare = (let a = may.spare in let b = takes.spare in omega arith); ends = omega (arith, e, ends) }
 
   module _ (carried : Hands s t (token x.message) keeps keeps' (λ _. 0)) where
     -- and then the rest is as if it alone had been sent
@@ -250,9 +246,6 @@ takes-more s0 s was is own most takes few = record {
   blocks = record { mblks = omega (arith, takes.blocks.mblks, few); dblks = omega (arith, takes.blocks.dblks, few) };
   spare = omega (arith, takes.spare, few);
 }
-
-pub room-on : (s0 s : StoreValue) (most sent : ℕ) → HasRoom s0 most → Spends s0 s most sent → HasRoom s sent
-room-on s0 s most sent room spends = record { mblks = let a = room.mblks in let b = spends.mblks in omega arith; dblks = let a = room.dblks in let b = spends.dblks in omega arith }
 
 -- the only message in hand is once there
 times-alone : (s : StoreValue) (n : ℕ) (chain : List Block) (i : ℕ) → s.hand ≡ record { name = n; chain = chain } ∷ [] → times_in i s.hand ≡ once n i

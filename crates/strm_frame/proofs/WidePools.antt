@@ -76,48 +76,41 @@ module _ (s : StoreValue) where
       by false narrow = omega arith
 
   -- what is free of both kinds may be counted on
-  pub free-le-room : (n : ℕ) → n ≤ free_m s → n ≤ free_d s → n ≤ room_d s
+  pub free-le-room : (n : ℕ) → HasRoom s n → n ≤ room_d s
   unfolding room_d
-  free-le-room n m d = by (nat_le s.mblks s.dblks)
+  free-le-room n room = by (nat_le s.mblks s.dblks)
     where
       by : (b : Bool) → n ≤ cond b (free_m s) (free_d s)
-      by true = m
-      by false = d
+      by true = room.mblks
+      by false = room.dblks
 
-  -- so many are free, where that many may be counted on
-  pub room-is-free : (n : ℕ) → HasRoom s n → n ≤ free_d s
-  room-is-free n room = let r = room.dblks in let f = room-le-free_d in omega arith
-
-  pub has-room : (n : ℕ) → n ≤ free_m s → n ≤ free_d s → HasRoom s n
-  has-room n m d = record { mblks = m; dblks = free-le-room n m d }
+  -- so many blocks of each kind are free, where that many data blocks may be counted on
+  pub room-there : (n : ℕ) → n ≤ free_m s → n ≤ room_d s → HasRoom s n
+  room-there n m d = record { mblks = m; dblks = omega (arith, d, room-le-free_d) }
 
 -- What was taken of both kinds at most was taken of those that may be counted on at most.
-module _ (s t : StoreValue) (pool : SamePool s t) where
-  pub room-takes : (later most : ℕ) → free_m s + later ≤ free_m t + most → free_d s + later ≤ free_d t + most → room_d s + later ≤ room_d t + most
+module _ (s t : StoreValue) where
+  pub spends-free : SamePool s t → (most later : ℕ) → free_m s + later ≤ free_m t + most → free_d s + later ≤ free_d t + most → Spends s t most later
   unfolding room_d
-  room-takes later most m d =
-      let same : nat_le t.mblks t.dblks ≡ nat_le s.mblks s.dblks = rw (pool.mblks, pool.dblks) refl in
-      rw same (by (nat_le s.mblks s.dblks))
+  spends-free pool most later m d = record { mblks = m; dblks = rw same (by (nat_le s.mblks s.dblks)) }
     where
+      same : nat_le t.mblks t.dblks ≡ nat_le s.mblks s.dblks
+      same = rw (pool.mblks, pool.dblks) refl
+
       by : (b : Bool) → cond b (free_m s) (free_d s) + later ≤ cond b (free_m t) (free_d t) + most
       by true = m
       by false = d
 
-  pub room-fewer : (takes : ℕ) → free_m s ≤ free_m t + takes → free_d s ≤ free_d t + takes → room_d s ≤ room_d t + takes
-  room-fewer takes m d = let r = room-takes 0 takes (omega arith) (omega arith) in omega arith
+  pub frees-spends : SamePool s t → FreesBlocks s t → (most : ℕ) → Spends s t most 0
+  frees-spends pool frees most = spends-free pool most 0 (omega (arith, frees.mblks)) (omega (arith, frees.dblks))
 
-  pub room-more : FreesBlocks s t → room_d s ≤ room_d t
-  room-more frees = let m = frees.mblks in let d = frees.dblks in let r = room-takes 0 0 (omega arith) (omega arith) in omega arith
+  -- what is left of what was free, and where later ones are counted on too
+  pub room-left : (n most left : ℕ) → left + most ≤ n → HasRoom s n → Spends s t most 0 → HasRoom t left
+  room-left n most left le room spends =
+      room-there t left (omega (arith, le, room.mblks, spends.mblks)) (omega (arith, le, free-le-room s n room, spends.dblks))
 
-  pub spends-free : (most later : ℕ) → free_m s + later ≤ free_m t + most → free_d s + later ≤ free_d t + most → Spends s t most later
-  spends-free most later m d = record { mblks = m; dblks = room-takes later most m d }
-
-  -- as many may be counted on, where as many of both kinds are free
-  pub room-same : free_m t ≡ free_m s → free_d t ≡ free_d s → room_d t ≡ room_d s
-  unfolding room_d
-  room-same m d =
-      let same : nat_le t.mblks t.dblks ≡ nat_le s.mblks s.dblks = rw (pool.mblks, pool.dblks) refl in
-      rw (same, m, d) refl
+  pub room-on : (most later : ℕ) → HasRoom s most → Spends s t most later → HasRoom t later
+  room-on most later room spends = room-there t later (omega (arith, room.mblks, spends.mblks)) (omega (arith, free-le-room s most room, spends.dblks))
 
 -- a store stays as wide as it is wanted, where it has as many blocks as before
 pub wide-on : (wanted : Bool) (s t : StoreValue) → t.mblks ≡ s.mblks → t.dblks ≡ s.dblks → IsWide wanted s → IsWide wanted t

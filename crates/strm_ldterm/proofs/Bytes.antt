@@ -14,7 +14,6 @@ use Rattle.strm_ldterm.proofs.FreeBefore.{each-more, free-next}
 use Rattle.strm_ldterm.proofs.Joining.{parcels-none, proceeds-joined}
 use Rattle.strm_ldterm.proofs.Treated.{none-under-way}
 use Rattle.strm_ldterm.proofs.Turning.{Acts, ahead-more}
-use Rattle.strm_frame.proofs.WidePools.{has-room, room-is-free, room-le-free_d}
 
 -- how far a byte is
 pub done-few : (stage : ldterms.Stage ℕ) → stages_done stage ≤ 2
@@ -58,10 +57,10 @@ pub lower : (a b : ℕ) → nat_lt a b ≡ true → a < b
 lower a b is = grind (arith, nat_tests)
 
 pub are-many : (s : StoreValue) → nat_lt (least_free s) STOP_BLOCKS ≡ false → HasRoom s STOP_BLOCKS
-are-many s is = has-room s STOP_BLOCKS (grind (arith, nat_tests)) (grind (arith, nat_tests))
+are-many s is = record { mblks = grind (arith, nat_tests); dblks = grind (arith, nat_tests) }
 
 pub not-few : (s : StoreValue) → HasRoom s STOP_BLOCKS → least_free s < STOP_BLOCKS → ⊥
-not-few s many few = let m = many.mblks in let d = room-is-free s STOP_BLOCKS many in omega (arith, m, d, few)
+not-few s many few = let m = many.mblks in let d = many.dblks in omega (arith, m, d, few)
 
 -- some were treated, or blocks would be many still
 pub some-went : (s0 s : StoreValue) (bytes left : ℕ) → (left < bytes) ⊎ (HasRoom s0 STOP_BLOCKS → HasRoom s STOP_BLOCKS) → least_free s < STOP_BLOCKS → HasRoom s0 STOP_BLOCKS → left < bytes
@@ -160,7 +159,7 @@ takes-any s0 s x0 x k notes sent t0 t is a = record {
   chains = a.chains;
   hands = a.hands;
   mblks = omega arith;
-  dblks = omega (arith, a.dblks, room-le-free_d s0);
+  dblks = omega arith;
   pool = a.pool;
 }
 

@@ -6,8 +6,7 @@ use Rattle.strm_ldterm.proofs.Prelude.{data-shown, data-all, data-control, data_
 use Rattle.strm_ldterm.proofs.Prelude.{chunk-one}
 use Rattle.strm_ldterm.specs.Prelude.{MsgKind, Message, cells_of, data_message, is_high_priority, chunk_count, Block, Held, StoreValue, times_in}
 use Rattle.strm_ldterm.specs.Prelude.{IsStore, IsInHand, block_at, in_hand, dropped, changed, extended, with_block, written, total, names_of, free_m}
-use Rattle.strm_ldterm.specs.Prelude.{free_d, room_d, bytes_of, data_bytes, MadeOf, TooFew, message_of, AreData, IsChain, once, HasRoom, SamePool}
-use Rattle.strm_ldterm.specs.Prelude.{message_in}
+use Rattle.strm_ldterm.specs.Prelude.{free_d, bytes_of, data_bytes, MadeOf, TooFew, message_of, AreData, IsChain, once, HasRoom, SamePool, message_in}
 use Rattle.strm_types.specs.declared.kinds.MsgKind.TheVariants as kinds
 use Rattle.strm_blocks.proofs.Laws.{free_d-same}
 use Rattle.strm_msg.proofs.AdjustingBytes.{bytes-append}
@@ -18,7 +17,6 @@ use Rattle.strm_ldterm.specs.Stands.{IsData, IsOrdinary}
 use Rattle.strm_ldterm.specs.Grown.{Grown, Begins}
 use Rattle.strm_ldterm.proofs.Beside.{chain-in-hand}
 use Rattle.strm_ldterm.proofs.Runs.{to_end}
-use Rattle.strm_frame.proofs.WidePools.{room-fewer, room-is-free, room-same}
 
 -- the cells of an ordinary message of data
 pub cells-data : (bytes : List ℕ) → cells_of (data_message bytes) ≡ bytes
@@ -29,21 +27,20 @@ cells-data bytes = refl
 pub never-few : (s t : StoreValue) (n : ℕ) → n ≤ 256 → HasRoom s 1 → TooFew s t (chunk_count n) → ⊥
 never-few s t n few room fails =
     let one = chunk-one n few in
-    elim fails.few [ inl m ↦ absurd (let r = room.mblks in omega arith) | inr d ↦ absurd (let r = room-is-free s 1 room in omega arith) ]
+    elim fails.few [ inl m ↦ absurd (let r = room.mblks in omega arith) | inr d ↦ absurd (let r = room.dblks in omega arith) ]
 
 -- a message of one block was made
 pub begins-one : (s t : StoreValue) (i : ℕ) (bytes : List ℕ) → length bytes ≤ 256 → MadeOf s t i kinds.Data 0 bytes → Begins s t i bytes 1
 unfolding data_message
 begins-one s t i bytes few m =
     let one = one-made s t i bytes few m in
-    let pool : SamePool s t = record { mblks = ap (λ v. v.mblks) one.is; dblks = ap (λ v. v.dblks) one.is } in
     record {
       fresh = m.made.fresh_name;
       after = one.is;
       are = record { are = record { chain = one.shows.one; kind = one.shows.kind }; band = sym (band-is (in_hand t i)) ∙ ap (λ (x : Message ℕ). x.band) one.shows.is };
       shows = one.shows.is;
       mblks = (let r = one.room_m in let e = ap free_m one.is in omega arith);
-      dblks = room-fewer s t pool 1 (omega (arith, one.room_m, ap free_m one.is)) (omega (arith, one.room_d, ap free_d one.is));
+      dblks = (let r = one.room_d in let e = ap free_d one.is in omega arith);
     }
 
 -- a chain of M_DATA blocks is a message of data
@@ -110,7 +107,7 @@ module _ (s t : StoreValue) (i : ℕ) (c : List Block) (st : IsStore s) (is : Is
   pub now-chain : in_hand t i ≡ c
   now-chain = ap (λ v. in_hand v i) after ∙ changed-chain s i c there
 
-  pub grown-by : (bytes : List ℕ) (n : ℕ) → 0 < length c → AreData c → (block_at 0 c).band ≡ (block_at 0 (in_hand s i)).band → bytes_of c ≡ bytes_of (in_hand s i) ++ bytes → free_m s ≤ free_m t + n → room_d s ≤ room_d t + n → Grown s t i bytes n
+  pub grown-by : (bytes : List ℕ) (n : ℕ) → 0 < length c → AreData c → (block_at 0 c).band ≡ (block_at 0 (in_hand s i)).band → bytes_of c ≡ bytes_of (in_hand s i) ++ bytes → free_m s ≤ free_m t + n → free_d s ≤ free_d t + n → Grown s t i bytes n
   grown-by bytes n some all band shows mblks dblks =
       let low : (block_at 0 c).band < 256 = (let l = is.chain.low in omega arith) in
       record {
@@ -123,13 +120,11 @@ module _ (s t : StoreValue) (i : ℕ) (c : List Block) (st : IsStore s) (is : Is
       }
 
 -- as many blocks are free, where chains have as many blocks and names
-same-free : (s t : StoreValue) → t.mblks ≡ s.mblks → t.dblks ≡ s.dblks → total length t ≡ total length s
-    → ((d : ℕ) → total (names_of d) t ≡ total (names_of d) s) → (free_m t ≡ free_m s) × (room_d t ≡ room_d s)
-same-free s t mblks dblks len names =
-    let m : free_m t ≡ free_m s =
-    (let a = free_m-is s in let b = free_m-is t in let u = used-is s in let v = used-is t in omega arith) in
-    let d = free_d-same s t dblks (λ d. references-is t d ∙ names d ∙ sym (references-is s d)) in
-    (m, room-same s t (record { mblks = mblks; dblks = dblks }) m d)
+same-free : (s t : StoreValue) → t.mblks ≡ s.mblks → t.dblks ≡ s.dblks → total length t ≡ total length s → ((d : ℕ) → total (names_of d) t ≡ total (names_of d) s) → (free_m t ≡ free_m s) × (free_d t ≡ free_d s)
+same-free s t mblks dblks len names = (
+  (let a = free_m-is s in let b = free_m-is t in let u = used-is s in let v = used-is t in omega arith),
+  free_d-same s t dblks (λ d. references-is t d ∙ names d ∙ sym (references-is s d)),
+)
 
 -- bytes were written into its last block
 pub grown-append : (s t : StoreValue) (i : ℕ) (bytes : List ℕ) → IsStore s → IsData s i → t ≡ changed s i (extended bytes (in_hand s i)) → Grown s t i bytes 0

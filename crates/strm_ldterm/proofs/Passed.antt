@@ -21,7 +21,6 @@ use Rattle.strm_ldterm.specs.Frames.{form-same}
 use Rattle.strm_ldterm.specs.Began.{BeganWhole, BeganWork}
 use Rattle.strm_ldterm.specs.Outgone.{BeganOutput, PassedDown, output_of}
 use Rattle.strm_ldterm.proofs.OutWhole.{goes-whole}
-use Rattle.strm_frame.proofs.WidePools.{room-more}
 
 -- what stands on an empty list
 pub none-there : (chains : List (List Block)) → plain.is_none_left chains ≡ true → map message_of chains ≡ []
@@ -145,7 +144,7 @@ module _ (s t : StoreValue) (x : Paired) (q' : Queue) (m : InHand) (held : IsHel
       others = λ j gone kept some. taken-stays s t x.write_queue q' (token m) is j some;
     };
     mblks = (let a = is.frees.mblks in omega arith);
-    dblks = (let a = room-more s t (record { mblks = is.mblks; dblks = is.dblks }) is.frees in omega arith);
+    dblks = (let a = is.frees.dblks in omega arith);
     pool = record { mblks = is.mblks; dblks = is.dblks };
   }
 
@@ -175,7 +174,7 @@ module _ (s t : StoreValue) (x : Paired) (q' : Queue) (m : InHand) (held : IsHel
       others = λ j gone kept some. taken-stays s t x.write_queue q' (token m) is j some;
     };
     mblks = (let a = is.frees.mblks in omega arith);
-    dblks = (let a = room-more s t (record { mblks = is.mblks; dblks = is.dblks }) is.frees in omega arith);
+    dblks = (let a = is.frees.dblks in omega arith);
     pool = record { mblks = is.mblks; dblks = is.dblks };
   }
 
@@ -259,7 +258,7 @@ module _ (s t : StoreValue) (x : Paired) (q' : Queue) (m : InHand) (held : IsHel
       others = λ j gone kept some. taken-stays s t x.read_queue q' (token m) is j some;
     };
     mblks = (let a = is.frees.mblks in omega arith);
-    dblks = (let a = room-more s t (record { mblks = is.mblks; dblks = is.dblks }) is.frees in omega arith);
+    dblks = (let a = is.frees.dblks in omega arith);
     pool = record { mblks = is.mblks; dblks = is.dblks };
   }
 
@@ -293,7 +292,7 @@ module _ (s t : StoreValue) (x : Paired) (q' : Queue) (m : InHand) (held : IsHel
       others = λ j gone kept some. taken-stays s t x.read_queue q' (token m) is j some;
     };
     mblks = (let a = is.frees.mblks in omega arith);
-    dblks = (let a = room-more s t (record { mblks = is.mblks; dblks = is.dblks }) is.frees in omega arith);
+    dblks = (let a = is.frees.dblks in omega arith);
     pool = record { mblks = is.mblks; dblks = is.dblks };
   }
 

@@ -16,7 +16,6 @@ use Rattle.strm_ldterm.proofs.FreeBefore.{each-more, grown-two, room-for, room-n
 use Rattle.strm_ldterm.proofs.Joining.{proceeds-joined, stays-so}
 use Rattle.strm_ldterm.proofs.Pouring.{pours-both, pours-left, pours-work}
 use Rattle.strm_ldterm.proofs.RunsDone.{left-whole}
-use Rattle.strm_frame.proofs.WidePools.{room-le-free_d}
 
 -- the column behind a stage is another one, and more has gone
 pub turned : (s t : StoreValue) (x y : Paired) (n column : ℕ) (sent : List Sent) (f f' : Fates) (gone : List (Fate ℕ)) (is : Acted ℕ (ldterms.Discipline ℕ)) → Proceeds s t x y n [] sent f f is → f' ≡ tallied gone f
@@ -176,7 +175,7 @@ module _ (s t : StoreValue) (here : Spot) (x y : Paired) (bytes left : ℕ) (f f
           chains = did.chains;
           hands = did.hands;
           mblks = omega arith;
-          dblks = omega (arith, did.dblks, room-le-free_d s);
+          dblks = omega arith;
           pool = did.pool;
         });
       }

@@ -8,7 +8,6 @@ use Rattle.strm_frame.proofs.Handing.{parcels-same, chains-same}
 use Rattle.strm_ldterm.specs.declared.ldterm.Stage.{Stage}
 use Rattle.strm_ldterm.specs.Stands.{ldterm_in, stage_in, keeps, Paired}
 use Rattle.strm_ldterm.specs.Does.{Alters, Proceeds}
-use Rattle.strm_frame.proofs.WidePools.{room-more}
 
 tallied-joined : (a b : List (Fate ℕ)) (f : Fates) → tallied (a ++ b) f ≡ tallied b (tallied a f)
 tallied-joined [] b f = refl
@@ -42,7 +41,7 @@ proceeds-alters s t x y f p alters is = record {
   chains = tt;
   hands = record { counts = λ i. let c = alters.hands.counts i in omega arith; others = λ i gone kept some. alters.hands.others i gone kept some };
   mblks = (let m = alters.frees.mblks in omega arith);
-  dblks = (let d = room-more s t alters.pool alters.frees in omega arith);
+  dblks = (let m = alters.frees.dblks in omega arith);
   pool = alters.pool;
 }
 

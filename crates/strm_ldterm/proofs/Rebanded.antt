@@ -4,8 +4,7 @@ use Rattle.strm_ldterm.proofs.Prelude.{None, Some, sum_by-cons, total-changed, u
 use Rattle.strm_ldterm.proofs.Prelude.{in_hand-changed_other, data_in-cells, data-control, times-replaced, once-apart, one-parts, one-chains}
 use Rattle.strm_ldterm.specs.Prelude.{Way, Down, Fates, Spot, toward, onward, sends, Message, cells_of, is_high_priority, with_given, Block}
 use Rattle.strm_ldterm.specs.Prelude.{StoreValue, IsInHand, in_hand, list_at, block_at, changed, banded, names_of, token, InHand, bytes_of}
-use Rattle.strm_ldterm.specs.Prelude.{message_of, IsChain, Sent, once, AreIn, CanPut, SamePool, Shifts, message_in, times_sent, FreesNone}
-use Rattle.strm_blocks.specs.Blocks.{free_m, references}
+use Rattle.strm_ldterm.specs.Prelude.{message_of, IsChain, Sent, once, AreIn, CanPut, Shifts, message_in, times_sent, FreesNone}
 use Rattle.strm_types.specs.declared.kinds.MsgKind.TheVariants as kinds
 use Rattle.strm_ldterm.specs.Becoming.{Becomes}
 use Rattle.strm_ldterm.specs.Does.{Proceeds}
@@ -15,7 +14,6 @@ use Rattle.strm_ldterm.specs.Stands.{IsData, IsHeld, cells_kept, kept_in, keeps,
 use Rattle.strm_ldterm.proofs.Finished.{gathered-held, gathered-splits, work-held, work-splits}
 use Rattle.strm_ldterm.proofs.Passed.{stays}
 use Rattle.strm_ldterm.proofs.Skipped.{shown-bytes}
-use Rattle.strm_frame.proofs.WidePools.{room-fewer}
 
 -- a chain of another band
 record Rebanded (chain : List Block) (band : ℕ) : Type 0 where
@@ -62,25 +60,20 @@ module _ (s t : StoreValue) (i band : ℕ) (is : IsInHand s i) (msg : IsData s i
   abbrev to : StoreValue
   to = changed s i new
 
-  same-used : free_m to ≡ free_m s
-  same-used = omega (arith, total-changed length s i new is, is-new.same, free_m-is s, free_m-is to, used-is s, used-is to)
-
-  same-names : (d : ℕ) → references to d ≡ references s d
-  same-names d = omega (arith, total-changed (names_of d) s i new is, is-new.names d, references-is s d, references-is to d)
-
   shifts : Shifts s to (once i) (once i) 0
-  shifts =
-      let pool : SamePool s to = record { mblks = refl; dblks = refl } in
-      record {
-        counts = λ k. let r = times-replaced i k new s.hand in omega arith;
-        others = λ k none some. in_hand-changed_other s i k new (once-apart i k none);
-        mblks = omega (arith, same-used);
-        dblks = room-fewer s to pool 0 (omega (arith, same-used)) (omega (arith, free_d-more s to refl (λ d. omega (arith, same-names d))));
-        pool = pool;
-      }
+  shifts = record {
+    counts = λ k. let r = times-replaced i k new s.hand in omega arith;
+    others = λ k none some. in_hand-changed_other s i k new (once-apart i k none);
+    mblks = (let a = total-changed length s i new is in let l = is-new.same in let c = free_m-is s in let d = free_m-is to in let e = used-is s in let f = used-is to in omega arith);
+    dblks = (let m = free_d-more s to refl (λ d. let a = total-changed (names_of d) s i new is in let n = is-new.names d in let e = references-is s d in let f = references-is to d in omega arith) in omega arith);
+    pool = record { mblks = refl; dblks = refl };
+  }
 
   none : FreesNone s to
-  none = (omega (arith, same-used), free_d-more to s refl (λ d. omega (arith, same-names d)))
+  none = (
+    (let a = total-changed length s i new is in let l = is-new.same in let c = free_m-is s in let d = free_m-is to in let e = used-is s in let f = used-is to in omega arith),
+    free_d-more to s refl (λ d. let a = total-changed (names_of d) s i new is in let n = is-new.names d in let e = references-is s d in let f = references-is to d in omega arith),
+  )
 
   pub reband-becomes : Becomes s t i i (data_of band (cells_of (message_in s i)))
   reband-becomes = record {

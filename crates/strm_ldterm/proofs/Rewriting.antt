@@ -13,7 +13,6 @@ use Rattle.strm_ldterm.specs.Stands.{EndsPlain, IsOrdinary}
 use Rattle.strm_ldterm.proofs.EchoStands.{grown-last}
 use Rattle.strm_ldterm.proofs.Grows.{begins-lists, begins-others, begins-pool, begins-times, grown-is, grown-lists, grown-others, grown-pool, grown-times}
 use Rattle.strm_ldterm.proofs.Last.{data-first, data-rank, zero-last}
-use Rattle.strm_frame.proofs.WidePools.{room-more}
 
 -- the last of a list
 abbrev last_or : {A : Type 0} → A → List A → A
@@ -51,10 +50,7 @@ module _ (s v : StoreValue) (q q1 : Queue) (i : ℕ) (taken : TakenLast s v q q1
       }
 
   pub taken-room : (n : ℕ) → HasRoom s n → HasRoom v n
-  taken-room n room = record {
-    mblks = (let a = taken.frees.mblks in let r = room.mblks in omega arith);
-    dblks = (let a = room-more s v (record { mblks = taken.mblks; dblks = taken.dblks }) taken.frees in let r = room.dblks in omega arith);
-  }
+  taken-room n room = record { mblks = (let a = taken.frees.mblks in let r = room.mblks in omega arith); dblks = (let a = taken.frees.dblks in let r = room.dblks in omega arith) }
 
 -- A message that came in hand is put on a queue, and what was in hand is as it was.
 rewritten : (s u t : StoreValue) (q q1 q' : Queue) (e n : ℕ) → IsStore u → Shifts s u (λ _. 0) (once e) n → ((k : ℕ) → k ≢ q.list → list_at u k ≡ list_at s k) → q1.list ≡ q.list
@@ -93,7 +89,7 @@ module _ (s v u : StoreValue) (q q1 : Queue) (i n : ℕ) (bytes : List ℕ) (tak
             grown-others v u i n bytes is j (taken-apart j some)
             ∙ (ap (λ h. chain_in j h) taken.hand ∙ in_hand-held_other s i j (in_hand v i) (taken-apart j some));
         mblks = (let a = taken.frees.mblks in let b = is.mblks in omega arith);
-        dblks = (let a = room-more s v (record { mblks = taken.mblks; dblks = taken.dblks }) taken.frees in let b = is.dblks in omega arith);
+        dblks = (let a = taken.frees.dblks in let b = is.dblks in omega arith);
         pool = record { mblks = pool.mblks ∙ taken.mblks; dblks = pool.dblks ∙ taken.dblks };
       }
 

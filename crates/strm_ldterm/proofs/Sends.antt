@@ -5,7 +5,7 @@ use Rattle.strm_ldterm.proofs.Prelude.{stays-chain, held-changed, chunk-one, onc
 use Rattle.strm_ldterm.specs.Prelude.{MsgKind, Data, Dir, Up, Fates, Note, Spot, plain, Acted, Fate, Parcel, tallied, is_data_kind, Message}
 use Rattle.strm_ldterm.specs.Prelude.{data_message, direction_at, told_more, bare, lost, chunk_count, Block, Held, StoreValue, IsStore, IsInHand}
 use Rattle.strm_ldterm.specs.Prelude.{IsFreshName, in_hand, list_at, held, changed, times_in, free_m, free_d, written, extended, token, bytes_of}
-use Rattle.strm_ldterm.specs.Prelude.{data_bytes, MadeOf, TooFew, message_of, IsChain, Sent, once, AreIn, SameOwn, SamePool, HasRoom, times_sent}
+use Rattle.strm_ldterm.specs.Prelude.{data_bytes, MadeOf, TooFew, message_of, IsChain, Sent, once, AreIn, SameOwn, HasRoom, times_sent}
 use Rattle.std.specs.Prelude.{min}
 use Rattle.strm_types.specs.declared.kinds.MsgKind.TheVariants.{Stop}
 use Rattle.strm_types.specs.declared.rules.Rule.{Rule}
@@ -22,17 +22,15 @@ use Rattle.strm_ldterm.specs.Stands.{ldterm_in, owns, keeps, IsHeld, Paired}
 use Rattle.strm_ldterm.specs.Does.{Proceeds}
 use Rattle.strm_ldterm.specs.Frames.{ldterm-frame}
 use Rattle.strm_ldterm.specs.Sending.{MadeOne}
-use Rattle.strm_frame.proofs.WidePools.{room-fewer, room-is-free}
 
 -- there is room for one block
 pub never-few : (s t : StoreValue) (n : ℕ) → n ≤ 256 → HasRoom s 1 → TooFew s t (chunk_count n) → ⊥
 never-few s t n few room fails =
     let one = chunk-one n few in
-    elim fails.few [ inl m ↦ absurd (let r = room.mblks in omega arith) | inr d ↦ absurd (let r = room-is-free s 1 room in omega arith) ]
+    elim fails.few [ inl m ↦ absurd (let r = room.mblks in omega arith) | inr d ↦ absurd (let r = room.dblks in omega arith) ]
 
 pub never-none : (s t : StoreValue) → HasRoom s 1 → NoneFree s t → ⊥
-never-none s t room fails =
-    elim fails.none [ inl m ↦ absurd (let r = room.mblks in omega arith) | inr d ↦ absurd (let r = room-is-free s 1 room in omega arith) ]
+never-none s t room fails = elim fails.none [ inl m ↦ absurd (let r = room.mblks in omega arith) | inr d ↦ absurd (let r = room.dblks in omega arith) ]
 
 pub made-bare : (s t : StoreValue) (i : ℕ) (kind : MsgKind) (bytes : List ℕ) → is_data_kind kind ≡ false → length bytes ≤ 256 → MadeOf s t i kind 0 bytes → MadeOne s t i (bare kind bytes)
 made-bare s t i kind bytes none few m =
@@ -131,7 +129,6 @@ sends-made s t x y z sent f f' m to is holds kept own keep made one place state 
     let i = token z.message in
     let same = made-same s t y i m made kept in
     let framed = ldterm-frame s t y same holds in
-    let pool : SamePool s t = record { mblks = same.mblks; dblks = same.dblks } in
     record {
       state = framed.0 ∙ state;
       noted = notes;
@@ -152,8 +149,8 @@ sends-made s t x y z sent f f' m to is holds kept own keep made one place state 
         others = λ j gone none some. made-stays s t y i m made j some;
       };
       mblks = (let r = made.room_m in omega arith);
-      dblks = room-fewer s t pool 1 (omega (arith, made.room_m)) (omega (arith, made.room_d));
-      pool = pool;
+      dblks = (let r = made.room_d in omega arith);
+      pool = record { mblks = same.mblks; dblks = same.dblks };
     }
 
 -- It has changed, and nothing is sent.

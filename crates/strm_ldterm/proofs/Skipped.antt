@@ -6,7 +6,7 @@ use Rattle.strm_ldterm.proofs.Prelude.{in_hand-changed_other, data_in, data-show
 use Rattle.strm_ldterm.proofs.Prelude.{times-replaced, once-self, once-apart}
 use Rattle.strm_ldterm.specs.Prelude.{left_of, Message, cells_of, is_high_priority, Block, Held, StoreValue, IsStore, IsFreshName, IsInHand, in_hand}
 use Rattle.strm_ldterm.specs.Prelude.{block_at, held, dropped, changed, banded, with_block, times_in, names_of, bytes_of, message_of, IsChain}
-use Rattle.strm_ldterm.specs.Prelude.{AreData, once, CanPut, SamePool, Shifts, free_m, message_in}
+use Rattle.strm_ldterm.specs.Prelude.{AreData, once, CanPut, Shifts, message_in}
 use Rattle.std.proofs.Math.Seq.{drop-append_seam}
 use Rattle.strm_types.specs.declared.kinds.MsgKind.TheVariants as kinds
 use Rattle.strm_blocks.specs.Blocks.{trimmed_head, without}
@@ -17,7 +17,6 @@ use Rattle.strm_msg.proofs.InHand.{fresh-dropped}
 use Rattle.strm_frame.proofs.Handing.{freed-hands}
 use Rattle.strm_ldterm.specs.Becoming.{Becomes, IsFronted}
 use Rattle.strm_ldterm.specs.Stands.{IsData}
-use Rattle.strm_frame.proofs.WidePools.{room-fewer}
 
 -- a fresh name is none in hand
 fresh-apart : (s : StoreValue) (i j : ℕ) → IsInHand s i → IsFreshName s j → i ≢ j
@@ -120,18 +119,13 @@ module _ (s : StoreValue) (i j : ℕ) (st : IsStore s) (is : IsInHand s i) (fres
   swapped =
       let t = held (dropped s i) j new in
       let h = freed-hands s i (λ _. 0) st (can-of s i is) in
-      let pool : SamePool s t = record { mblks = refl; dblks = refl } in
-      let m : free_m s ≤ free_m t =
-      omega (arith, total-held length (dropped s i) j new, total-dropped length s i is, free_m-is s, free_m-is t, used-is s, used-is t, fewer) in
-      let d = free_d-more s t refl (λ d.
-      omega (arith, total-held (names_of d) (dropped s i) j new, total-dropped (names_of d) s i is, names d, references-is s d, references-is t d)) in
       record {
         counts = λ k. let c = h.counts k in let n = times-came (dropped s i) j new k in omega arith;
         others = λ k none some.
             stays-chain (dropped s i) j new k (λ e. (let w = ap (λ n. times_in n s.hand) e in absurd (omega arith))) ∙ h.others k none refl some;
-        mblks = omega (arith, m);
-        dblks = room-fewer s t pool 0 (omega (arith, m)) (omega (arith, d));
-        pool = pool;
+        mblks = (let a = total-held length (dropped s i) j new in let b = total-dropped length s i is in let c = free_m-is s in let d = free_m-is t in let e = used-is s in let f = used-is t in omega arith);
+        dblks = (let m = free_d-more s t refl (λ d. let a = total-held (names_of d) (dropped s i) j new in let b = total-dropped (names_of d) s i is in let n = names d in let e = references-is s d in let f = references-is t d in omega arith) in omega arith);
+        pool = record { mblks = refl; dblks = refl };
       }
 
 module _ (s t : StoreValue) (i j : ℕ) (st : IsStore s) (is : IsInHand s i) (msg : IsData s i) (fresh : IsFreshName s j) (more : 1 < length (in_hand s i)) (none : length (block_at 0 (in_hand s i)).bytes ≡ 0)
@@ -271,16 +265,12 @@ module _ (s t : StoreValue) (i n : ℕ) (is : IsInHand s i) (msg : IsData s i) (
   trimmed : Shifts s (changed s i left) (once i) (once i) 0
   trimmed =
       let t = changed s i left in
-      let pool : SamePool s t = record { mblks = refl; dblks = refl } in
-      let m : free_m s ≤ free_m t =
-      omega (arith, total-changed length s i left is, less.same, free_m-is s, free_m-is t, used-is s, used-is t) in
-      let d = free_d-more s t refl (λ d. omega (arith, total-changed (names_of d) s i left is, less.names d, references-is s d, references-is t d)) in
       record {
         counts = λ k. let r = times-replaced i k left s.hand in omega arith;
         others = λ k none some. in_hand-changed_other s i k left (once-apart i k none);
-        mblks = omega (arith, m);
-        dblks = room-fewer s t pool 0 (omega (arith, m)) (omega (arith, d));
-        pool = pool;
+        mblks = (let a = total-changed length s i left is in let l = less.same in let c = free_m-is s in let d = free_m-is t in let e = used-is s in let f = used-is t in omega arith);
+        dblks = (let m = free_d-more s t refl (λ d. let a = total-changed (names_of d) s i left is in let n = less.names d in let e = references-is s d in let f = references-is t d in omega arith) in omega arith);
+        pool = record { mblks = refl; dblks = refl };
       }
 
   pub front-becomes : Becomes s t i i (left_of (drop (length front) (cells_of (message_in s i))) (message_in s i))

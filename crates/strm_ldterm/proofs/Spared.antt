@@ -4,7 +4,7 @@ use Rattle.strm_ldterm.proofs.Prelude.{false≢true, ◌&&◌, not, Option, None
 use Rattle.strm_ldterm.specs.Prelude.{MsgKind, Way, Up, Down, Spot, plain, cost_of, most, Parcel, toward, onward, input_begins, is_data, passes}
 use Rattle.strm_ldterm.specs.Prelude.{stages_done, to_treat, treats, ldterm_serves, Answered, Begun, Between, Discipline, Stage, by_itself, Message}
 use Rattle.strm_ldterm.specs.Prelude.{cells_of, posts, output_dir, output_serves, posted, unchanged, with_given, is_none_left, left_with, Serving}
-use Rattle.strm_ldterm.specs.Prelude.{opost, shape_of, StoreValue, HasRoom}
+use Rattle.strm_ldterm.specs.Prelude.{opost, shape_of, StoreValue, FreesBlocks, HasRoom}
 use Rattle.std.specs.Prelude.{length, take}
 use Rattle.strm_types.specs.declared.kinds.MsgKind.TheVariants as kinds
 use Rattle.strm_types.specs.Budgets.{most_on}
@@ -15,7 +15,6 @@ use Rattle.strm_ldterm.specs.Turns.{leaves, needs}
 use Rattle.strm_ldterm.proofs.OutWhole.{goes-whole}
 use Rattle.strm_ldterm.proofs.Spending.{Leaves, stages-spare}
 use Rattle.strm_ldterm.proofs.Turned.{again-serves, down-serves, first-serves}
-use Rattle.strm_frame.specs.Hands.{Spends}
 
 -- what goes up at the end of a turn may become a packet
 abbrev at_end : Way → ℕ
@@ -159,9 +158,8 @@ module _ (here : Spot) where
       same-cost : cost_of most sent ≡ cost_of most call.acted.sent
       same-cost = ap (cost_of most) parcels
 
-      passed-room : (whole : passes_whole here.way again p ≡ true) → HasRoom old (turn_cost here again (by_itself p)) → Spends old new 0 0
-          → HasRoom new (later_cost more (turn_cost here true (by_itself q)) sent)
-      passed-room whole room spends =
+      passed-room : (whole : passes_whole here.way again p ≡ true) → HasRoom old (turn_cost here again (by_itself p)) → FreesBlocks old new → HasRoom new (later_cost more (turn_cost here true (by_itself q)) sent)
+      passed-room whole room frees =
           let passes = serves-pass here.way again refl refl whole in
           let counts = whole-counts here.way again whole in
           let ends : more ≡ false = calls ∙ passes.over in
@@ -169,8 +167,8 @@ module _ (here : Spot) where
           let same = same-cost in
           let takes : later_cost more (turn_cost here true (by_itself q)) sent ≡ cost_of most sent + 0 = ap (λ v. cost_of most sent + cond {A = ℕ} v (turn_cost here true (by_itself q)) 0) ends in
           record {
-            mblks = (let r = room.mblks in let f = spends.mblks in omega (arith, counts, few, same, takes, r, f));
-            dblks = (let r = room.dblks in let f = spends.dblks in omega (arith, counts, few, same, takes, r, f));
+            mblks = (let r = room.mblks in let f = frees.mblks in omega (arith, counts, few, same, takes, r, f));
+            dblks = (let r = room.dblks in let f = frees.dblks in omega (arith, counts, few, same, takes, r, f));
           }
 
       treated-room : (whole : passes_whole here.way again p ≡ false) → (here.way ≡ Up → again ≡ true → is_some p.in_work ≡ true) → (more ≡ true → HasRoom new (leaves q.stage)) → (here.way ≡ Up → HasRoom new 1) → HasRoom new (later_cost more (turn_cost here true (by_itself q)) sent)
@@ -201,11 +199,10 @@ module _ (here : Spot) where
               let room = last-room here.way refl in
               record { mblks = (let r = room.mblks in omega (arith, most, same, r)); dblks = (let r = room.dblks in omega (arith, most, same, r)) }
 
-      pub call-room : (here.way ≡ Up → again ≡ true → is_some p.in_work ≡ true) → HasRoom old (turn_cost here again (by_itself p))
-          → (passes_whole here.way again p ≡ true → Spends old new 0 0)
+      pub call-room : (here.way ≡ Up → again ≡ true → is_some p.in_work ≡ true) → HasRoom old (turn_cost here again (by_itself p)) → (passes_whole here.way again p ≡ true → FreesBlocks old new)
           → (more ≡ true → HasRoom new (leaves q.stage)) → (here.way ≡ Up → HasRoom new 1) → HasRoom new (later_cost more (turn_cost here true (by_itself q)) sent)
-      call-room work room spends behind at_last = at (passes_whole here.way again p) refl
+      call-room work room frees behind at_last = at (passes_whole here.way again p) refl
         where
           at : (whole : Bool) → passes_whole here.way again p ≡ whole → HasRoom new (later_cost more (turn_cost here true (by_itself q)) sent)
-          at true whole = passed-room whole room (spends whole)
+          at true whole = passed-room whole room (frees whole)
           at false whole = treated-room whole work behind at_last

@@ -15,11 +15,11 @@ use Rattle.strm_types.specs.Termios.{tostop}
 use Rattle.strm_ldterm.specs.Stands.{ldterm_in, keeps, IsHeld, Paired}
 use Rattle.strm_ldterm.specs.Does.{Does, Flushes, Proceeds, Puts}
 use Rattle.strm_ldterm.specs.TakingUp.{flush_takes, line_takes, termios_set}
+use Rattle.strm_frame.proofs.WidePools.{frees-spends, spends-free}
 use Rattle.strm_ldterm.proofs.Joining.{with-notes}
 use Rattle.strm_ldterm.proofs.Passing.{read-sends}
 use Rattle.strm_ldterm.proofs.Proceeding.{chains-joined, parcels-joined, proceeds-both, times-joined}
 use Rattle.strm_ldterm.proofs.Sends.{sends-none, times-one}
-use Rattle.strm_frame.proofs.WidePools.{room-more}
 
 pub can-kept : (s : StoreValue) (x : Paired) (i : ℕ) → CanPut s i (keeps x) → AreIn s (λ _. 0) (keeps x)
 can-kept s x i can = record { apart = λ j. let a = can.apart j in omega arith }
@@ -36,7 +36,7 @@ does-puts s t x x' i most acts f f' is did = record {
   own = did.own;
   chains = did.chains;
   hands = did.hands;
-  spends = (let r = did.frees.mblks in let d = room-more _ _ did.pool did.frees in record { mblks = omega arith; dblks = omega arith });
+  spends = frees-spends s t did.pool did.frees most;
   pool = did.pool;
 }
 
@@ -53,7 +53,7 @@ flushes-proceeds s t x y notes f f' a did none = record {
   chains = tt;
   hands = record { counts = λ i. let c = did.alters.hands.counts i in omega arith; others = λ i gone kept some. did.alters.hands.others i gone kept some };
   mblks = (let m = did.alters.frees.mblks in omega arith);
-  dblks = (let d = room-more s t did.alters.pool did.alters.frees in omega arith);
+  dblks = (let m = did.alters.frees.dblks in omega arith);
   pool = did.alters.pool;
 }
 
@@ -97,7 +97,7 @@ puts-behind s u x z last here takes most notes sent acts f f' a all st can chain
             omega arith;
         others = λ j gone kept some. did.hands.others j refl kept some;
       };
-      spends = record { mblks = (let r = did.mblks in omega arith); dblks = (let r = did.dblks in omega arith) };
+      spends = spends-free s u did.pool most 0 (omega (arith, did.mblks, few)) (omega (arith, did.dblks, few));
       pool = did.pool;
     }
 

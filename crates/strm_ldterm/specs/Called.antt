@@ -1,12 +1,11 @@
 -- What a call of the service procedure of the read queue did.
 use Rattle.std.specs.Prelude.{ℕ, ◌≡◌, ◌<◌, ◌≤◌, ◌+◌, ◌-◌, ◌*◌, Bool, true, false, if◌then◌else◌, [], ◌∷◌, List, Option, Some, unwrap_or}
 use Rattle.strm_ldterm.specs.Prelude.{STOP_BLOCKS, Way, Up, Down, Fates, Note, Spot, plain, Acted, stages_done, to_treat, treats, ldterm_serves}
-use Rattle.strm_ldterm.specs.Prelude.{Message, is_none_left, left_with, Serving, Ends, StoreValue, Sent, Served, HasRoom, sent_of}
+use Rattle.strm_ldterm.specs.Prelude.{Message, is_none_left, left_with, Serving, Ends, StoreValue, FreesBlocks, Sent, Served, HasRoom, sent_of}
 use Rattle.strm_ldterm.specs.Prelude.{least_free, stop_of}
 use Rattle.strm_types.specs.Ldterms as ldterms
 use Rattle.strm_ldterm.specs.declared.service_calls.Run.{Run}
 use Rattle.strm_ldterm.specs.declared.service_calls.Run.TheVariants as run
-use Rattle.strm_frame.specs.Hands.{Spends}
 use Rattle.strm_ldterm.specs.Bounds.{passes_whole}
 use Rattle.strm_ldterm.specs.Does.{Proceeds}
 use Rattle.strm_ldterm.specs.FreeBefore.{IsFreeBefore, all_free}
@@ -100,4 +99,4 @@ module _ (old new : StoreValue) (here : Spot) (x x' : Paired) where
     pub some : served.stopped ≡ true → HasRoom old STOP_BLOCKS → 0 < served.bytes
     pub room : served.again ≡ true → HasRoom new (leaves (stage_in x'.stage))
     pub over : here.way ≡ Up → HasRoom new 1
-    pub whole : passes_whole here.way again (ldterm_in old x) ≡ true → Spends old new 0 0
+    pub whole : passes_whole here.way again (ldterm_in old x) ≡ true → FreesBlocks old new

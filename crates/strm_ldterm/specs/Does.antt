@@ -1,6 +1,6 @@
 -- What a put at the module ldterm, or a stage of its turn, did to a store, the module beside it and what has gone.
 use Rattle.std.specs.Prelude.{ℕ, ◌≡◌, ◌≤◌, ◌+◌, List}
-use Rattle.strm_ldterm.specs.Prelude.{Fates, Note, Acted, tallied, StoreValue, free_m, room_d, FreesBlocks, Acts, Sent, Hands, OnlyOwn, SamePool}
+use Rattle.strm_ldterm.specs.Prelude.{Fates, Note, Acted, tallied, StoreValue, free_m, free_d, FreesBlocks, Acts, Sent, Hands, OnlyOwn, SamePool}
 use Rattle.strm_ldterm.specs.Prelude.{sent_of, times_sent, parcels_in, AreChains}
 use Rattle.strm_types.specs.Ldterms as plain
 use Rattle.strm_frame.specs.Hands.{Handles, Spends}
@@ -60,5 +60,5 @@ pub record Proceeds (old new : StoreValue) (x x' : Paired) (takes : ℕ) (notes 
   pub chains : AreChains new sent
   pub hands : Handles old new (λ _. 0) (keeps x) (keeps x') (λ i. times_sent i sent)
   pub mblks : free_m old ≤ free_m new + takes
-  pub dblks : room_d old ≤ room_d new + takes
+  pub dblks : free_d old ≤ free_d new + takes
   pub pool : SamePool old new

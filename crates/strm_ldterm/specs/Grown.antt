@@ -1,7 +1,7 @@
 -- What becomes of a message of data in hand to which bytes are added, and what is made of bytes.
 use Rattle.std.specs.Prelude.{ℕ, ◌≡◌, ◌≢◌, ◌≤◌, ◌+◌, List, ◌++◌}
 use Rattle.strm_ldterm.specs.Prelude.{Spot, plain, cells_of, data_message, grown, StoreValue, IsFreshName, in_hand, block_at, changed, held, free_m}
-use Rattle.strm_ldterm.specs.Prelude.{room_d, list_at, Queue, queue_in, messages_on, IsReady, Shifts, message_in}
+use Rattle.strm_ldterm.specs.Prelude.{free_d, list_at, Queue, queue_in, messages_on, IsReady, Shifts, message_in}
 use Rattle.strm_types.specs.Queue.{put_on}
 use Rattle.strm_ldterm.specs.Stands.{EndsPlain, IsData, IsOrdinary}
 
@@ -13,7 +13,7 @@ pub record Grown (old new : StoreValue) (name : ℕ) (bytes : List ℕ) (takes :
   pub band : (block_at 0 (in_hand new name)).band ≡ (block_at 0 (in_hand old name)).band
   pub cells : cells_of (message_in new name) ≡ cells_of (message_in old name) ++ bytes
   pub mblks : free_m old ≤ free_m new + takes
-  pub dblks : room_d old ≤ room_d new + takes
+  pub dblks : free_d old ≤ free_d new + takes
 
 -- An ordinary message of data of these bytes has come in hand, and nothing else changed. At most so many blocks of each kind were taken.
 pub record Begins (old new : StoreValue) (name : ℕ) (bytes : List ℕ) (takes : ℕ) : Type 0 where
@@ -22,7 +22,7 @@ pub record Begins (old new : StoreValue) (name : ℕ) (bytes : List ℕ) (takes 
   pub are : IsOrdinary new name
   pub shows : message_in new name ≡ data_message bytes
   pub mblks : free_m old ≤ free_m new + takes
-  pub dblks : room_d old ≤ room_d new + takes
+  pub dblks : free_d old ≤ free_d new + takes
 
 -- One queue of a store may have changed, which is ready, and no other one, nor what is in hand. At most so many blocks of each kind were taken.
 pub record Rewrites (old new : StoreValue) (q q' : Queue) (takes : ℕ) : Type 0 where

@@ -3,7 +3,7 @@ pub use Rattle.strm_blocks.specs.Blocks.{Block, Held, IsFreshName, IsInHand, IsS
 pub use Rattle.strm_blocks.specs.Blocks.{extended, free_d, free_m, held, in_hand, list_at, names_of, placed, put_back, times_in, token, total}
 pub use Rattle.strm_blocks.specs.Blocks.{with_block, written}
 pub use Rattle.strm_blocks.specs.declared.in_hand.InHand.{InHand}
-pub use Rattle.strm_frame.specs.Hands.{AreIn, CanPut, Hands, HasRoom, OnlyOwn, SameOwn, SamePool, Shifts, room_d}
+pub use Rattle.strm_frame.specs.Hands.{AreIn, CanPut, Hands, HasRoom, OnlyOwn, SameOwn, SamePool, Shifts}
 unfoldable pub use Rattle.strm_frame.specs.Hands.{once}
 pub use Rattle.strm_frame.specs.Outboxes.{message_in, sent_of}
 unfoldable pub use Rattle.strm_frame.specs.Outboxes.{AreChains, parcels_in, times_sent}

@@ -9,7 +9,8 @@ ghost use Rattle.strm_types.specs.Ldterms.{sends};
 ghost use Rattle.strm_types.specs.Message.{cells_of};
 ghost use Rattle.strm_types.specs.Typing.{begins};
 ghost use Rattle.strm_blocks.specs.Blocks.{IsFreshName, IsInHand, banded, block_at, dropped, held, in_hand, token};
-ghost use Rattle.strm_frame.specs.Hands.{AreIn, HasRoom, Spends};
+ghost use Rattle.strm_queue.specs.Stored.{FreesBlocks};
+ghost use Rattle.strm_frame.specs.Hands.{AreIn, HasRoom};
 ghost use Rattle.strm_frame.specs.declared.queue_pair.QueuePair.{QueuePair};
 ghost use Rattle.strm_frame.specs.Outboxes.{message_in, sent_of};
 ghost use Rattle.strm_ldterm.specs.Becoming.{Becomes, IsFronted};
@@ -94,7 +95,7 @@ pub(crate) fn next_byte<B: Blocks>(ldterm: &mut Ldterm, store: &mut B) -> Option
     ensures byte { (q : QueuePair) → let s = B.value store.old in let x = paired ldterm.old q in let p = ldterm_in s x in let cells = cells_left p in
         IsHeld s x → MatchOption result ((cells ≡ []) × (with_left (drop 1 cells) p ≡ p)) (λ byte. cells ≡ byte ∷ drop 1 cells) }
     ensures front { IfSome ldterm.new.in_work (λ m. IsFronted (B.value store.new) (token m)) }
-    ensures spends { Spends (B.value store.old) (B.value store.new) 0 0 }
+    ensures frees { FreesBlocks (B.value store.old) (B.value store.new) }
 {
     let Some(message) = ldterm.in_work.take() else {
         return None;

@@ -11,10 +11,9 @@ use Rattle.strm_blocks.specs.Blocks.{Held}
 use Rattle.strm_msg.specs.Messages.{AreMessages}
 use Rattle.strm_msg.proofs.Hands.{other-name}
 use Rattle.strm_queue.specs.Kept.{AreCounted}
-use Rattle.strm_frame.specs.Hands.{CanPut, SamePool}
+use Rattle.strm_frame.specs.Hands.{CanPut}
 use Rattle.strm_frame.specs.Outboxes.{parcel_in}
 use Rattle.strm_frame.proofs.Shifting.{shifts-none}
-use Rattle.strm_frame.proofs.WidePools.{room-fewer}
 use Rattle.strm_pty.specs.Does.{OnlyQueue, Does, Alters, Makes, Swaps, MadeOne}
 
 -- where no list changed
@@ -106,7 +105,6 @@ pub makes-one : (s t : StoreValue) (x : Sent) (kind : MsgKind) (bytes : List ℕ
     → ◌≡◌ {A = Parcel ℕ} (record { to = x.to; message = record { kind = kind; band = 0; control = None; body = None; plain = bytes } }) p → Makes s t 1 made (p ∷ [])
 makes-one s t x kind bytes made p m one is =
     let n = token x.message in
-    let pool : SamePool s t = record { mblks = ap (λ v. v.mblks) m.after; dblks = ap (λ v. v.dblks) m.after } in
     record {
       lists = ap (λ v. v.lists) m.after;
       hands = record {
@@ -117,8 +115,8 @@ makes-one s t x kind bytes made p m one is =
             omega arith;
         others = λ j none some. ap (λ v. in_hand v j) m.after ∙ stays-chain s n (in_hand t n) j (λ e. (let f = m.fresh in let w = ap (λ k. times_in k s.hand) e in absurd (omega arith)));
         mblks = (let r = m.room_m in omega arith);
-        dblks = room-fewer s t pool 1 (omega (arith, m.room_m)) (omega (arith, m.room_d));
-        pool = pool;
+        dblks = (let r = m.room_d in omega arith);
+        pool = record { mblks = ap (λ v. v.mblks) m.after; dblks = ap (λ v. v.dblks) m.after };
       };
       sent = one-parts t x made one ∙ ap (λ (w : Message ℕ). record { to = x.to; message = w } ∷ []) m.shows ∙ ap (λ w. w ∷ []) is;
       chains = one-chains t x made one m.chain;

@@ -7,13 +7,11 @@ use Rattle.strm_types.specs.declared.kinds.Band.{Band}
 use Rattle.strm_types.specs.Flushing.{read_flush}
 use Rattle.strm_types.specs.Ioctls.{refused}
 use Rattle.strm_types.specs.Write.{chunk_count}
-use Rattle.strm_blocks.specs.Outcomes.{NoneFree}
 use Rattle.strm_blocks.proofs.Laws.{in_hand-held}
 use Rattle.strm_msg.specs.Made.{MadeOf, TooFew, copies_of, pieces}
 use Rattle.strm_msg.proofs.MadePlain.{made-plain}
 use Rattle.strm_msg.proofs.Pieces.{length-pieces}
 use Rattle.strm_queue.proofs.OneMade.{chunk-one}
-use Rattle.strm_frame.proofs.WidePools.{room-is-free}
 use Rattle.strm_pty.specs.Does.{Makes, MadeOne}
 use Rattle.strm_pty.proofs.Doing.{makes-none, makes-one}
 
@@ -21,11 +19,7 @@ use Rattle.strm_pty.proofs.Doing.{makes-none, makes-one}
 pub never-few : (s t : StoreValue) (n : ℕ) → n ≤ 256 → HasRoom s 1 → TooFew s t (chunk_count n) → ⊥
 never-few s t n few room fails =
     let one = chunk-one n few in
-    elim fails.few [ inl m ↦ absurd (let r = room.mblks in omega arith) | inr d ↦ absurd (let r = room-is-free s 1 room in omega arith) ]
-
-pub never-none : (s t : StoreValue) → HasRoom s 1 → NoneFree s t → ⊥
-never-none s t room fails =
-    elim fails.none [ inl m ↦ absurd (let r = room.mblks in omega arith) | inr d ↦ absurd (let r = room-is-free s 1 room in omega arith) ]
+    elim fails.few [ inl m ↦ absurd (let r = room.mblks in omega arith) | inr d ↦ absurd (let r = room.dblks in omega arith) ]
 
 pub made-one : (s t : StoreValue) (i : ℕ) (kind : MsgKind) (bytes : List ℕ) → is_data_kind kind ≡ false → length bytes ≤ 256 → MadeOf s t i kind 0 bytes → MadeOne s t i kind bytes
 made-one s t i kind bytes none few m =

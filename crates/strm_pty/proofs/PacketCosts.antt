@@ -2,6 +2,7 @@
 use Rattle.strm_pty.proofs.Prelude.{ℕ, arith}
 use Rattle.strm_pty.specs.Prelude.{Fates, Spot, Message, StoreValue, Acts, Hands, Spends, message_in, sent_of, times_sent}
 use Rattle.strm_types.specs.Costs.{pckt_takes}
+use Rattle.strm_frame.proofs.Shifting.{shifts-spends}
 use Rattle.strm_pty.specs.Packs.{Packs, pckt_in, puts}
 
 module _ (s t : StoreValue) (i : ℕ) (here : Spot) (acts : Acts) (f f' : Fates)
@@ -10,7 +11,7 @@ module _ (s t : StoreValue) (i : ℕ) (here : Spot) (acts : Acts) (f f' : Fates)
   m = message_in s i
 
   pub packs-spends : Spends s t (pckt_takes here m) 0
-  packs-spends = record { mblks = (let h = packs.swaps.hands.mblks in omega arith); dblks = (let h = packs.swaps.hands.dblks in omega arith) }
+  packs-spends = shifts-spends s t _ _ (pckt_takes here m) packs.swaps.hands
 
   pub packs-hands : Hands s t i (λ _. 0) (λ _. 0) (λ j. times_sent j (sent_of acts.sent))
   packs-hands = record {

@@ -19,8 +19,6 @@ use Rattle.strm_types.proofs.MadeCells.{made-long}
 use Rattle.strm_blocks.proofs.Laws.{free_d-same}
 use Rattle.strm_msg.proofs.Hands.{dropped-changed}
 use Rattle.strm_msg.proofs.Making.{Made-one}
-use Rattle.strm_frame.specs.Hands.{SamePool}
-use Rattle.strm_frame.proofs.WidePools.{room-fewer}
 use Rattle.strm_pty.specs.Does.{Makes, Swaps}
 use Rattle.strm_pty.specs.Packs.{Becomes, Packs, packet_of}
 use Rattle.strm_pty.proofs.Doing.{can-of, swaps-both, times-held, times-one}
@@ -72,13 +70,12 @@ module _ (s t : StoreValue) (i f : ℕ) (b : Block) (is : IsInHand s i) (st : Is
   shifts-front : Shifts s t (λ _. 0) (once f) 1
   shifts-front =
       let made = Made-one copied in
-      let pool : SamePool s t = record { mblks = ap (λ v. v.mblks) copied.after; dblks = ap (λ v. v.dblks) copied.after } in
       record {
         counts = λ j. let a = ap (λ v. times_in j v.hand) copied.after in let h = times-held s f (front ∷ []) j in omega arith;
         others = λ j none some. ap (λ v. in_hand v j) copied.after ∙ stays-chain s f (front ∷ []) j (λ e. (let fresh = copied.fresh_name in let w = ap (λ k. times_in k s.hand) e in absurd (omega arith)));
         mblks = (let r = made.room_m in omega arith);
-        dblks = room-fewer s t pool 1 (omega (arith, made.room_m)) (omega (arith, made.room_d));
-        pool = pool;
+        dblks = (let r = made.room_d in omega arith);
+        pool = record { mblks = ap (λ v. v.mblks) copied.after; dblks = ap (λ v. v.dblks) copied.after };
       }
 
   -- the message goes
@@ -133,10 +130,7 @@ module _ (s t : StoreValue) (i f : ℕ) (b : Block) (is : IsInHand s i) (st : Is
           in_hand-changed_other left f j (front ∷ behind) (λ e. (let fresh = copied.fresh_name in let w = ap (λ k. times_in k s.hand) e in absurd (omega arith)))
           ∙ shifts-alone.others j none some;
       mblks = (let a = shifts-front.mblks in let m = free_m-is joined in let n = free_m-is t in let u = used-same in omega arith);
-      dblks =
-          let same = room-fewer t joined (record { mblks = refl; dblks = refl }) 0
-          (omega (arith, free_m-is joined, free_m-is t, used-same)) (omega (arith, free_d-same t joined refl references-same)) in
-          omega (arith, shifts-front.dblks, same);
+      dblks = (let a = shifts-front.dblks in let d = free_d-same t joined refl references-same in omega arith);
       pool = record { mblks = shifts-alone.pool.mblks; dblks = shifts-alone.pool.dblks };
     }
 

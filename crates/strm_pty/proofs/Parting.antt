@@ -1,16 +1,14 @@
 -- A message of two blocks, parted: its first block goes, and the second one is there twice.
 use Rattle.std.proofs.Common.{ℕ, ◌≡◌, ◌≢◌, ◌≤◌, ◌+◌, cond, eqb, List, [], ◌∷◌, length, refl, sym, ap, subst, ◌∙◌, drop, arith}
 use Rattle.std.proofs.lemmas.List.Sums.{sum_by-cons}
-use Rattle.strm_blocks.specs.Blocks.{Block, StoreValue, IsStore, IsInHand, IsFreshName, block_at, in_hand, held, dropped, changed, times_in}
-use Rattle.strm_blocks.specs.Blocks.{names_of, references, total, used, free_d, free_m}
+use Rattle.strm_blocks.specs.Blocks.{Block, StoreValue, IsStore, IsInHand, IsFreshName, block_at, in_hand, held, dropped, changed, times_in, names_of, references, total, used, free_d}
 use Rattle.strm_blocks.specs.Outcomes.{Duplicated, Unlinked}
 use Rattle.strm_blocks.proofs.Laws.{IsInHand-dropped, in_hand-changed, in_hand-changed_other, in_hand-dropped, total-changed, total-dropped, total-held, used-is, references-is, free_m-is, free_d-more}
 use Rattle.strm_msg.proofs.Counts.{free_d-shared, named-in_hand}
 use Rattle.strm_msg.proofs.Hands.{changed-in_hand, held-apart, held-chain, held-is, stays, stays-chain, times-replaced}
-use Rattle.strm_frame.specs.Hands.{once, SamePool, Shifts}
+use Rattle.strm_frame.specs.Hands.{once, Shifts}
 use Rattle.strm_frame.proofs.Handing.{once-apart}
 use Rattle.strm_frame.proofs.Shifting.{shifts-freed}
-use Rattle.strm_frame.proofs.WidePools.{room-fewer}
 use Rattle.strm_pty.specs.Shares.{AreShared, Parts}
 use Rattle.strm_pty.proofs.Doing.{can-of, times-held}
 
@@ -140,15 +138,6 @@ module _ (s : StoreValue) (i c r f : ℕ) (t u : StoreValue) (is : IsInHand s i)
       let second = free_d-more t new (ap (λ v. v.dblks) after) fewer in
       omega (arith, first, second)
 
-  pool : SamePool s new
-  pool = record {
-    mblks = ap (λ v. v.mblks) after ∙ ap (λ v. v.mblks) dup.after;
-    dblks = ap (λ v. v.dblks) after ∙ ap (λ v. v.dblks) dup.after;
-  }
-
-  free-same : free_m s ≤ free_m new
-  free-same = omega (arith, used-same, free_m-is s, free_m-is new, pool.mblks)
-
   module _ (st : IsStore u) where
     hands : Shifts s new (once i) (λ j. once r j + once c j) 0
     hands = record {
@@ -165,9 +154,9 @@ module _ (s : StoreValue) (i c r f : ℕ) (t u : StoreValue) (is : IsInHand s i)
           let not-copy : c ≢ j = λ e. (let f = ap (λ k. times_in k s.hand) (sym e) in let g = dup.fresh_name in absurd (omega (arith, f, g, some))) in
           in_hand-dropped u i j ne ∙ ap (λ v. in_hand v j) after ∙ stays-chain alone r (tail ∷ []) j not-rest ∙ in_hand-changed_other t i j (head ∷ []) ne
           ∙ ap (λ v. in_hand v j) dup.after ∙ stays-chain s c (tail ∷ []) j not-copy;
-      mblks = omega (arith, free-same);
-      dblks = room-fewer s new pool 0 (omega (arith, free-same)) (omega (arith, free-more));
-      pool = pool;
+      mblks = omega (arith, used-same, free_m-is s, free_m-is new, ap (λ v. v.mblks) after, ap (λ v. v.mblks) dup.after);
+      dblks = omega (arith, free-more);
+      pool = record { mblks = ap (λ v. v.mblks) after ∙ ap (λ v. v.mblks) dup.after; dblks = ap (λ v. v.dblks) after ∙ ap (λ v. v.dblks) dup.after };
     }
 
     pub parts : (w : StoreValue) → w ≡ dropped u f → length head.bytes ≡ 16 → Parts s w i r c

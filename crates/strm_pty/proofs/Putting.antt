@@ -1,7 +1,7 @@
 -- A put at a driver, by the kind of its message and the way that it goes.
 use Rattle.strm_pty.proofs.Prelude.{ℕ, ◌≡◌, true, false, refl, sym, ap, subst, ◌∙◌, arith, kind-is, parts-same}
 use Rattle.strm_pty.specs.Prelude.{MsgKind, Side, Up, Down, Fates, Across, Spot, taken_in, is_data_kind, Message, has_parts, is_held, StoreValue}
-use Rattle.strm_pty.specs.Prelude.{in_hand, block_at, IsChain, Queue, queue_in, Acts, Shifts, Spends, message_in}
+use Rattle.strm_pty.specs.Prelude.{in_hand, block_at, IsChain, Queue, queue_in, Acts, message_in}
 use Rattle.strm_types.specs.declared.kinds.MsgKind.TheVariants.{Data, Proto}
 use Rattle.strm_types.specs.Commands.{is_ioctl}
 use Rattle.strm_types.specs.Drivers.{put_down, put_across, driver_put}
@@ -64,6 +64,3 @@ module _ (s t : StoreValue) (q q' : Queue) (i : ℕ) (acts : Acts) (f f' : Fates
       let p = queue_in s q in
       subst (λ w. Does s t q q' i (driver_cost w kind) acts f f' (driver_put here.side across here m p)) (sym way)
       (subst (λ x. Does s t q q' i (driver_cost Up kind) acts f f' x) (ap (λ k. put_across here.side across k m p) same-kind ∙ sym (across-is here.side across here m p (parts ∙ is) way)) does)
-
-pub shifts-spends : (s t : StoreValue) (gone come : ℕ → ℕ) (n : ℕ) → Shifts s t gone come n → Spends s t n 0
-shifts-spends s t gone come n shifts = record { mblks = (let m = shifts.mblks in omega arith); dblks = (let d = shifts.dblks in omega arith) }

@@ -11,6 +11,7 @@ use Rattle.strm_types.specs.Ptems.{acks, asked_above, asked_below, asked_by_head
 use Rattle.strm_types.specs.Winsizes.{same_winsize}
 use Rattle.strm_frame.proofs.Behind.{all-said, first-tell, read_of}
 use Rattle.strm_frame.proofs.Handing.{one-hands}
+use Rattle.strm_frame.proofs.Shifting.{shifts-spends}
 use Rattle.strm_pty.specs.declared.ptem.Ptem.{Ptem}
 use Rattle.strm_pty.specs.Beside.{Answers, MayAnswer, MayPass, ptem_in}
 use Rattle.strm_pty.specs.Does.{Makes, Swaps}
@@ -64,7 +65,7 @@ swaps-answers s t x i n most acts ps none swaps few = record {
     counts = λ j. let c = swaps.hands.counts j in omega arith;
     others = λ j gone kept some. swaps.hands.others j gone some;
   };
-  spends = record { mblks = (let c = swaps.hands.mblks in omega arith); dblks = (let c = swaps.hands.dblks in omega arith) };
+  spends = (let c = shifts-spends s t _ _ n swaps.hands in record { mblks = omega (arith, c.mblks, few); dblks = omega (arith, c.dblks, few) });
   pool = swaps.hands.pool;
 }
 

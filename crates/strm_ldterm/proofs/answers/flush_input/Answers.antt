@@ -1,6 +1,5 @@
 -- By the command.
-use Rattle.strm_ldterm.proofs.Prelude.{List, [], ◌∷◌, cond, refl, sym, ◌∙◌, arith}
-use Rattle.strm_frame.proofs.WidePools.{room-more}
+use Rattle.strm_ldterm.proofs.Prelude.{List, [], ◌∷◌, cond, refl, sym, ◌∙◌}
 use Rattle.strm_ldterm.specs.Prelude.{Up, Note, Room, sends}
 use Rattle.strm_ldterm.specs.Stands.{ldterm_in, paired}
 use Rattle.strm_ldterm.proofs.Flushed.{kept-still}
@@ -19,13 +18,6 @@ returns-then-not-flushes_input g c =
 
 pub send_up-flush-requires-clause-kind : goal.send_up-flush-requires-clause-kind
 send_up-flush-requires-clause-kind g c = flush-plain
-
-pub send_up-flush-requires-clause-room : goal.send_up-flush-requires-clause-room
-send_up-flush-requires-clause-room g c =
-    let alters = c.flush_read-room.ensures.alters in
-    let m = alters.frees.mblks in
-    let d = room-more (g.B.Blocks.value c.args.store.now) (g.B.Blocks.value c.flush_read-room.new.store) alters.pool alters.frees in
-    record { mblks = (let r = c.requires.room.mblks in omega (arith, m, r)); dblks = (let r = c.requires.room.dblks in omega (arith, d, r)) }
 
 pub returns : goal.returns
 returns g c =

@@ -10,10 +10,10 @@ use Rattle.strm_ldterm.proofs.first_steps.begin.Goals as goal
 
 pub begin_with-requires-clause-room : goal.begin_with-requires-clause-room
 begin_with-requires-clause-room g c =
-    let spends = c.next_byte.ensures.spends in
+    let frees = c.next_byte.ensures.frees in
     record {
-      mblks = (let a = spends.mblks in let b = c.requires.room.mblks in omega (arith, a, b));
-      dblks = (let a = spends.dblks in let b = c.requires.room.dblks in omega (arith, a, b));
+      mblks = (let a = frees.mblks in let b = c.requires.room.mblks in omega (arith, a, b));
+      dblks = (let a = frees.dblks in let b = c.requires.room.dblks in omega (arith, a, b));
     }
 
 pub returns-in_default : goal.returns-in_default

@@ -42,7 +42,5 @@ returns-clause-byte g c = λ q held.
     let there : x.in_work ≡ Some c.in-Some.message = sym c.take.ensures.value ∙ c.in-Some.is in
     busy-byte s x c.in-Some.message there c.take_byte-byte.result.1 held c.take_byte-byte.ensures.byte
 
-pub returns-clause-spends : goal.returns-clause-spends
-returns-clause-spends g c =
-    let shifts = c.take_byte-byte.ensures.became.hands in
-    record { mblks = omega (arith, shifts.mblks); dblks = omega (arith, shifts.dblks) }
+pub returns-clause-frees : goal.returns-clause-frees
+returns-clause-frees g c = let shifts = c.take_byte-byte.ensures.became.hands in record { mblks = omega (arith, shifts.mblks); dblks = omega (arith, shifts.dblks) }

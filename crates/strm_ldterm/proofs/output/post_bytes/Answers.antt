@@ -2,7 +2,7 @@
 use Rattle.strm_ldterm.proofs.Prelude.{◌≤◌, [], sym, ◌∙◌, arith}
 use Rattle.strm_ldterm.specs.Prelude.{STOP_BLOCKS, least_free}
 use Rattle.strm_ldterm.specs.Stands.{paired}
-use Rattle.strm_ldterm.proofs.Bytes.{are-many, lower, some-went}
+use Rattle.strm_ldterm.proofs.Bytes.{lower, some-went}
 use Rattle.strm_ldterm.proofs.Joining.{still-kept}
 use Rattle.strm_ldterm.proofs.Poured.{pours-are, pours-more, pours-none, pours-some}
 use Rattle.strm_ldterm.proofs.output.post_bytes.Goals as goal
@@ -21,9 +21,6 @@ post_front-left-requires-clause-kept g c =
 pub post_front-left-requires-clause-work : goal.post_front-left-requires-clause-work
 post_front-left-requires-clause-work g c =
     pours-some (g.B.Blocks.value c.args.store.now) (g.B.Blocks.value c.loop-left.store) c.args.here (paired c.args.ldterm.now c.args.queues.now) (paired c.loop-left.ldterm c.args.queues.now) c.args.bytes c.loop-left.left c.args.told.now c.loop-left.told c.requires.work c.requires.bytes c.loop-left.invariant
-
-pub post_front-left-requires-clause-room : goal.post_front-left-requires-clause-room
-post_front-left-requires-clause-room g c = are-many (g.B.Blocks.value c.loop-left.store) (sym c.are_few.ensures ∙ c.if-not-are_few.true)
 
 pub post_front-left-requires-clause-some : goal.post_front-left-requires-clause-some
 post_front-left-requires-clause-some g c =

@@ -22,15 +22,6 @@ treat_run-ran-requires-clause-kept g c =
     still-kept (g.B.Blocks.value c.args.store.now) (g.B.Blocks.value c.loop-left.store) (paired c.args.ldterm.now c.args.queues.now) (paired c.loop-left.ldterm c.loop-left.queues) _ c.loop-left.notes.items c.args.told.now c.loop-left.told _ c.audit.ensures
     c.loop-left.invariant.does c.requires.kept
 
-pub treat_run-ran-requires-clause-room : goal.treat_run-ran-requires-clause-room
-treat_run-ran-requires-clause-room g c =
-    let many = are-many (g.B.Blocks.value c.loop-left.store) (sym c.are_few.ensures ∙ c.if-not-are_few.true) in
-    record { mblks = (let r = many.mblks in omega (arith, r)); dblks = (let r = many.dblks in omega (arith, r)) }
-
-pub treat_byte-more-requires-clause-room : goal.treat_byte-more-requires-clause-room
-treat_byte-more-requires-clause-room g c =
-    are-many (g.B.Blocks.value c.treat_run-ran.new.store) (sym c.are_few-else-left-eq0.ensures ∙ c.if-are_few.false)
-
 pub treat_run-ran-requires-clause-stage : goal.treat_run-ran-requires-clause-stage
 treat_run-ran-requires-clause-stage g c =
     ran-stage (g.B.Blocks.value c.args.store.now) (g.B.Blocks.value c.loop-left.store) (paired c.args.ldterm.now c.args.queues.now) (paired c.loop-left.ldterm c.loop-left.queues) c.args.here c.args.bytes c.loop-left.left c.loop-left.notes.items c.args.told.now c.loop-left.told

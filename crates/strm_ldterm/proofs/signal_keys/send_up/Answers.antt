@@ -1,8 +1,8 @@
 -- The message is made, and nothing else changes.
 use Rattle.strm_ldterm.proofs.Prelude.{[], ◌∷◌, refl, ap, arith}
-use Rattle.strm_ldterm.specs.Prelude.{Up, toward, onward, sends, bare, Sent, SamePool, StoreValue}
-use Rattle.strm_frame.proofs.WidePools.{spends-free}
+use Rattle.strm_ldterm.specs.Prelude.{Up, toward, onward, sends, bare, Sent, StoreValue}
 use Rattle.strm_ldterm.specs.Stands.{ldterm_in}
+use Rattle.strm_frame.proofs.WidePools.{spends-free}
 use Rattle.strm_ldterm.proofs.Sends.{sends-made}
 use Rattle.strm_ldterm.proofs.signal_keys.send_up.Goals as goal
 
@@ -17,6 +17,6 @@ returns-clause-does g c = λ x f held kept.
 pub returns-clause-spends : goal.returns-clause-spends
 returns-clause-spends g c =
     let made = c.make-message.ensures in
-    let pool : SamePool (g.B.Blocks.value c.args.store.now) (g.B.Blocks.value c.make-message.new.store) =
-    record { mblks = ap (λ (v : StoreValue). v.mblks) made.after; dblks = ap (λ (v : StoreValue). v.dblks) made.after } in
-    spends-free _ _ pool 1 0 (omega (arith, made.room_m)) (omega (arith, made.room_d))
+    spends-free (g.B.Blocks.value c.args.store.now) (g.B.Blocks.value c.make-message.new.store)
+    (record { mblks = ap (λ (v : StoreValue). v.mblks) made.after; dblks = ap (λ (v : StoreValue). v.dblks) made.after }) 1 0
+    (omega (arith, made.room_m)) (omega (arith, made.room_d))

@@ -2,6 +2,7 @@
 use Rattle.std.proofs.Common.{[], ◌∷◌, sym, ◌∙◌, arith}
 use Rattle.std.specs.Option.{option_to_list}
 use Rattle.strm_ldterm.specs.Stands.{paired}
+use Rattle.strm_frame.proofs.WidePools.{room-left}
 use Rattle.strm_ldterm.proofs.Proceeding.{proceeds-kept}
 use Rattle.strm_ldterm.proofs.Signals.{signal-keeps, signal-flushes, room-one}
 use Rattle.strm_ldterm.proofs.signal_keys.signal_with.Goals as goal
@@ -14,11 +15,7 @@ flush_typed-requires-clause-room g c = room-one _ c.requires.room
 
 pub send_key-requires-2-clause-room : goal.send_key-requires-2-clause-room
 send_key-requires-2-clause-room g c =
-    let takes = c.flush_typed.ensures.spends in
-    record {
-      mblks = (let a = takes.mblks in let b = c.requires.room.mblks in omega (arith, a, b));
-      dblks = (let a = takes.dblks in let b = c.requires.room.dblks in omega (arith, a, b));
-    }
+    room-left (g.B.Blocks.value c.args.store.now) (g.B.Blocks.value c.flush_typed.new.store) 2 1 1 (omega arith) c.requires.room c.flush_typed.ensures.spends
 
 pub returns-then-keeps : goal.returns-then-keeps
 returns-then-keeps g c = λ q held kept.

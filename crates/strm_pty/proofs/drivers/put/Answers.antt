@@ -2,7 +2,8 @@
 use Rattle.strm_pty.proofs.Prelude.{◌∙◌, sym, ap, subst, kind-is}
 use Rattle.strm_pty.specs.Prelude.{is_data_kind, in_hand, token, HasRoom, Spends}
 use Rattle.strm_pty.specs.Does.{driver_cost}
-use Rattle.strm_pty.proofs.Putting.{held-data, shifts-spends}
+use Rattle.strm_frame.proofs.Shifting.{shifts-spends}
+use Rattle.strm_pty.proofs.Putting.{held-data}
 use Rattle.strm_pty.proofs.drivers.put.Goals as goal
 
 pub put_any-requires-clause-room : goal.put_any-requires-clause-room

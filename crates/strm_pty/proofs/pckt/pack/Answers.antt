@@ -4,12 +4,7 @@ use Rattle.strm_pty.specs.Prelude.{message_in, token}
 use Rattle.strm_types.specs.declared.kinds.MsgKind.TheVariants as kinds
 use Rattle.strm_pty.specs.Packs.{Becomes, packet_of}
 use Rattle.strm_pty.proofs.Packing.{became-alone, became-full, both-there}
-use Rattle.strm_pty.proofs.Made.{never-none}
 use Rattle.strm_pty.proofs.pckt.pack.Goals as goal
-
-pub unreachable-requires : goal.unreachable-requires
-unreachable-requires g c =
-    never-none (g.B.Blocks.value c.args.store.now) (g.B.Blocks.value c.alloc_with.new.self) c.requires.room c.in_default.ensures
 
 pub returns-then-is_stop_or_start : goal.returns-then-is_stop_or_start
 returns-then-is_stop_or_start g c = λ here.

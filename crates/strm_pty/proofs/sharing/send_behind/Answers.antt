@@ -4,12 +4,7 @@ use Rattle.strm_pty.specs.Prelude.{toward, bare, in_hand, token, bytes_of}
 use Rattle.strm_pty.specs.Packs.{Becomes}
 use Rattle.strm_pty.proofs.Hanging.{headed, headed-carries}
 use Rattle.strm_pty.proofs.Packing.{becomes-swaps}
-use Rattle.strm_pty.proofs.Made.{never-none}
 use Rattle.strm_pty.proofs.sharing.send_behind.Goals as goal
-
-pub unreachable-requires : goal.unreachable-requires
-unreachable-requires g c =
-    never-none (g.B.Blocks.value c.args.store.now) (g.B.Blocks.value c.alloc_with.new.self) c.requires.room c.in_default.ensures
 
 pub returns-clause-swaps : goal.returns-clause-swaps
 returns-clause-swaps g c =
