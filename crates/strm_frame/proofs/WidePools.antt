@@ -75,6 +75,10 @@ module _ (s : StoreValue) where
       by true wide = free_m-le-free_d (grind (arith, nat_tests))
       by false narrow = omega arith
 
+  -- and there is room where so many message blocks are free
+  pub wide-room : s.mblks ≤ s.dblks → (n : ℕ) → n ≤ free_m s → HasRoom s n
+  wide-room wide n m = record { mblks = m; dblks = omega (arith, m, free_m-le-free_d wide) }
+
   -- what is free of both kinds may be counted on
   pub free-le-room : (n : ℕ) → HasRoom s n → n ≤ room_d s
   unfolding room_d
@@ -100,6 +104,10 @@ module _ (s t : StoreValue) where
       by : (b : Bool) → cond b (free_m s) (free_d s) + later ≤ cond b (free_m t) (free_d t) + most
       by true = m
       by false = d
+
+  -- in a store with as many data blocks as message blocks what was taken of message blocks says it
+  pub spends-wide : s.mblks ≤ s.dblks → SamePool s t → (most later : ℕ) → free_m s + later ≤ free_m t + most → Spends s t most later
+  spends-wide wide pool most later m = record { mblks = m; dblks = omega (arith, m, room-wide s wide, room-wide t (omega (arith, wide, pool.mblks, pool.dblks))) }
 
   pub frees-spends : SamePool s t → FreesBlocks s t → (most : ℕ) → Spends s t most 0
   frees-spends pool frees most = spends-free pool most 0 (omega (arith, frees.mblks)) (omega (arith, frees.dblks))

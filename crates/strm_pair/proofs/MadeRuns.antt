@@ -17,7 +17,6 @@ use Rattle.strm_msg.proofs.Hands.{grown, held-apart, held-chain}
 use Rattle.strm_msg.proofs.Making.{made-in_hand, made-keeps}
 use Rattle.strm_msg.proofs.Pieces.{chunk-some, length-pieces}
 use Rattle.strm_pair.specs.Runs.{IsRun, IsPart, Joins, Spent, run_blocks}
-use Rattle.strm_frame.proofs.WidePools.{has-room, room-is-free}
 
 -- ---- a run of pieces
 
@@ -129,13 +128,15 @@ module _ {old mid hung : StoreValue} {i j : ℕ} {kind : MsgKind} {band : ℕ} {
 
 -- too few blocks are free only where there aren't that many
 pub never-few : {old new : StoreValue} {n count : ℕ} → n ≤ count → HasRoom old count → TooFew old new n → ⊥
-never-few {old} {new} {n} {count} le room few = elim few.few [ inl m ↦ absurd (omega (arith, m, le, room.mblks)) | inr d ↦ absurd (omega (arith, d, le, room-is-free old count room)) ]
+never-few le room few = elim few.few [ inl m ↦ absurd (omega (arith, m, le, room.mblks)) | inr d ↦ absurd (omega (arith, d, le, room.dblks)) ]
 
 pub never-second : {old mid new : StoreValue} {i : ℕ} {kind : MsgKind} {band : ℕ} (front behind : List ℕ) → MadeOf old mid i kind band front → HasRoom old (run_blocks (front, Some behind)) → TooFew mid new (chunk_count (length behind)) → ⊥
 never-second {old} {mid} front behind first room few =
     let a = run-made first in
-    let free = room-is-free old (run_blocks (front, Some behind)) room in
-    let left = has-room mid (chunk_count (length behind)) (omega (arith, room.mblks, a.spent.mblks, counts-both front behind)) (omega (arith, free, a.spent.dblks, counts-both front behind)) in
+    let left : HasRoom mid (chunk_count (length behind)) = record {
+      mblks = omega (arith, room.mblks, a.spent.mblks, counts-both front behind);
+      dblks = omega (arith, room.dblks, a.spent.dblks, counts-both front behind);
+    } in
     never-few (omega arith) left few
 
 -- ---- what the message stands for

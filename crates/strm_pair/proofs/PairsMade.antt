@@ -10,7 +10,6 @@ use Rattle.strm_pair.specs.Runs.{Spent}
 use Rattle.strm_pair.specs.Stacks.{stack_keeps}
 use Rattle.strm_pair.specs.Streams.{IsBlank, IsSide, AreSides, stream_in}
 use Rattle.strm_pair.proofs.Sides.{side-stays, stream-stays}
-use Rattle.strm_frame.proofs.WidePools.{has-room, room-is-free}
 
 -- each list of such a store is empty
 module _ (s : StoreValue) (lists : s.lists ≡ replicate 8 []) where
@@ -54,4 +53,7 @@ module _ {s t : StoreValue} {p : Stream ℕ} {m : ℕ} {e : StreamEnd} (master :
   }
 
   pub room-behind : (n : ℕ) → HasRoom s (m + n) → HasRoom t n
-  room-behind n room = has-room t n (omega (arith, room.mblks, master.spent.mblks)) (omega (arith, room-is-free s (m + n) room, master.spent.dblks))
+  room-behind n room = record {
+    mblks = omega (arith, room.mblks, master.spent.mblks);
+    dblks = omega (arith, room.dblks, master.spent.dblks);
+  }

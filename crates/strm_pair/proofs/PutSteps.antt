@@ -16,7 +16,7 @@ use Rattle.strm_types.specs.Queue as plain
 use Rattle.strm_head.specs.declared.head.Head as heads
 use Rattle.strm_head.specs.Heads.{notes_of}
 use Rattle.strm_queue.specs.declared.queue.Queue.{Queue}
-use Rattle.strm_frame.proofs.Shifting.{shifts-joined}
+use Rattle.strm_frame.proofs.Shifting.{shifts-joined, shifts-spends}
 use Rattle.strm_pty.specs.Does.{driver_cost, Swaps}
 use Rattle.strm_pair.specs.Pairs.{end_at, with_end, state_in, AreBeside, Stays, kept_by}
 use Rattle.strm_pair.proofs.Sides.{driver-changed, driver-state, head-changed, head-state, driver-is, head-is}
@@ -98,7 +98,7 @@ handled s t m n come kept keeps same hands = record {
 }
 
 spent : (s t : StoreValue) (gone come : ℕ → ℕ) (n k : ℕ) → n ≤ k → Shifts s t gone come n → Spends s t k 0
-spent s t gone come n k le hands = record { mblks = omega (arith, hands.mblks, le); dblks = omega (arith, hands.dblks, le) }
+spent s t gone come n k le hands = let b = shifts-spends s t gone come n hands in record { mblks = omega (arith, b.mblks, le); dblks = omega (arith, b.dblks, le) }
 
 -- what is kept is in hand, beside the message that is put
 put-stays : (s t : StoreValue) (m n : ℕ) (come keeps : ℕ → ℕ) → IsStore s → CanPut s m keeps → Shifts s t (once m) come n → Stays s t keeps

@@ -15,7 +15,6 @@ use Rattle.strm_image.specs.Loads.{add_message, no_load}
 use Rattle.strm_image.specs.Messages.{may_follow, message_behind, next_rank}
 use Rattle.strm_image.proofs.Formats.{bind_some, gather_some}
 use Rattle.strm_pair.specs.Runs.{Spent, with_messages}
-use Rattle.strm_frame.proofs.WidePools.{has-room, room-is-free}
 
 -- ---- what is read
 
@@ -125,9 +124,7 @@ module _ {text : MessagesText} {s now : StoreValue} {q q' : Queue} {rank left : 
         ∙ omega (arith, sum_by-append blocks_of f.done (m ∷ next.0), sum_by-cons blocks_of m next.0)
 
     pub next-room : HasRoom s (sum_by blocks_of (messages_now text)) → HasRoom now (blocks_of m)
-    next-room room =
-        let free = room-is-free s (sum_by blocks_of (messages_now text)) room in
-        has-room now (blocks_of m) (omega (arith, room.mblks, f.spent.mblks, all)) (omega (arith, free, f.spent.dblks, all))
+    next-room room = record { mblks = omega (arith, room.mblks, f.spent.mblks, all); dblks = omega (arith, room.dblks, f.spent.dblks, all) }
 
     pub filling-next : (new : StoreValue) (p : Queue) (now_rank : ℕ) → now_rank ≡ rank_of m → queue_in new p ≡ with_messages (messages_on now q'.list ++ m ∷ []) (queue_in now q') → Changes now new q' p → Spent now new (blocks_of m) → Filling text s new q p now_rank count after
     filling-next new p now_rank is queue changes spent =

@@ -14,7 +14,6 @@ use Rattle.strm_laws.specs.Calls.{called, or_stopped, performed, tells}
 use Rattle.strm_laws.specs.Refusals.{turn_refused}
 use Rattle.strm_types.specs.Refused.{or_else, unless}
 use Rattle.strm_pair.specs.Pairs.{free_in}
-use Rattle.strm_frame.proofs.WidePools.{has-room}
 
 -- an ioctl that isn't refused at once sends few bytes, and a number is left for it
 pub few-asked : (s : State ℕ) (caller : Caller) (command : ℕ) (body : List ℕ) → refused_at_once s caller (Ioctl command body) ≡ None → length body ≤ IOCTL_MAX
@@ -31,7 +30,7 @@ number-left s caller command body at_once =
 pub asked-free : (need : ℕ) (s : StoreValue) → enough need (free_in s) ≡ true → HasRoom s need
 asked-free need s is =
     let both = both-true (nat_le need (free_m s)) (nat_le need (free_d s)) is in
-    has-room s need (let first = both.0 in grind (arith, nat_tests)) (let second = both.1 in grind (arith, nat_tests))
+    record { mblks = let first = both.0 in grind (arith, nat_tests); dblks = let second = both.1 in grind (arith, nat_tests) }
 
 -- and so it has where no turn is refused for want of them
 pub turn-free : (s : State ℕ) (es : List PlainEntry) (limits : Config) (has_blocks : Bool) (name : QueueName) → turn_refused s es limits has_blocks name ≡ None → has_blocks ≡ true

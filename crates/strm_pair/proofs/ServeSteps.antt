@@ -16,6 +16,7 @@ use Rattle.strm_types.proofs.CostsOf.{none-few}
 use Rattle.strm_laws.proofs.StackSpares.{acted-falls, units-fit}
 use Rattle.strm_laws.proofs.ModuleTurnCalls.{sent-stays}
 use Rattle.strm_frame.specs.Hands.{MayDeliver}
+use Rattle.strm_frame.proofs.WidePools.{room-left}
 use Rattle.strm_ldterm.specs.Turns.{needs}
 use Rattle.strm_pair.specs.AnyModules.{MayServe, turn_cost}
 use Rattle.strm_pair.specs.declared.service_calls.Call.{Call}
@@ -215,7 +216,7 @@ sent-cost K here sent s =
     ap (λ ns. slice_index_or ns (here.at - 1) 0) (all-cost here (stream here.side u).modules ∙ ap (map (stage_cost here.way)) (sent-stays K sent s here.side) ∙ sym (all-cost here (stream here.side s).modules))
 
 next-room : (s t : StoreValue) (again : Bool) (sent next next' : ℕ) → next' ≡ next → HasRoom s (sent + cond {A = ℕ} again next 0) → Spends s t sent 0 → OnTrue again (HasRoom t next')
-next-room s t true sent next next' same room spends = record { mblks = omega (arith, same, room.mblks, spends.mblks); dblks = omega (arith, same, room.dblks, spends.dblks) }
+next-room s t true sent next next' same room spends = room-left s t (sent + next) sent next' (omega (arith, same)) room spends
 next-room s t false sent next next' same room spends = tt
 
 -- a call whose messages are delivered

@@ -22,7 +22,6 @@ use Rattle.strm_pair.specs.ModuleLists.{either-once}
 use Rattle.strm_pair.proofs.MadeModules.{once-two}
 use Rattle.strm_pair.proofs.ModuleTaken.{once-is}
 use Rattle.strm_pair.proofs.Shown.{all-joined}
-use Rattle.strm_frame.proofs.WidePools.{has-room, room-is-free}
 
 -- ---- one ldterm stands there at most
 
@@ -168,11 +167,10 @@ module _ (ms : List ModuleText) (i : ℕ) (m : ModuleText) (at : m ≡ get_or ms
   few-next each = omega (arith, one-ldterm ms each, sum_by_more_le is_ldterm ms i m within, ap is_ldterm at)
 
   pub room-next : (s t : StoreValue) → HasRoom s (sum_by module_blocks ms) → Spent s t (sum_by module_blocks (take i ms)) → HasRoom t (module_blocks m)
-  room-next s t room spent =
-      let more = sum_by_more_le module_blocks ms i m within in
-      let same = ap module_blocks at in
-      has-room t (module_blocks m) (omega (arith, room.mblks, spent.mblks, more, same))
-      (omega (arith, room-is-free s (sum_by module_blocks ms) room, spent.dblks, more, same))
+  room-next s t room spent = record {
+    mblks = omega (arith, room.mblks, spent.mblks, sum_by_more_le module_blocks ms i m within, ap module_blocks at);
+    dblks = omega (arith, room.dblks, spent.dblks, sum_by_more_le module_blocks ms i m within, ap module_blocks at);
+  }
 
   pub stacked-more : {s t u : StoreValue} {first : ℕ} {xs ys : List AnyStanding} {x : AnyStanding} {was is : Option Tables} → EachOnce (names_now ms) → AreStacked s t first (take i ms) xs was → IsPlaced t u first was is m x → ys ≡ xs ++ x ∷ []
       → AreStacked s u first (take (i + 1) ms) ys is

@@ -111,9 +111,6 @@ joined-hands s t i q q' st can is frees =
     let h = shifts-joined s t i q q' st can is frees in
     record { counts = λ j. let c = h.counts j in omega arith; others = λ j apart kept some. h.others j apart some }
 
-pub frees-spends : (s t : StoreValue) (most : ℕ) → FreesBlocks s t → Spends s t most 0
-frees-spends s t most frees = record { mblks = (let m = frees.mblks in omega arith); dblks = (let d = frees.dblks in omega arith) }
-
 -- the lists of a module's queues are its own
 pub owned-by : (s t : StoreValue) (queues : Option QueuePair) (pair : QueuePair) (own : ℕ → ℕ) → queues ≡ Some pair → OnlyOwn s t (queues_own (Some pair)) own → OnlyOwn s t (queues_own queues) own
 owned-by s t queues pair own is only = subst (λ o. OnlyOwn s t (queues_own o) own) (sym is) only

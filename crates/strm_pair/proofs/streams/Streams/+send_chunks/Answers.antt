@@ -1,12 +1,12 @@
 -- A chunk goes, and the rest is a write of the other chunks.
 use Rattle.strm_pair.proofs.Prelude.{◌≡◌, ◌≤◌, ◌-◌, ◌+◌, ℕ, suc, length, sym, ap, subst, ◌∙◌, arith, delivered-idle}
-use Rattle.strm_pair.specs.Prelude.{plain, data_message, chunks_of, Wrote, below_head, chunks_sent, delivered, HasRoom}
+use Rattle.strm_pair.specs.Prelude.{plain, data_message, chunks_of, Wrote, below_head, chunks_sent, delivered}
 use Rattle.strm_pair.specs.Pairs.{state_in}
 use Rattle.strm_pair.specs.Effects.{Delivers}
 use Rattle.strm_pair.proofs.ChunkSteps.{chunks-none, chunks-full, chunks-more}
 use Rattle.strm_pair.proofs.DataLemmas.{front-256, back-256}
 use Rattle.strm_pair.proofs.Leading.{leads-both, leads-nowhere, rests-behind}
-use Rattle.strm_frame.proofs.WidePools.{wide-on}
+use Rattle.strm_frame.proofs.WidePools.{room-left, wide-on}
 use Rattle.strm_pair.proofs.streams.Streams.+send_chunks.Goals as goal
 
 pub returns-then-chunks-eq0-clause-taken : goal.returns-then-chunks-eq0-clause-taken
@@ -49,9 +49,7 @@ send_chunks-more-requires g t c κs within =
     let chunk = data_message c.split_at.result.0.now in
     let sent = delivered K plain (below_head c.args.side) chunk old in
     let rests = rests-behind s mid c.send_chunk.new.self c.args.told.now c.send_chunk.new.told sent.state sent.gone c.send_chunk.ensures.delivers.leads (delivered-idle K plain (below_head c.args.side) chunk old c.requires.rests.idle) in
-    let room = c.requires.room in
-    let spends = c.send_chunk.ensures.spends in
-    let left : HasRoom mid (c.args.chunks - 1) = record { mblks = omega (arith, some, room.mblks, spends.mblks); dblks = omega (arith, some, room.dblks, spends.dblks) } in
+    let left = room-left s mid c.args.chunks 1 (c.args.chunks - 1) (omega (arith, some)) c.requires.room c.send_chunk.ensures.spends in
     let pool = c.send_chunk.ensures.delivers.leads.pool in
     (omega arith, (within.0, (within.1, (rests, (left, wide-on g.M.OwnModule.wide s mid pool.mblks pool.dblks c.requires.wide)))))
 

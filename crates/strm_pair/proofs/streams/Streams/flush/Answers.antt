@@ -7,7 +7,7 @@ use Rattle.strm_types.specs.Budgets.{most_on}
 use Rattle.strm_pair.specs.Pairs.{state_in}
 use Rattle.strm_pair.proofs.InHand.{made-alone, made-state, made-leads, made-left}
 use Rattle.strm_pair.proofs.PlaceCosts.{may-by}
-use Rattle.strm_frame.proofs.WidePools.{has-room, room-is-free, wide-on}
+use Rattle.strm_frame.proofs.WidePools.{wide-on}
 use Rattle.strm_pair.proofs.streams.Streams.flush.Goals as goal
 
 pub deliver_alone-requires-clause-alone : goal.deliver_alone-requires-clause-alone
@@ -33,7 +33,7 @@ deliver_alone-requires-clause-room g c =
     let same = ap spare (made-state s made c.args.self.now c.requires.may.rests i sends.after) in
     let room = c.requires.may.room in
     may-by made (spare (state_in made c.args.self.now)) (record { side = c.args.side; at = 1; way = Down }) (message_of (in_hand made i)) (flush_message (flush_bytes c.of.result)) 5 sends.shows (flush-few c.args.side c.of.result)
-    (has-room made 5 (omega (arith, room.mblks, sends.room_m)) (omega (arith, room-is-free s 6 room, sends.room_d))) (omega (arith, same, range-spare (state_in s c.args.self.now) c.requires.may.range))
+    (record { mblks = omega (arith, room.mblks, sends.room_m); dblks = omega (arith, room.dblks, sends.room_d) }) (omega (arith, same, range-spare (state_in s c.args.self.now) c.requires.may.range))
 
 pub returns-clause-delivers : goal.returns-clause-delivers
 returns-clause-delivers g c =

@@ -7,7 +7,7 @@ use Rattle.strm_msg.proofs.Bounds.{bytes-few}
 use Rattle.strm_msg.proofs.Chains.{size-shown}
 use Rattle.strm_pair.specs.Pairs.{state_in}
 use Rattle.strm_pair.proofs.TurnSteps.{ended-spare, taken-idle, taken-spare, up-few}
-use Rattle.strm_frame.proofs.WidePools.{has-room, room-is-free, wide-on}
+use Rattle.strm_frame.proofs.WidePools.{wide-on}
 use Rattle.strm_pair.proofs.streams.Streams.move_across.Goals as goal
 
 pub deliver_alone-requires-clause-alone : goal.deliver_alone-requires-clause-alone
@@ -29,10 +29,8 @@ deliver_alone-requires-clause-room g c =
     let few = up-few c.other-above.result c.modules_on-at.result m in
     let e = c.in-Some.ensures.frees in
     let room = c.requires.may.room in
-    let free = room-is-free (g.B.Blocks.value c.args.store.now) 8 room in
-    let left = has-room (g.B.Blocks.value c.take_first.new.store) 8 (omega (arith, e.mblks, room.mblks)) (omega (arith, e.dblks, free)) in
     record {
-      room = record { mblks = omega (arith, few, left.mblks); dblks = omega (arith, few, left.dblks) };
+      room = record { mblks = omega (arith, few, e.mblks, room.mblks); dblks = omega (arith, few, e.dblks, room.dblks) };
       spare = omega (arith, few, range-spare old c.requires.may.range, ap spare c.in-Some.ensures.state, taken-spare c.args.side (left_with c.in-Some.ensures.rest (stream c.args.side old).driver.queue) old);
     }
 

@@ -8,7 +8,7 @@ use Rattle.strm_pair.specs.Effects.{Leads}
 use Rattle.strm_pair.proofs.Dropping.{same-sought, slot-stays}
 use Rattle.strm_pair.proofs.Idle.{top-idle}
 use Rattle.strm_pair.proofs.Leading.{leads-then, rests-behind}
-use Rattle.strm_frame.proofs.WidePools.{has-room, room-is-free, wide-on}
+use Rattle.strm_frame.proofs.WidePools.{wide-on}
 use Rattle.strm_pair.proofs.streams.Streams.pop.Goals as goal
 
 pub put_mode-requires-clause-rests : goal.put_mode-requires-clause-rests
@@ -23,8 +23,7 @@ pub put_mode-requires-clause-room : goal.put_mode-requires-clause-room
 put_mode-requires-clause-room g c =
     let frees = c.take_top-taken.ensures.taken.frees in
     let room = c.requires.room in
-    let free = room-is-free (g.B.Blocks.value c.args.store.now) 1 room in
-    has-room (g.B.Blocks.value c.take_top-taken.new.store) 1 (omega (arith, frees.mblks, room.mblks)) (omega (arith, frees.dblks, free))
+    record { mblks = omega (arith, frees.mblks, room.mblks); dblks = omega (arith, frees.dblks, room.dblks) }
 
 pub put_mode-requires-clause-wide : goal.put_mode-requires-clause-wide
 put_mode-requires-clause-wide g c =

@@ -5,8 +5,7 @@ use Rattle.strm_pair.specs.Pairs.{state_in}
 use Rattle.strm_pair.proofs.ChunkSteps.{chunk-free}
 use Rattle.strm_pair.proofs.InHand.{made-alone, made-leads, made-left}
 use Rattle.strm_pair.proofs.PlaceCosts.{may-by}
-use Rattle.strm_frame.specs.Hands.{SamePool}
-use Rattle.strm_frame.proofs.WidePools.{room-fewer, wide-on}
+use Rattle.strm_frame.proofs.WidePools.{spends-free, wide-on}
 use Rattle.strm_pair.proofs.streams.Streams.send_chunk.Goals as goal
 
 pub deliver_alone-requires-clause-alone : goal.deliver_alone-requires-clause-alone
@@ -30,10 +29,10 @@ returns-clause-spends g c =
     let free = free-of c.args.side c.args.chunk.now (message_of (in_hand (g.B.Blocks.value c.write-message.new.store) (token c.write-message.result))) c.write-message.ensures.shows in
     let blocks = c.deliver_alone.ensures.takes.blocks in
     let sends = c.write-message.ensures in
-    let pool : SamePool (g.B.Blocks.value c.args.store.now) (g.B.Blocks.value c.write-message.new.store) =
-    record { mblks = ap (λ (v : StoreValue). v.mblks) sends.after; dblks = ap (λ (v : StoreValue). v.dblks) sends.after } in
-    let made = room-fewer _ _ pool 1 (omega (arith, sends.room_m)) (omega (arith, sends.room_d)) in
-    record { mblks = omega (arith, free, blocks.mblks, sends.room_m); dblks = omega (arith, free, blocks.dblks, made) }
+    let made = spends-free (g.B.Blocks.value c.args.store.now) (g.B.Blocks.value c.write-message.new.store)
+    (record { mblks = ap (λ (v : StoreValue). v.mblks) sends.after; dblks = ap (λ (v : StoreValue). v.dblks) sends.after }) 1 0
+    (omega (arith, sends.room_m)) (omega (arith, sends.room_d)) in
+    record { mblks = omega (arith, free, blocks.mblks, made.mblks); dblks = omega (arith, free, blocks.dblks, made.dblks) }
 
 pub returns-clause-delivers : goal.returns-clause-delivers
 returns-clause-delivers g c =

@@ -12,8 +12,7 @@ use Rattle.strm_pair.specs.Effects.{AreAtRest, Becomes, Leads}
 use Rattle.strm_pair.proofs.Idle.{idle-with}
 use Rattle.strm_pair.proofs.InHand.{made-alone, made-state, made-leads, made-left}
 use Rattle.strm_pair.proofs.PlaceCosts.{may-by}
-use Rattle.strm_types.specs.declared.limits.TheConstants.{IOCTL_BLOCKS}
-use Rattle.strm_frame.proofs.WidePools.{has-room, room-is-free, wide-on}
+use Rattle.strm_frame.proofs.WidePools.{wide-on}
 use Rattle.strm_pair.proofs.streams.Streams.send_ioctl.Goals as goal
 
 -- the modules stay where an ioctl begins
@@ -58,7 +57,7 @@ deliver_alone-requires-clause-room g c =
     let begun = made-state s made q rests i sends.after ∙ c.begin_ioctl.ensures.state s in
     let room = c.requires.may.room in
     may-by made (spare (state_in made q)) (record { side = c.args.side; at = 1; way = Down }) (message_of (in_hand made i)) (ioctl_message c.asking.result c.args.body.now) 30 sends.shows (ioctl-few c.args.side c.asking.result c.args.body.now)
-    (has-room made 30 (omega (arith, room.mblks, sends.room_m, blocks-few c.args.body.now)) (omega (arith, room-is-free s IOCTL_BLOCKS room, sends.room_d, blocks-few c.args.body.now)))
+    (record { mblks = omega (arith, room.mblks, sends.room_m, blocks-few c.args.body.now); dblks = omega (arith, room.dblks, sends.room_d, blocks-few c.args.body.now) })
     (omega (arith, ap spare begun, begun-spare c.args.side c.args.command (state_in s p), range-spare (state_in s p) c.requires.may.range))
 
 pub returns : goal.returns

@@ -18,7 +18,8 @@ use Rattle.strm_tests.specs.Toys.{Stock, onward, stocks}
 use Rattle.strm_frame.specs.declared.queue_pair.QueuePair.{QueuePair}
 use Rattle.strm_frame.specs.Standings.{IsPairReady, pair_in, queues_in, queues_own, standing, standing_in}
 use Rattle.strm_frame.proofs.Handing.{can-in_hand, no-parts, none-chains, none-hands, one-parts, one-chains, one-hands}
-use Rattle.strm_tests.proofs.ToySteps.{changed-own, changed-pair, changed-ready, kind-stays, stocks-stay, stocks-on, joined-hands, frees-spends, never-bare, owned-by, pair-ready}
+use Rattle.strm_frame.proofs.WidePools.{frees-spends}
+use Rattle.strm_tests.proofs.ToySteps.{changed-own, changed-pair, changed-ready, kind-stays, stocks-stay, stocks-on, joined-hands, never-bare, owned-by, pair-ready}
 use Rattle.strm_tests.proofs.frame.stock.StockPutProcedureUnit.put.Goals as goal
 
 pub kind-kind-requires-clause-in_hand : goal.kind-kind-requires-clause-in_hand
@@ -61,7 +62,7 @@ returns-then-stays g c =
       own = subst (λ (p : QueuePair). OnlyOwn s t (queues_own c.args.queues.now) (queues_own (Some p))) (sym is) (owned-by s t c.args.queues.now pair _ c.in-Some.is (changed-own s t hand pair ready q e.changes));
       chains = none-chains _ _ c.none.ensures;
       hands = none-hands _ _ (once n) (λ _. 0) (λ _. 0) _ c.none.ensures (joined-hands s _ n _ _ c.audit.ensures c.requires.can_put e.changes e.frees);
-      spends = frees-spends _ _ _ e.frees;
+      spends = frees-spends s t (record { mblks = e.changes.mblks; dblks = e.changes.dblks }) e.frees _;
       blocks = λ holds held. e.blocks;
       pool = search rules;
     }
