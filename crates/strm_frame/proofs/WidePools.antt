@@ -107,7 +107,9 @@ module _ (s t : StoreValue) where
 
   -- in a store with as many data blocks as message blocks what was taken of message blocks says it
   pub spends-wide : s.mblks ≤ s.dblks → SamePool s t → (most later : ℕ) → free_m s + later ≤ free_m t + most → Spends s t most later
-  spends-wide wide pool most later m = record { mblks = m; dblks = omega (arith, m, room-wide s wide, room-wide t (omega (arith, wide, pool.mblks, pool.dblks))) }
+  spends-wide wide pool most later m =
+      let still : t.mblks ≤ t.dblks = omega (arith, wide, pool.mblks, pool.dblks) in
+      record { mblks = m; dblks = omega (arith, m, room-wide s wide, room-wide t still) }
 
   pub frees-spends : SamePool s t → FreesBlocks s t → (most : ℕ) → Spends s t most 0
   frees-spends pool frees most = spends-free pool most 0 (omega (arith, frees.mblks)) (omega (arith, frees.dblks))
@@ -118,7 +120,8 @@ module _ (s t : StoreValue) where
       room-there t left (omega (arith, le, room.mblks, spends.mblks)) (omega (arith, le, free-le-room s n room, spends.dblks))
 
   pub room-on : (most later : ℕ) → HasRoom s most → Spends s t most later → HasRoom t later
-  room-on most later room spends = room-there t later (omega (arith, room.mblks, spends.mblks)) (omega (arith, free-le-room s most room, spends.dblks))
+  room-on most later room spends =
+      room-there t later (omega (arith, room.mblks, spends.mblks)) (omega (arith, free-le-room s most room, spends.dblks))
 
 -- a store stays as wide as it is wanted, where it has as many blocks as before
 pub wide-on : (wanted : Bool) (s t : StoreValue) → t.mblks ≡ s.mblks → t.dblks ≡ s.dblks → IsWide wanted s → IsWide wanted t

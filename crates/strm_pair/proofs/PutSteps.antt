@@ -98,7 +98,9 @@ handled s t m n come kept keeps same hands = record {
 }
 
 spent : (s t : StoreValue) (gone come : ℕ → ℕ) (n k : ℕ) → n ≤ k → Shifts s t gone come n → Spends s t k 0
-spent s t gone come n k le hands = let b = shifts-spends s t gone come n hands in record { mblks = omega (arith, b.mblks, le); dblks = omega (arith, b.dblks, le) }
+spent s t gone come n k le hands =
+    let b = shifts-spends s t gone come n hands in
+    record { mblks = omega (arith, b.mblks, le); dblks = omega (arith, b.dblks, le) }
 
 -- what is kept is in hand, beside the message that is put
 put-stays : (s t : StoreValue) (m n : ℕ) (come keeps : ℕ → ℕ) → IsStore s → CanPut s m keeps → Shifts s t (once m) come n → Stays s t keeps

@@ -5,7 +5,8 @@ use Rattle.strm_types.specs.Owns.{Own}
 use Rattle.strm_frame.specs.declared.parcels.Outbox.{Outbox}
 
 -- It did what a definition says: `message` has gone, what is sent on has come in hand, and what was dropped is told by its rule. No list of the
--- store changed. No more blocks of each kind were taken than `most`.
+-- store changed. No more blocks of each kind were taken than `most`, of data blocks of those that may be counted on: so a message may be freed and
+-- another one taken with as many blocks, whatever is shared, where the store has as many data blocks as message blocks.
 pub record OwnPuts (old new : StoreValue) (x : Own) (message most : ℕ) (out : Outbox) (t t' : Fates) (is : Acted ℕ Own) : Type 0 where
   pub state : x ≡ is.state
   pub sent : parcels_in new (sent_of out) ≡ is.sent

@@ -82,8 +82,8 @@ impl Own {
 /// What modules of a user's own do, all kinds of them, by their numbers.
 ///
 /// A user says by [`Behaves`] what they do over any cells, with the laws of that: no cell is lost or doubled, and a put keeps within the table of
-/// such modules. A put takes no more blocks than it frees: it hands the message on, with its bytes changed or not, answers an M_IOCTL, or frees what it
-/// drops and tells the rule.
+/// such modules. A put takes no more blocks than it frees: it hands the message on, with its bytes changed or not, answers an M_IOCTL, or frees what
+/// it drops and tells the rule.
 ///
 /// A block whose data block another message shares (dupb(9F)) is written anew: the message is freed, and another one taken with as many blocks. That
 /// data block isn't free then, and so a module that does this says that it is `wide`. A pair with such modules stands over a store that has at

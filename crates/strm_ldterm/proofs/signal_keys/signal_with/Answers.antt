@@ -15,7 +15,8 @@ flush_typed-requires-clause-room g c = room-one _ c.requires.room
 
 pub send_key-requires-2-clause-room : goal.send_key-requires-2-clause-room
 send_key-requires-2-clause-room g c =
-    room-left (g.B.Blocks.value c.args.store.now) (g.B.Blocks.value c.flush_typed.new.store) 2 1 1 (omega arith) c.requires.room c.flush_typed.ensures.spends
+    let typed = c.flush_typed in
+    room-left (g.B.Blocks.value c.args.store.now) (g.B.Blocks.value typed.new.store) 2 1 1 (omega arith) c.requires.room typed.ensures.spends
 
 pub returns-then-keeps : goal.returns-then-keeps
 returns-then-keeps g c = λ q held kept.

@@ -50,7 +50,7 @@ invariant_of-self g c =
             leads = refl;
           })
           c.add_call.ensures.within leads (subst FewBooked (sym leads.state) few) added c.add_call.ensures.most_entries c.add_call.ensures.most_bytes;
-      wide = wide-on g.M.OwnModule.wide s new c.carry_out-answer.ensures.leads.pool.mblks c.carry_out-answer.ensures.leads.pool.dblks c.self.invariant.wide;
+      wide = (let pool = c.carry_out-answer.ensures.leads.pool in wide-on g.M.OwnModule.wide s new pool.mblks pool.dblks c.self.invariant.wide);
       written = c.self.invariant.written;
     }
 

@@ -29,7 +29,7 @@ invariant_of-self g c =
             leads = refl;
           })
           tt c.turn-turn.ensures.leads c.turn-turn.ensures.few c.add_turn.ensures.added c.add_turn.ensures.most_entries c.add_turn.ensures.most_bytes;
-      wide = wide-on g.M.OwnModule.wide s new c.turn-turn.ensures.leads.pool.mblks c.turn-turn.ensures.leads.pool.dblks c.self.invariant.wide;
+      wide = (let pool = c.turn-turn.ensures.leads.pool in wide-on g.M.OwnModule.wide s new pool.mblks pool.dblks c.self.invariant.wide);
       written = c.self.invariant.written;
     }
 

@@ -16,11 +16,10 @@ deliver_all-requires-clause-may g c =
 
 pub deliver_all-requires-clause-held : goal.deliver_all-requires-clause-held
 deliver_all-requires-clause-held g c =
+    let s = g.B.Blocks.value c.args.store.now in
+    let t = g.B.Blocks.value c.act-served.new.store in
     let e = c.act-served.ensures in
-    record {
-      beside = e.beside;
-      wide = wide-on g.M.OwnModule.wide (g.B.Blocks.value c.args.store.now) (g.B.Blocks.value c.act-served.new.store) e.pool.mblks e.pool.dblks c.requires.wide;
-    }
+    record { beside = e.beside; wide = wide-on g.M.OwnModule.wide s t e.pool.mblks e.pool.dblks c.requires.wide }
 
 pub returns : goal.returns
 returns g c =

@@ -86,5 +86,6 @@ returns g c =
 pub deliver_alone-requires-clause-wide : goal.deliver_alone-requires-clause-wide
 deliver_alone-requires-clause-wide g c =
     let after = c.make_ioctl-message.ensures.after in
-    wide-on g.M.OwnModule.wide (g.B.Blocks.value c.args.store.now) (g.B.Blocks.value c.make_ioctl-message.new.store) (ap (λ (v : StoreValue). v.mblks) after)
-    (ap (λ (v : StoreValue). v.dblks) after) c.requires.wide
+    let s = g.B.Blocks.value c.args.store.now in
+    let t = g.B.Blocks.value c.make_ioctl-message.new.store in
+    wide-on g.M.OwnModule.wide s t (ap (λ (v : StoreValue). v.mblks) after) (ap (λ (v : StoreValue). v.dblks) after) c.requires.wide

@@ -19,7 +19,8 @@ use Rattle.strm_frame.specs.declared.queue_pair.QueuePair.{QueuePair}
 use Rattle.strm_frame.specs.Standings.{IsPairReady, pair_in, queues_in, queues_own, standing, standing_in}
 use Rattle.strm_frame.proofs.Handing.{can-in_hand, no-parts, none-chains, none-hands, one-parts, one-chains, one-hands}
 use Rattle.strm_frame.proofs.WidePools.{frees-spends}
-use Rattle.strm_tests.proofs.ToySteps.{changed-own, changed-pair, changed-ready, kind-stays, stocks-stay, stocks-on, joined-hands, never-bare, owned-by, pair-ready}
+use Rattle.strm_tests.proofs.ToySteps.{changed-own, changed-pair, changed-ready, kind-stays, stocks-stay}
+use Rattle.strm_tests.proofs.ToySteps.{stocks-on, joined-hands, never-bare, owned-by, pair-ready}
 use Rattle.strm_tests.proofs.frame.stock.StockPutProcedureUnit.put.Goals as goal
 
 pub kind-kind-requires-clause-in_hand : goal.kind-kind-requires-clause-in_hand
