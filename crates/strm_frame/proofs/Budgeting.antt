@@ -34,7 +34,9 @@ module _ (table : At → Costs) (hops : ℕ) (a : At) (s : StoreValue) (was : �
 
     pub sent-may : (t : StoreValue) (is : ℕ) → Takes s t was is (table a).own 0 → MayDeliver t is (cost_of (budget table (hops - 1)) sent)
     sent-may t is takes = record {
-      room = (let n = cost_of (budget table (hops - 1)) sent in room-left s t (budget table hops a) (table a).own n (omega (arith, sent-few)) may.room takes.blocks);
+      room =
+          (let n = cost_of (budget table (hops - 1)) sent in
+          room-left s t (budget table hops a) (table a).own n (omega (arith, sent-few)) may.room takes.blocks);
       spare = omega (arith, sent-few, may.spare, takes.spare);
       ends = omega (arith, sent-few, may.ends);
     }

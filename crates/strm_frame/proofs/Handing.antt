@@ -124,7 +124,11 @@ module _ (s0 s t : StoreValue) (gone kept keeps keeps' : ℕ → ℕ) (x : Sent)
   next-may cost most was is may takes ends =
       let e = cost-split cost in
       let left = room-on s0 s most (cost_of cost (parcels_in s all)) may.room takes.blocks in
-      record { room = record { mblks = omega (arith, e, left.mblks); dblks = omega (arith, e, left.dblks) }; spare = (let a = may.spare in let b = takes.spare in omega arith); ends = omega (arith, e, ends) }
+      record {
+        room = record { mblks = omega (arith, e, left.mblks); dblks = omega (arith, e, left.dblks) };
+        spare = (let a = may.spare in let b = takes.spare in omega arith);
+        ends = omega (arith, e, ends);
+      }
 
   module _ (carried : Hands s t (token x.message) keeps keeps' (λ _. 0)) where
     -- and then the rest is as if it alone had been sent

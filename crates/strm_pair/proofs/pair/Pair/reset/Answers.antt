@@ -48,8 +48,10 @@ invariant_of-self g c =
     record {
       kept = fresh-kept K _ _ _ _ l _ start blank as_new c.clear.ensures.empty (c.clear.ensures.most_entries ∙ kept.events) (c.clear.ensures.most_bytes ∙ kept.bytes) c.none-self-inside.ensures;
       wide =
-          (let made = c.reset.ensures in
-          wide-on g.M.OwnModule.wide old (g.B.Blocks.value c.reset.new.self) (ap (λ (v : StoreValue). v.mblks) made) (ap (λ (v : StoreValue). v.dblks) made) c.self.invariant.wide);
+          (let new = g.B.Blocks.value c.reset.new.self in
+          let mblks = ap (λ (v : StoreValue). v.mblks) c.reset.ensures in
+          let dblks = ap (λ (v : StoreValue). v.dblks) c.reset.ensures in
+          wide-on g.M.OwnModule.wide old new mblks dblks c.self.invariant.wide);
       written = is-written c.write.new.self _ _ _ l c.write.ensures.start c.write.ensures.text (omega (arith, c.self.invariant.written.room, c.write.ensures.memory));
     }
 
