@@ -26,3 +26,4 @@ pub mod Pulling
 pub mod Sharing
 pub mod Taking
 pub mod Retyping
+pub mod WidePools
