@@ -47,7 +47,7 @@ pub one-emptied : (chain : List Block) → length chain ≡ 1 → length (filled
 one-emptied chain one less = nil_from_length (filled_blocks chain) (omega (arith, one, less))
 
 -- a message that goes from the hand was one of its name
-times-out : (i j : ℕ) (hand : List Held) → 0 < times_in i hand → times_in j (without i hand) + cond (eqb i j) 1 0 ≡ times_in j hand
+pub times-out : (i j : ℕ) (hand : List Held) → 0 < times_in i hand → times_in j (without i hand) + cond (eqb i j) 1 0 ≡ times_in j hand
 times-out i j [] some = absurd (omega arith)
 times-out i j (h ∷ hand) some =
     let named = sum_by-cons (λ (x : Held). cond (eqb x.name i) 1 0) h hand in

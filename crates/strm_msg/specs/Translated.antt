@@ -1,5 +1,5 @@
 -- A message whose data part has other bytes, by a table of 256 (a code page).
-use Rattle.std.specs.Prelude.{ℕ, ◌≡◌, ◌<◌, ◌+◌, ◌==◌, if◌then◌else◌, List, [], ◌∷◌, ◌++◌, length, map, drop, option_map, slice_index_or}
+use Rattle.std.specs.Prelude.{ℕ, ◌≡◌, ◌<◌, ◌+◌, ◌==◌, if◌then◌else◌, List, [], ◌∷◌, ◌++◌, length, map, option_map, slice_index_or}
 use Rattle.strm_types.specs.Kinds.{is_body_kind}
 use Rattle.strm_types.specs.Message.{Message}
 use Rattle.strm_blocks.specs.Blocks.{Block, StoreValue, block_at, dropped, filled_block, free_m, in_hand, times_in}
@@ -22,11 +22,12 @@ translated_block table b = filled_block b.kind b.band (if is_body_kind b.kind th
 abbrev pub translated_message : List ℕ → Message ℕ → Message ℕ
 translated_message table m = record m { body = option_map (translated table) m.body }
 
--- A message whose first block went to its end, with other bytes there.
-pub record Turned (old new : StoreValue) (message name : ℕ) (table : List ℕ) : Type 0 where
+-- A message is in hand in place of another one. Its last block is the first of that one, with other bytes, and the blocks in
+-- front of it are named.
+pub record Turned (old new : StoreValue) (message name : ℕ) (table : List ℕ) (front : List Block) : Type 0 where
   pub block : Block
   pub shown : shown_block block ≡ translated_block table (block_at 0 (in_hand old message))
-  pub beside : Beside (dropped old message) new name (drop 1 (in_hand old message) ++ block ∷ [])
+  pub beside : Beside (dropped old message) new name (front ++ block ∷ [])
 
 -- 1 for the name itself
 abbrev pub one_of : ℕ → ℕ → ℕ

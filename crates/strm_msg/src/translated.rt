@@ -1,5 +1,5 @@
 //! Other bytes in the data part of a message, by a table.
-ghost use Rattle.std.specs.Prelude.{◌≡◌, ◌≤◌, length, take};
+ghost use Rattle.std.specs.Prelude.{◌≡◌, ◌≤◌, [], length, take, drop};
 ghost use Rattle.strm_blocks.specs.Blocks.{IsInHand, block_at, dropped, filled_block, in_hand, token};
 ghost use Rattle.strm_blocks.specs.Outcomes.{Copied};
 ghost use Rattle.strm_msg.specs.Messages.{IsChain};
@@ -43,20 +43,33 @@ fn exchange<B: Blocks>(store: &mut B, block: InHand, table: &[u8]) -> InHand
     made
 }
 
-/// Takes the first block of a message to its end, and exchanges it if it is M_DATA: `unlinkb(9F)`, `linkb(9F)`.
+/// Exchanges a message of one block if that is of the data part.
+fn translate_block<B: Blocks>(store: &mut B, block: InHand, table: &[u8]) -> InHand
+    requires in_hand { IsInHand (B.value store.old) (token block) }
+    requires single { length (in_hand (B.value store.old) (token block)) ≡ 1 }
+    requires table { length table.now ≡ 256 }
+    requires wide { (B.value store.old).mblks ≤ (B.value store.old).dblks }
+    ensures { Turned (B.value store.old) (B.value store.new) (token block) (token result) table.now [] }
+{
+    if store.kind(&block, 0).is_body_kind() {
+        return exchange(store, block, table);
+    }
+    block
+}
+
+/// Takes the first block of a message to its end, with other bytes if it is of the data part: `unlinkb(9F)`, `linkb(9F)`.
 fn turn<B: Blocks>(store: &mut B, message: InHand, table: &[u8]) -> InHand
     requires in_hand { IsInHand (B.value store.old) (token message) }
     requires table { length table.now ≡ 256 }
     requires wide { (B.value store.old).mblks ≤ (B.value store.old).dblks }
-    ensures { Turned (B.value store.old) (B.value store.new) (token message) (token result) table.now }
+    ensures { let chain = in_hand (B.value store.old) (token message) in
+        Turned (B.value store.old) (B.value store.new) (token message) (token result) table.now (drop 1 chain) }
 {
-    store.audit();
-    let is_body = store.kind(&message, 0).is_body_kind();
     let (first, rest) = store.unlink(message);
-    let first = if is_body { exchange(store, first, table) } else { first };
+    let last = translate_block(store, first, table);
     match rest {
-        Some(rest) => store.link(rest, first),
-        None => first,
+        Some(rest) => store.link(rest, last),
+        None => last,
     }
 }
 
