@@ -238,6 +238,7 @@ module _ (s : StoreValue) (i : ℕ) {t : StoreValue} {k : ℕ} {chain : List Blo
 
   pub swapped : {table : List ℕ} → message_of chain ≡ translated_message table (message_of (in_hand s i)) → IsChain chain → Translated s t i k table
   swapped {table} shown one = record {
+    here = b.here;
     shown = ap message_of b.chain_is ∙ shown;
     blocks = ap length b.chain_is ∙ long;
     one = subst IsChain (sym b.chain_is) one;

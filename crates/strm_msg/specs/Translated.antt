@@ -2,7 +2,7 @@
 use Rattle.std.specs.Prelude.{ℕ, ◌≡◌, ◌<◌, ◌+◌, ◌==◌, if◌then◌else◌, List, [], ◌∷◌, ◌++◌, length, map, option_map, slice_index_or}
 use Rattle.strm_types.specs.Kinds.{is_body_kind}
 use Rattle.strm_types.specs.Message.{Message}
-use Rattle.strm_blocks.specs.Blocks.{Block, StoreValue, block_at, dropped, filled_block, free_m, in_hand, times_in}
+use Rattle.strm_blocks.specs.Blocks.{Block, IsInHand, StoreValue, block_at, dropped, filled_block, free_m, in_hand, times_in}
 use Rattle.strm_msg.specs.Emptied.{Beside}
 use Rattle.strm_msg.specs.Messages.{IsChain, message_of}
 
@@ -36,6 +36,7 @@ one_of name j = if name == j then 1 else 0
 -- A message in hand has gone, and one that has other bytes in its data part is there. It has as many blocks, so as many
 -- message blocks are free. No list changed, and the other messages in hand are as they were.
 pub record Translated (old new : StoreValue) (message name : ℕ) (table : List ℕ) : Type 0 where
+  pub here : IsInHand new name
   pub shown : message_of (in_hand new name) ≡ translated_message table (message_of (in_hand old message))
   pub blocks : length (in_hand new name) ≡ length (in_hand old message)
   pub one : IsChain (in_hand new name)
