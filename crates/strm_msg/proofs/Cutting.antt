@@ -17,7 +17,7 @@ use Rattle.strm_msg.specs.Runs.{same_kind, front_run}
 use Rattle.strm_msg.specs.Taken.{without_control, without_data, filled}
 use Rattle.strm_msg.proofs.AdjustingBytes.{bytes-append}
 use Rattle.strm_msg.proofs.AdjustingBlocks.{adjusted-none}
-use Rattle.strm_msg.proofs.Outlines.{OfKind, outline, outlined-kind, outlined-band, outlined-chain}
+use Rattle.strm_msg.proofs.Outlines.{OfKind, behind-is, front-is, outline, outlined-kind, outlined-band, outlined-chain}
 use Rattle.strm_msg.proofs.Chains.{control-none, control-front, data-behind, data-all, data-or-control, control-body, data-control}
 use Rattle.strm_msg.proofs.Parts.{control-blocks-cons}
 use Rattle.strm_msg.proofs.Taking.{drop-append, drop-least}
@@ -161,8 +161,8 @@ module _ (n : ℕ) (chain : List Block) (one : IsChain chain) (has : n ≤ lengt
       record {
         run = ap (λ xs. length (bytes_of xs)) (run ∙ sym control);
         cut = ap (λ xs. trimmed_by trimmed_head n (take (length xs) chain) ++ drop (length xs) chain) run
-            ∙ ap (λ xs. trimmed_by trimmed_head n xs ++ drop (length p.front) chain) (front-is k chain chain refl p)
-            ∙ ap (λ xs. trimmed_by trimmed_head n p.front ++ xs) (behind-is k chain chain refl p)
+            ∙ ap (λ xs. trimmed_by trimmed_head n xs ++ drop (length p.front) chain) (front-is p)
+            ∙ ap (λ xs. trimmed_by trimmed_head n p.front ++ xs) (behind-is p)
             ∙ sym (ap (without_control n) p.joined ∙ cut-front k is n p.front p.behind p.of_kind p.of_data);
       }
 

@@ -53,28 +53,29 @@ outlined-front n old new same = sym (take-map outline n new) ∙ ap (take n) sam
 outlined-behind : (n : ℕ) (old new : List Block) → map outline new ≡ map outline old → map outline (drop n new) ≡ map outline (drop n old)
 outlined-behind n old new same = sym (drop-map outline n new) ∙ ap (drop n) same ∙ drop-map outline n old
 
-module _ (k : MsgKind) (old new : List Block) (same : map outline new ≡ map outline old) (p : IsParted k old) where
-  abbrev count : ℕ
-  count = length p.front
+-- the two parts of a chain, by how many blocks the first one has
+module _ {k : MsgKind} {chain : List Block} (p : IsParted k chain) where
+  pub front-is : take (length p.front) chain ≡ p.front
+  front-is = ap (take (length p.front)) p.joined ∙ take-append_seam p.front p.behind
 
-  front-is : take count old ≡ p.front
-  front-is = ap (take count) p.joined ∙ take-append_seam p.front p.behind
+  pub behind-is : drop (length p.front) chain ≡ p.behind
+  behind-is = ap (drop (length p.front)) p.joined ∙ drop-append_seam p.front p.behind
 
-  behind-is : drop count old ≡ p.behind
-  behind-is = ap (drop count) p.joined ∙ drop-append_seam p.front p.behind
-
-  outlined-parted : IsParted k new
-  outlined-parted =
-      let long = outlined-length old new same in
-      let whole = ap length p.joined ∙ length-append p.front p.behind in
-      record {
-        front = take count new;
-        behind = drop count new;
-        joined = sym (take-append-drop count new);
-        some = omega (arith, length-take count new, long, whole, p.some);
-        of_kind = outlined-all (take count old) (take count new) (outlined-front count old new same) k (subst (OfKind k) (sym front-is) p.of_kind);
-        of_data = outlined-all (drop count old) (drop count new) (outlined-behind count old new same) kinds.Data (subst AreData (sym behind-is) p.of_data);
-      }
+outlined-parted : (k : MsgKind) (old new : List Block) → map outline new ≡ map outline old → IsParted k old → IsParted k new
+outlined-parted k old new same p =
+    let count = length p.front in
+    let long = outlined-length old new same in
+    let whole = ap length p.joined ∙ length-append p.front p.behind in
+    let front = subst (OfKind k) (sym (front-is p)) p.of_kind in
+    let behind = subst AreData (sym (behind-is p)) p.of_data in
+    record {
+      front = take count new;
+      behind = drop count new;
+      joined = sym (take-append-drop count new);
+      some = omega (arith, length-take count new, long, whole, p.some);
+      of_kind = outlined-all (take count old) (take count new) (outlined-front count old new same) k front;
+      of_data = outlined-all (drop count old) (drop count new) (outlined-behind count old new same) kinds.Data behind;
+    }
 
 pub outlined-chain : (old new : List Block) → map outline new ≡ map outline old → IsChain old → IsChain new
 outlined-chain old new same one =
@@ -83,7 +84,8 @@ outlined-chain old new same one =
     record {
       some = omega (arith, outlined-length old new same, one.some);
       all_data = λ is. outlined-all old new same kinds.Data (one.all_data (sym kind ∙ is));
-      parted = λ is. subst (λ k. IsParted k new) (sym kind) (outlined-parted (block_at 0 old).kind old new same (one.parted (ap is_control_kind (sym kind) ∙ is)));
+      parted = λ is. subst (λ k. IsParted k new) (sym kind)
+          (outlined-parted (block_at 0 old).kind old new same (one.parted (ap is_control_kind (sym kind) ∙ is)));
       high = λ is. band ∙ one.high (ap is_high_priority (sym kind) ∙ is);
       low = omega (arith, band, one.low);
     }

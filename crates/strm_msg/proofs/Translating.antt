@@ -12,8 +12,7 @@ use Rattle.strm_blocks.proofs.Laws.{free_m-is, in_hand-dropped, total-dropped, u
 use Rattle.strm_msg.specs.Emptied.{Beside}
 use Rattle.strm_msg.specs.Messages.{IsChain, message_of}
 use Rattle.strm_msg.specs.Translated.{Translated, Turned, one_of, shown_block, translated, translated_block, translated_message}
-use Rattle.strm_msg.proofs.Beside.{beside-apart, beside-chain, beside-in_hand, beside-times, held-beside}
-use Rattle.strm_msg.proofs.Filled.{times-out}
+use Rattle.strm_msg.proofs.Beside.{beside-apart, beside-chain, beside-in_hand, beside-times, held-beside, times-out}
 use Rattle.strm_msg.proofs.Hands.{changed-chain, changed-in_hand, dropped-changed, held-apart, held-chain, held-changed, held-is, other-name, stays, stays-chain, times-replaced}
 use Rattle.strm_msg.proofs.InHand.{fresh-dropped}
 use Rattle.strm_msg.proofs.TranslatedParts.{message-translated, translated-chain, whole-translated}
