@@ -1,17 +1,14 @@
 -- Control bytes that are taken off a message, and what holds of a chain still whose blocks have less.
 use Rattle.std.proofs.Common.{ℕ, ◌≡◌, ◌≤◌, ◌-◌, min, pos, Bool, true, false, cond, List, [], ◌∷◌, ◌++◌, length, map, take, drop, refl, sym, ap, subst, ◌∙◌, arith, inl, inr, append-nil}
 use Rattle.std.specs.Prelude.{take_while}
-use Rattle.std.specs.List.{AllByRecursion}
-use Rattle.std.proofs.Math.Seq.{take-append_seam, drop-append_seam}
 use Rattle.std.proofs.lemmas.Bool.{le-leb}
 use Rattle.std.proofs.lemmas.Bool.Decides.{nat_tests}
 use Rattle.std.proofs.lemmas.List.Sums.{take_while-cons}
-use Rattle.std.proofs.lemmas.List.{length-append, length-map, length-take, take_all, take-map, drop-map, take-append-le, take-append-drop, drop_all, nil_from_length}
+use Rattle.std.proofs.lemmas.List.{length-append, length-take, take_all, take-append-le, take-append-drop, drop_all, nil_from_length}
 use Rattle.strm_types.specs.declared.kinds.MsgKind.{MsgKind}
 use Rattle.strm_types.specs.declared.kinds.MsgKind.TheVariants as kinds
 use Rattle.strm_types.specs.Flush.{is_data_kind}
 use Rattle.strm_types.specs.Kinds.{is_control_kind, is_body_kind, kind_number}
-use Rattle.strm_types.specs.Message.{is_high_priority}
 use Rattle.strm_blocks.specs.Blocks.{Block, block_at, trimmed_head}
 use Rattle.strm_msg.specs.Adjusted.{trimmed_by, without_head, without_bytes, adjusted}
 use Rattle.strm_msg.specs.Bytes.{bytes_of, control_blocks, control_bytes, data_blocks, data_bytes}
@@ -20,6 +17,7 @@ use Rattle.strm_msg.specs.Runs.{same_kind, front_run}
 use Rattle.strm_msg.specs.Taken.{without_control, without_data, filled}
 use Rattle.strm_msg.proofs.AdjustingBytes.{bytes-append}
 use Rattle.strm_msg.proofs.AdjustingBlocks.{adjusted-none}
+use Rattle.strm_msg.proofs.Outlines.{OfKind, behind-is, front-is, outline, outlined-kind, outlined-band, outlined-chain}
 use Rattle.strm_msg.proofs.Chains.{control-none, control-front, data-behind, data-all, data-or-control, control-body, data-control}
 use Rattle.strm_msg.proofs.Parts.{control-blocks-cons}
 use Rattle.strm_msg.proofs.Taking.{drop-append, drop-least}
@@ -76,78 +74,22 @@ data-keeps n (b ∷ chain) =
     ]
 
 -- chains of the same blocks, whatever bytes these show
-abbrev OfKind : MsgKind → List Block → Type 0
-OfKind k chain = AllByRecursion (λ b. b.kind ≡ k) chain
-
-blank-kinds : (k : MsgKind) (chain : List Block) → OfKind k chain → OfKind k (map without_bytes chain)
-blank-kinds k [] all = tt
-blank-kinds k (b ∷ chain) all = (all.0, blank-kinds k chain all.1)
-
-shown-kinds : (k : MsgKind) (chain : List Block) → OfKind k (map without_bytes chain) → OfKind k chain
-shown-kinds k [] all = tt
-shown-kinds k (b ∷ chain) all = (all.0, shown-kinds k chain all.1)
-
-first-kind : (chain : List Block) → (block_at 0 (map without_bytes chain)).kind ≡ (block_at 0 chain).kind
-first-kind [] = refl
-first-kind (b ∷ chain) = refl
-
-first-band : (chain : List Block) → (block_at 0 (map without_bytes chain)).band ≡ (block_at 0 chain).band
-first-band [] = refl
-first-band (b ∷ chain) = refl
+alike-outline : (chain : List Block) → map outline (map without_bytes chain) ≡ map outline chain
+alike-outline [] = refl
+alike-outline (b ∷ chain) = ap (λ xs. outline b ∷ xs) (alike-outline chain)
 
 module _ (old new : List Block) (alike : map without_bytes new ≡ map without_bytes old) where
+  outlined : map outline new ≡ map outline old
+  outlined = sym (alike-outline new) ∙ ap (map outline) alike ∙ alike-outline old
+
   pub alike-kind : (block_at 0 new).kind ≡ (block_at 0 old).kind
-  alike-kind = sym (first-kind new) ∙ ap (λ c. (block_at 0 c).kind) alike ∙ first-kind old
+  alike-kind = outlined-kind old new outlined
 
   pub alike-band : (block_at 0 new).band ≡ (block_at 0 old).band
-  alike-band = sym (first-band new) ∙ ap (λ c. (block_at 0 c).band) alike ∙ first-band old
+  alike-band = outlined-band old new outlined
 
-  pub alike-length : length new ≡ length old
-  alike-length = sym (length-map new without_bytes) ∙ ap length alike ∙ length-map old without_bytes
-
-  alike-all : (k : MsgKind) → OfKind k old → OfKind k new
-  alike-all k all = shown-kinds k new (subst (OfKind k) (sym alike) (blank-kinds k old all))
-
-alike-front : (n : ℕ) (old new : List Block) → map without_bytes new ≡ map without_bytes old → map without_bytes (take n new) ≡ map without_bytes (take n old)
-alike-front n old new alike = sym (take-map without_bytes n new) ∙ ap (take n) alike ∙ take-map without_bytes n old
-
-alike-behind : (n : ℕ) (old new : List Block) → map without_bytes new ≡ map without_bytes old → map without_bytes (drop n new) ≡ map without_bytes (drop n old)
-alike-behind n old new alike = sym (drop-map without_bytes n new) ∙ ap (drop n) alike ∙ drop-map without_bytes n old
-
-module _ (k : MsgKind) (old new : List Block) (alike : map without_bytes new ≡ map without_bytes old) (p : IsParted k old) where
-  abbrev count : ℕ
-  count = length p.front
-
-  front-is : take count old ≡ p.front
-  front-is = ap (take count) p.joined ∙ take-append_seam p.front p.behind
-
-  behind-is : drop count old ≡ p.behind
-  behind-is = ap (drop count) p.joined ∙ drop-append_seam p.front p.behind
-
-  alike-parted : IsParted k new
-  alike-parted =
-      let long = alike-length old new alike in
-      let whole = ap length p.joined ∙ length-append p.front p.behind in
-      record {
-        front = take count new;
-        behind = drop count new;
-        joined = sym (take-append-drop count new);
-        some = omega (arith, length-take count new, long, whole, p.some);
-        of_kind = alike-all (take count old) (take count new) (alike-front count old new alike) k (subst (OfKind k) (sym front-is) p.of_kind);
-        of_data = alike-all (drop count old) (drop count new) (alike-behind count old new alike) kinds.Data (subst AreData (sym behind-is) p.of_data);
-      }
-
-pub alike-chain : (old new : List Block) → map without_bytes new ≡ map without_bytes old → IsChain old → IsChain new
-alike-chain old new alike one =
-    let kind = alike-kind old new alike in
-    let band = alike-band old new alike in
-    record {
-      some = omega (arith, alike-length old new alike, one.some);
-      all_data = λ is. alike-all old new alike kinds.Data (one.all_data (sym kind ∙ is));
-      parted = λ is. subst (λ k. IsParted k new) (sym kind) (alike-parted (block_at 0 old).kind old new alike (one.parted (ap is_control_kind (sym kind) ∙ is)));
-      high = λ is. band ∙ one.high (ap is_high_priority (sym kind) ∙ is);
-      low = omega (arith, band, one.low);
-    }
+  pub alike-chain : IsChain old → IsChain new
+  alike-chain one = outlined-chain old new outlined one
 
 -- the bytes of a message that has parts are those of its control part and then those of its data part
 pub bytes-parts : (chain : List Block) → IsChain chain → is_data_kind (block_at 0 chain).kind ≡ true → bytes_of chain ≡ control_bytes chain ++ data_bytes chain
@@ -219,8 +161,8 @@ module _ (n : ℕ) (chain : List Block) (one : IsChain chain) (has : n ≤ lengt
       record {
         run = ap (λ xs. length (bytes_of xs)) (run ∙ sym control);
         cut = ap (λ xs. trimmed_by trimmed_head n (take (length xs) chain) ++ drop (length xs) chain) run
-            ∙ ap (λ xs. trimmed_by trimmed_head n xs ++ drop (length p.front) chain) (front-is k chain chain refl p)
-            ∙ ap (λ xs. trimmed_by trimmed_head n p.front ++ xs) (behind-is k chain chain refl p)
+            ∙ ap (λ xs. trimmed_by trimmed_head n xs ++ drop (length p.front) chain) (front-is p)
+            ∙ ap (λ xs. trimmed_by trimmed_head n p.front ++ xs) (behind-is p)
             ∙ sym (ap (without_control n) p.joined ∙ cut-front k is n p.front p.behind p.of_kind p.of_data);
       }
 

@@ -11,6 +11,7 @@ use Rattle.strm_blocks.proofs.Laws.{IsInHand-dropped, in_hand-dropped}
 use Rattle.strm_blocks.specs.declared.in_hand.InHand.{InHand}
 use Rattle.strm_msg.specs.Bytes.{bytes_of}
 use Rattle.strm_msg.specs.Emptied.{filled_blocks, without_emptied, Beside, FreedWhole}
+use Rattle.strm_msg.proofs.Beside.{beside-apart, beside-chain, beside-in_hand}
 use Rattle.strm_msg.proofs.Hands.{other-name, gone, held-chain, changed-chain, changed-in_hand, changed-twice, dropped-changed}
 
 -- a block that shows bytes stays, and another one goes
@@ -45,25 +46,6 @@ some-emptied (suc k) (b ∷ chain) within none =
 -- a message of one block that shows none
 pub one-emptied : (chain : List Block) → length chain ≡ 1 → length (filled_blocks chain) < length chain → filled_blocks chain ≡ []
 one-emptied chain one less = nil_from_length (filled_blocks chain) (omega (arith, one, less))
-
--- a message that goes from the hand was one of its name
-times-out : (i j : ℕ) (hand : List Held) → 0 < times_in i hand → times_in j (without i hand) + cond (eqb i j) 1 0 ≡ times_in j hand
-times-out i j [] some = absurd (omega arith)
-times-out i j (h ∷ hand) some =
-    let named = sum_by-cons (λ (x : Held). cond (eqb x.name i) 1 0) h hand in
-    let all = sum_by-cons (λ (x : Held). cond (eqb x.name j) 1 0) h hand in
-    elim (cases_eq h.name i) [
-      | inl e ↦
-          (let hit : eqb h.name i ≡ true = grind (arith, nat_tests) in
-          let same : cond {A = ℕ} (eqb h.name j) 1 0 ≡ cond (eqb i j) 1 0 = ap (λ k. cond {A = ℕ} (eqb k j) 1 0) e in
-          ap (λ v. times_in j (cond v hand (h ∷ without i hand)) + cond (eqb i j) 1 0) hit ∙ omega (arith, all, same))
-      | inr ne ↦
-          (let miss : eqb h.name i ≡ false = other-name h.name i ne in
-          let none = ap (λ v. cond {A = ℕ} v 1 0) miss in
-          let kept = sum_by-cons (λ (x : Held). cond (eqb x.name j) 1 0) h (without i hand) in
-          let ih = times-out i j hand (omega (arith, some, named, none)) in
-          ap (λ v. times_in j (cond v hand (h ∷ without i hand)) + cond (eqb i j) 1 0) miss ∙ omega (arith, all, kept, ih))
-    ]
 
 -- two messages go in either order
 without-both : (i j : ℕ) → i ≢ j → (hand : List Held) → without j (without i hand) ≡ without i (without j hand)
@@ -121,21 +103,14 @@ module _ {s t : StoreValue} {i first : ℕ} (is : IsInHand s i) where
     base-in_hand : IsInHand base i
     base-in_hand = changed-in_hand s i (o.block ∷ []) i is
 
-    out : (j : ℕ) → times_in j base.hand + cond (eqb (token m) j) 1 0 ≡ times_in j t.hand
-    out j = ap (λ (v : StoreValue). times_in j v.hand + cond (eqb (token m) j) 1 0) (sym o.left.others) ∙ times-out (token m) j t.hand (omega (arith, o.left.here))
-
     apart : token m ≢ i
-    apart same =
-        let hit : eqb (token m) i ≡ true = grind (arith, nat_tests) in
-        let one = ap (λ v. cond {A = ℕ} v 1 0) hit in
-        let here = ap (λ k. times_in k t.hand) same in
-        absurd (omega (arith, out i, one, here, o.left.here, base-in_hand))
+    apart = beside-apart o.left i base-in_hand
 
     some-in_hand : IsInHand t i
-    some-in_hand = let none = ap (λ v. cond {A = ℕ} v 1 0) (other-name (token m) i apart) in omega (arith, out i, none, base-in_hand)
+    some-in_hand = beside-in_hand o.left i base-in_hand
 
     some-chain : in_hand t i ≡ o.block ∷ []
-    some-chain = sym (in_hand-dropped t (token m) i apart) ∙ ap (λ v. in_hand v i) o.left.others ∙ changed-chain s i (o.block ∷ []) is
+    some-chain = beside-chain o.left i apart ∙ changed-chain s i (o.block ∷ []) is
 
     some-freed : {v : StoreValue} → length o.block.bytes ≡ 0 → v ≡ dropped t i → Beside (dropped s i) v (token m) (filled_blocks (in_hand s i))
     some-freed {v} none v_is = record {

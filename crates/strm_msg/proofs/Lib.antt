@@ -5,6 +5,7 @@ pub mod AdjustingBytes
 pub mod AdjustingRuns
 pub mod AdjustingStore
 pub mod Bounds
+pub mod Beside
 pub mod Chains
 pub mod Counts
 pub mod Cutting
@@ -18,6 +19,7 @@ pub mod KindNumbers
 pub mod MadeData
 pub mod MadePlain
 pub mod Making
+pub mod Outlines
 pub mod Parts
 pub mod Pieces
 pub mod PulledParts
@@ -26,3 +28,6 @@ pub mod Pulling
 pub mod Sharing
 pub mod Taking
 pub mod Retyping
+pub mod TranslatedParts
+pub mod Translating
+pub mod WidePools

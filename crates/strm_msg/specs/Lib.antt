@@ -8,3 +8,4 @@ pub mod Messages
 pub mod Runs
 pub mod Adjusted
 pub mod Retyped
+pub mod Translated

@@ -12,6 +12,7 @@ mod emptied;
 mod kinds;
 mod pulls;
 mod sizes;
+mod translated;
 
 pub use adjust::{adjmsg, trim_front};
 pub use bytes::{first_bytes, from_bytes};
@@ -22,3 +23,4 @@ pub use emptied::free_emptied;
 pub use kinds::set_kinds;
 pub use pulls::{NotPulled, pullup};
 pub use sizes::{booked_size, control_len, data_len, message_size, msgdsize};
+pub use translated::translate;

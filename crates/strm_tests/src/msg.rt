@@ -1,7 +1,9 @@
 //! Messages in a store of tables and in one of linked nodes, with answers worked out by hand.
 
+mod pages;
 mod rows;
 
+use pages::{Page, plays_pages};
 use rows::{Call, Case, Seen, Wanted, plays};
 use std::test::Fail;
 use strm_types::{MsgKind, Refusal};
@@ -233,4 +235,39 @@ const CASES: [Case<'static>; 9] = [
 #[test]
 fn messages_are_as_wanted_behind_each_call(rt: HostRuntime) -> Result<(), Fail> {
     Ok(plays(&rt, rt.alloc(), &CASES)?)
+}
+
+const PAGES: [Page<'static>; 4] = [
+    // One block is shared, and the other one isn't.
+    Page {
+        first: (MsgKind::Data, b"a line, "),
+        second: b"and more\n",
+        then: &[(MsgKind::Data, b"A LINE, "), (MsgKind::Data, b"AND MORE\n")],
+        free: 0,
+    },
+    Page {
+        first: (MsgKind::Data, b""),
+        second: b"`az{\xe1",
+        then: &[(MsgKind::Data, b""), (MsgKind::Data, b"`AZ{\xe1")],
+        free: 0,
+    },
+    // A control part stays.
+    Page {
+        first: (MsgKind::Proto, b"head"),
+        second: b"body",
+        then: &[(MsgKind::Proto, b"head"), (MsgKind::Data, b"BODY")],
+        free: 1,
+    },
+    // So does a message without parts.
+    Page {
+        first: (MsgKind::Ioctl, b"asks"),
+        second: b"word",
+        then: &[(MsgKind::Ioctl, b"asks"), (MsgKind::Data, b"word")],
+        free: 1,
+    },
+];
+
+#[test]
+fn the_data_part_gets_other_bytes_by_a_table(rt: HostRuntime) -> Result<(), Fail> {
+    Ok(plays_pages(&rt, rt.alloc(), &PAGES)?)
 }

@@ -203,7 +203,7 @@ fn turns<B: Blocks>(store: &mut B, list: usize, kind: MsgKind) -> bool {
     true
 }
 
-fn is_made_of<B: Blocks>(store: &B, message: &InHand, wanted: &[Wanted<'_>]) -> bool
+pub(crate) fn is_made_of<B: Blocks>(store: &B, message: &InHand, wanted: &[Wanted<'_>]) -> bool
     requires { IsInHand (B.value store.now) (token message.now) }
 {
     let count = store.blocks(message);
@@ -220,7 +220,7 @@ fn is_made_of<B: Blocks>(store: &B, message: &InHand, wanted: &[Wanted<'_>]) -> 
 }
 
 // Whether a list's first message is of band 3 and has just these blocks.
-fn shows<B: Blocks>(store: &mut B, list: usize, wanted: &[Wanted<'_>]) -> bool {
+pub(crate) fn shows<B: Blocks>(store: &mut B, list: usize, wanted: &[Wanted<'_>]) -> bool {
     let Some(message) = take(store, list) else {
         return false;
     };
