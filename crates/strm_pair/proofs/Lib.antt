@@ -3,6 +3,7 @@ pub mod Peeked
 pub mod Idle
 pub mod Leading
 pub mod InHand
+pub mod Replies
 pub mod Sides
 pub mod Becoming
 pub mod KindsDo

@@ -35,7 +35,7 @@ mod streams;
 mod writes;
 mod zeros;
 
-pub use own::{NoModule, Own, OwnModule, pass_on};
+pub use own::{NoModule, Own, OwnModule, pass_on, reply};
 pub use pair::{Pair, Recorded};
 pub use readiness::Ready;
 pub use scheduler::Ran;

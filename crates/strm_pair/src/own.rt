@@ -1,10 +1,14 @@
 //! Modules of a user's own, which are pushed on a side's stream beside those that are there (STREAMS Programming Guide, "Modules", "Put Procedures").
 
-ghost use Rattle.std.specs.Prelude.{ℕ, ◌≡◌, ◌<◌, ◌≤◌, Bool, false, true, length, MatchOption};
+ghost use Rattle.std.specs.Prelude.{ℕ, ◌≡◌, ◌<◌, ◌≤◌, Bool, false, true, [], ◌∷◌, length, MatchOption};
 ghost use Rattle.strm_types.specs.Cells.{plain};
 ghost use Rattle.strm_types.specs.Budgets.{own_at};
+ghost use Rattle.strm_types.specs.Deliver.{onward};
+ghost use Rattle.strm_types.specs.Flush.{is_data_kind};
+ghost use Rattle.strm_types.specs.Typing.{bare};
 ghost use Rattle.strm_types.specs.Tables.{own_does};
 ghost use Rattle.strm_types.specs.declared.rules.Fates.{Fates};
+ghost use Rattle.strm_types.specs.declared.names.Way.TheVariants.{Up};
 ghost use Rattle.strm_types.specs.declared.limits.TheConstants.{MODULES, SETTINGS_MAX};
 ghost use Rattle.strm_types.specs.Owns.{Own};
 ghost use Rattle.strm_laws.specs.Behaviours.{fresh_own, passes_all};
@@ -20,7 +24,8 @@ use std::marker::Model;
 use strm_blocks::{Blocks, InHand};
 use strm_frame::{Outbox, Sent};
 use strm_laws::Behaves;
-use strm_types::{Fates, ModuleName, SETTINGS_MAX, Spot};
+use strm_pty::make;
+use strm_types::{Fates, ModuleName, MsgKind, SETTINGS_MAX, Spot, Way};
 
 /// A module of a user's own, as it stands on a stream: its number, by which it is pushed and found, and the bytes that it is set to, which are all
 /// that it keeps (STREAMS Programming Guide, "Private Data"). An image keeps both. It has no queues and no line, so nothing waits in it.
@@ -124,6 +129,31 @@ pub fn pass_on(here: Spot, message: InHand) -> Outbox
 {
     Outbox::one(Sent {
         to: here.toward(here.way),
+        message,
+    })
+}
+
+/// Answers a message without parts in its place (streamio(7I): I_STR): frees it, and sends one of another kind, which has at most 256 bytes, up to
+/// who asked. A block of each kind is free for that, since the store has at least as many data blocks as message blocks.
+pub fn reply<B: Blocks>(
+    store: &mut B,
+    here: Spot,
+    kind: MsgKind,
+    bytes: &[u8],
+    message: InHand,
+) -> Outbox
+    requires may { MayPass (B.value store.old) (token message) here }
+    requires wide { IsWide true (B.value store.old) }
+    requires kind { is_data_kind kind ≡ false }
+    requires few { length bytes.now ≤ 256 }
+    ensures { (own : Own) (told : Fates) (most : ℕ) → OwnPuts (B.value store.old) (B.value store.new) own (token message) most result told told
+        (record { state = own; notes = []; sent = onward Up here (bare kind bytes.now) ∷ []; gone = [] }) }
+{
+    store.audit();
+    store.free(message);
+    let message = make(store, kind, bytes);
+    Outbox::one(Sent {
+        to: here.toward(Way::Up),
         message,
     })
 }
