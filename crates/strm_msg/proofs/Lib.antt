@@ -29,5 +29,6 @@ pub mod Sharing
 pub mod Taking
 pub mod Retyping
 pub mod TranslatedParts
+pub mod TranslatedRows
 pub mod Translating
 pub mod WidePools

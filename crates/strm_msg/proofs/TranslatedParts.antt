@@ -2,7 +2,6 @@
 use Rattle.std.proofs.Common.{ℕ, ◌≡◌, Bool, true, false, cond, List, [], ◌∷◌, ◌++◌, map, unwrap_or, refl, sym, ap, ◌∙◌}
 use Rattle.std.specs.Prelude.{Option, None, Some, option_map, slice_index_or}
 use Rattle.std.proofs.lemmas.List.{map-append}
-use Rattle.strm_types.specs.declared.kinds.MsgKind.{MsgKind}
 use Rattle.strm_types.specs.Flush.{is_data_kind}
 use Rattle.strm_types.specs.Kinds.{is_body_kind, is_control_kind}
 use Rattle.strm_types.specs.Message.{Message}
@@ -59,7 +58,8 @@ module _ {f : Block → Block} {g : List ℕ → List ℕ} (r : Replaces f g) wh
       ∙ by (body-replaced chain) (is_body_kind b.kind) refl
     where
       by : part_of (data_blocks (map f chain)) ≡ option_map g (part_of (data_blocks chain)) → (v : Bool) → is_body_kind b.kind ≡ v
-          → part_of (cond v (f b ∷ data_blocks (map f chain)) (data_blocks (map f chain))) ≡ option_map g (part_of (cond v (b ∷ data_blocks chain) (data_blocks chain)))
+          → part_of (cond v (f b ∷ data_blocks (map f chain)) (data_blocks (map f chain)))
+          ≡ option_map g (part_of (cond v (b ∷ data_blocks chain) (data_blocks chain)))
       by ih true is =
           ap Some (ap (λ xs. xs ++ bytes_of (data_blocks (map f chain))) (r.body b is)
           ∙ ap (λ xs. g b.bytes ++ xs) (part-replaced (data_blocks chain) (data_blocks (map f chain)) ih)
@@ -127,5 +127,6 @@ module _ (table : List ℕ) (chain new : List Block) (same : map shown_block new
       ∙ message-replaced (translates table) chain is
 
 -- a message without parts stands for the same
-pub whole-translated : (table : List ℕ) (chain : List Block) → is_data_kind (block_at 0 chain).kind ≡ false → message_of chain ≡ translated_message table (message_of chain)
+pub whole-translated : (table : List ℕ) (chain : List Block) → is_data_kind (block_at 0 chain).kind ≡ false
+    → message_of chain ≡ translated_message table (message_of chain)
 whole-translated table chain is = plain-is chain is ∙ sym (ap (translated_message table) (plain-is chain is))

@@ -1,11 +1,13 @@
 -- A message whose blocks go to its end one after the other, with other bytes.
-use Rattle.std.proofs.Common.{ℕ, zero, suc, ◌≡◌, ◌≢◌, ◌≤◌, ◌<◌, ◌+◌, ◌-◌, Bool, true, false, cond, eqb, List, [], ◌∷◌, ◌++◌, length, map, take, drop, Option, None, Some, refl, sym, ap, subst, ◌∙◌, arith, inl, inr, add-one, append-nil, append_assoc, drop-cons}
-use Rattle.std.specs.Prelude.{MatchOption, ◌⊎◌}
+use Rattle.std.proofs.Common.{ℕ, ◌≡◌, ◌≢◌, ◌≤◌, ◌<◌, ◌+◌, true, false, cond, eqb, List, [], ◌∷◌, ◌++◌, length, map, take, drop}
+use Rattle.std.proofs.Common.{Option, None, Some, refl, sym, ap, subst, ◌∙◌, arith, inl, inr, add-one, append-nil, append_assoc, drop-cons}
+use Rattle.std.specs.Prelude.{MatchOption}
 use Rattle.std.proofs.lemmas.Bool.Decides.{nat_tests}
-use Rattle.std.proofs.lemmas.List.{drop_all, length-map, map-append, map_more, nil_from_length, take_all, take_more}
+use Rattle.std.proofs.lemmas.List.{drop_all, length-map, map-append, map_more, take_all}
 use Rattle.strm_types.specs.Flush.{is_data_kind}
 use Rattle.strm_types.specs.Kinds.{is_body_kind}
-use Rattle.strm_blocks.specs.Blocks.{Block, IsFreshName, IsInHand, IsStore, StoreValue, block_at, changed, copy_of, dropped, filled_block, free_d, free_m, held, in_hand, no_block, times_in, token, used}
+use Rattle.strm_blocks.specs.Blocks.{Block, IsFreshName, IsInHand, IsStore, StoreValue, block_at, changed, copy_of, dropped}
+use Rattle.strm_blocks.specs.Blocks.{filled_block, free_d, free_m, held, in_hand, no_block, times_in, token, used}
 use Rattle.strm_blocks.specs.Outcomes.{Copied, NoneFree, Unlinked, UnlinkedLast}
 use Rattle.strm_blocks.specs.declared.in_hand.InHand.{InHand}
 use Rattle.strm_blocks.proofs.Laws.{free_m-is, in_hand-dropped, total-dropped, used-is}
@@ -13,7 +15,8 @@ use Rattle.strm_msg.specs.Emptied.{Beside}
 use Rattle.strm_msg.specs.Messages.{IsChain, message_of}
 use Rattle.strm_msg.specs.Translated.{Translated, Turned, one_of, shown_block, translated, translated_block, translated_message}
 use Rattle.strm_msg.proofs.Beside.{beside-apart, beside-chain, beside-in_hand, beside-times, held-beside, times-out}
-use Rattle.strm_msg.proofs.Hands.{changed-chain, changed-in_hand, dropped-changed, held-apart, held-chain, held-changed, held-is, other-name, stays, stays-chain, times-replaced}
+use Rattle.strm_msg.proofs.Hands.{changed-chain, changed-in_hand, dropped-changed, held-apart, held-chain, held-changed}
+use Rattle.strm_msg.proofs.Hands.{held-is, other-name, stays, stays-chain, times-replaced}
 use Rattle.strm_msg.proofs.InHand.{fresh-dropped}
 use Rattle.strm_msg.proofs.TranslatedParts.{message-translated, translated-chain, whole-translated}
 use Rattle.strm_msg.proofs.WidePools.{free_m-le-free_d}
@@ -40,7 +43,8 @@ one-block (b ∷ c ∷ chain) one = absurd (omega arith)
 -- a message of one block, exchanged or not
 module _ {s : StoreValue} {i : ℕ} (table : List ℕ) where
   pub exchanged : {t : StoreValue} {r : ℕ} → is_body_kind (block_at 0 (in_hand s i)).kind ≡ true
-      → (let b = block_at 0 (in_hand s i) in Copied (dropped s i) t r (filled_block b.kind b.band (translated table b.bytes))) → Turned s t i r table []
+      → (let b = block_at 0 (in_hand s i) in Copied (dropped s i) t r (filled_block b.kind b.band (translated table b.bytes)))
+      → Turned s t i r table []
   exchanged {t} {r} is c =
       let b = block_at 0 (in_hand s i) in
       record {
@@ -123,7 +127,8 @@ module _ {s t : StoreValue} {i first : ℕ} (here : IsInHand s i) where
 module _ {s t u : StoreValue} {i first r : ℕ} {table : List ℕ} (here : IsInHand s i) (turned : Turned t u first r table []) where
   turned-shown : Parted s t i first → shown_block turned.block ≡ translated_block table (block_at 0 (in_hand s i))
   turned-shown p =
-      turned.shown ∙ ap (λ k. translated_block table (block_at 0 (in_hand t k))) p.kept_name ∙ ap (λ c. translated_block table (block_at 0 c)) p.chain_is
+      turned.shown ∙ ap (λ k. translated_block table (block_at 0 (in_hand t k))) p.kept_name
+      ∙ ap (λ c. translated_block table (block_at 0 c)) p.chain_is
 
   pub turned-last : UnlinkedLast s t i first → Turned s u i r table (drop 1 (in_hand s i))
   turned-last l =
@@ -133,7 +138,8 @@ module _ {s t u : StoreValue} {i first r : ℕ} {table : List ℕ} (here : IsInH
       record {
         block = turned.block;
         shown = turned-shown p;
-        beside = subst (λ xs. Beside (dropped s i) u r (xs ++ turned.block ∷ [])) none (subst (λ v. Beside v u r (turned.block ∷ [])) store turned.beside);
+        beside = subst (λ xs. Beside (dropped s i) u r (xs ++ turned.block ∷ [])) none
+            (subst (λ v. Beside v u r (turned.block ∷ [])) store turned.beside);
       }
 
   -- and hung behind what was behind it
@@ -159,7 +165,8 @@ module _ {s t u : StoreValue} {i first r : ℕ} {table : List ℕ} (here : IsInH
     pub last-apart : q ≢ r
     last-apart same = beside-apart last-beside q rest-held (sym same)
 
-    pub turned-more : {v : StoreValue} {w : ℕ} → w ≡ q → v ≡ changed (dropped u r) q (in_hand u q ++ in_hand u r) → Turned s v i w table (drop 1 (in_hand s i))
+    pub turned-more : {v : StoreValue} {w : ℕ} → w ≡ q → v ≡ changed (dropped u r) q (in_hand u q ++ in_hand u r)
+        → Turned s v i w table (drop 1 (in_hand s i))
     turned-more {v} {w} kept linked =
         let b = turned.block in
         let front : in_hand u q ≡ chain = beside-chain last-beside q (λ e. last-apart (sym e)) ∙ held-chain (dropped s i) q chain in
@@ -193,7 +200,8 @@ module _ {s : StoreValue} {i : ℕ} (table : List ℕ) where
         let d : t.dblks ≡ s.dblks = ap (λ (v : StoreValue). v.dblks) so.beside.others in
         omega (arith, m, d, wide)
 
-    pub turning-next : {u : StoreValue} {r : ℕ} → n < length (in_hand s i) → Turned t u k r table (drop 1 (in_hand t k)) → Turning s u i r table (n + 1)
+    pub turning-next : {u : StoreValue} {r : ℕ} → n < length (in_hand s i) → Turned t u k r table (drop 1 (in_hand t k))
+        → Turning s u i r table (n + 1)
     turning-next {u} {r} less turned =
         let chain = in_hand s i in
         let b = block_at n chain in
@@ -211,43 +219,46 @@ module _ {s : StoreValue} {i : ℕ} (table : List ℕ) where
         }
 
 -- One message is in hand in place of another one, with as many blocks.
-module _ (s : StoreValue) (i : ℕ) {t : StoreValue} {k : ℕ} {chain : List Block} (here : IsInHand s i) (b : Beside (dropped s i) t k chain) (long : length chain ≡ length (in_hand s i)) where
-  swapped-counts : (j : ℕ) → times_in j t.hand + one_of i j ≡ times_in j s.hand + one_of k j
-  swapped-counts j = let out = times-out i j s.hand (omega (arith, here)) in omega (arith, out, beside-times b j)
+module _ (s : StoreValue) (i : ℕ) {t : StoreValue} {k : ℕ} {chain : List Block} (here : IsInHand s i) where
+  module _ (b : Beside (dropped s i) t k chain) (long : length chain ≡ length (in_hand s i)) where
+    swapped-counts : (j : ℕ) → times_in j t.hand + one_of i j ≡ times_in j s.hand + one_of k j
+    swapped-counts j = let out = times-out i j s.hand (omega (arith, here)) in omega (arith, out, beside-times b j)
 
-  swapped-others : (j : ℕ) → one_of i j ≡ 0 → 0 < times_in j s.hand → in_hand t j ≡ in_hand s j
-  swapped-others j off some =
-      let apart : i ≢ j = grind (arith, nat_tests) in
-      let out = times-out i j s.hand (omega (arith, here)) in
-      let other : k ≢ j = λ same.
-      (let hit : eqb k j ≡ true = grind (arith, nat_tests) in
-      let one = ap (λ v. cond {A = ℕ} v 1 0) hit in
-      let now = ap (λ n. times_in n t.hand) same in
-      absurd (omega (arith, beside-times b j, out, off, one, now, b.here, some))) in
-      beside-chain b j other ∙ in_hand-dropped s i j apart
+    swapped-others : (j : ℕ) → one_of i j ≡ 0 → 0 < times_in j s.hand → in_hand t j ≡ in_hand s j
+    swapped-others j off some =
+        let apart : i ≢ j = grind (arith, nat_tests) in
+        let out = times-out i j s.hand (omega (arith, here)) in
+        let other : k ≢ j = λ same.
+        (let hit : eqb k j ≡ true = grind (arith, nat_tests) in
+        let one = ap (λ v. cond {A = ℕ} v 1 0) hit in
+        let now = ap (λ n. times_in n t.hand) same in
+        absurd (omega (arith, beside-times b j, out, off, one, now, b.here, some))) in
+        beside-chain b j other ∙ in_hand-dropped s i j apart
 
-  swapped-free : free_m t ≡ free_m s
-  swapped-free =
-      let before = total-dropped length s i here in
-      let after = total-dropped length t k b.here in
-      let same = ap (λ v. used v) b.others in
-      let blocks : t.mblks ≡ s.mblks = ap (λ (v : StoreValue). v.mblks) b.others in
-      let now = ap length b.chain_is in
-      omega (arith, free_m-is s, free_m-is t, used-is s, used-is t, used-is (dropped s i), used-is (dropped t k), before, after, same, blocks, now, long)
+    swapped-free : free_m t ≡ free_m s
+    swapped-free =
+        let before = total-dropped length s i here in
+        let after = total-dropped length t k b.here in
+        let same = ap (λ v. used v) b.others in
+        let blocks : t.mblks ≡ s.mblks = ap (λ (v : StoreValue). v.mblks) b.others in
+        let now = ap length b.chain_is in
+        let uses = used-is (dropped s i) in
+        let uses_then = used-is (dropped t k) in
+        omega (arith, free_m-is s, free_m-is t, used-is s, used-is t, uses, uses_then, before, after, same, blocks, now, long)
 
-  pub swapped : {table : List ℕ} → message_of chain ≡ translated_message table (message_of (in_hand s i)) → IsChain chain → Translated s t i k table
-  swapped {table} shown one = record {
-    here = b.here;
-    shown = ap message_of b.chain_is ∙ shown;
-    blocks = ap length b.chain_is ∙ long;
-    one = subst IsChain (sym b.chain_is) one;
-    lists = ap (λ (v : StoreValue). v.lists) b.others;
-    mblks = ap (λ (v : StoreValue). v.mblks) b.others;
-    dblks = ap (λ (v : StoreValue). v.dblks) b.others;
-    free_m_same = swapped-free;
-    counts = swapped-counts;
-    others = swapped-others;
-  }
+    pub swapped : {table : List ℕ} → message_of chain ≡ translated_message table (message_of (in_hand s i)) → IsChain chain → Translated s t i k table
+    swapped {table} shown one = record {
+      here = b.here;
+      shown = ap message_of b.chain_is ∙ shown;
+      blocks = ap length b.chain_is ∙ long;
+      one = subst IsChain (sym b.chain_is) one;
+      lists = ap (λ (v : StoreValue). v.lists) b.others;
+      mblks = ap (λ (v : StoreValue). v.mblks) b.others;
+      dblks = ap (λ (v : StoreValue). v.dblks) b.others;
+      free_m_same = swapped-free;
+      counts = swapped-counts;
+      others = swapped-others;
+    }
 
 module _ {s : StoreValue} {i : ℕ} (table : List ℕ) (here : IsInHand s i) (one : IsChain (in_hand s i)) where
   -- a message without parts stays
@@ -255,7 +266,8 @@ module _ {s : StoreValue} {i : ℕ} (table : List ℕ) (here : IsInHand s i) (on
   translated-none is = swapped s i here (record { here = here; chain_is = refl; others = refl }) refl (whole-translated table (in_hand s i) is) one
 
   -- all blocks of any other one went to its end
-  pub translated-all : {t : StoreValue} {k n : ℕ} → length (in_hand s i) ≤ n → Turning s t i k table n → is_data_kind (block_at 0 (in_hand s i)).kind ≡ true → Translated s t i k table
+  pub translated-all : {t : StoreValue} {k n : ℕ} → length (in_hand s i) ≤ n → Turning s t i k table n
+      → is_data_kind (block_at 0 (in_hand s i)).kind ≡ true → Translated s t i k table
   translated-all {t} {k} {n} all so is =
       let chain = in_hand s i in
       let same : map shown_block so.done ≡ map (translated_block table) chain = so.shown ∙ ap (map (translated_block table)) (take_all n chain all) in

@@ -29,7 +29,7 @@ module _ (s : StoreValue) where
   total-more n =
       let each = λ (chain : List Block). within-more n chain in
       let lists = sums-both (λ q. sum_by (within n) q) (λ q. sum_by (names_of n) q) (λ q. sum_by (within (suc n)) q)
-          (λ q. sums-both (within n) (names_of n) (within (suc n)) each q) s.lists in
+      (λ q. sums-both (within n) (names_of n) (within (suc n)) each q) s.lists in
       let hand = sums-both (λ (h : Held). within n h.chain) (λ h. names_of n h.chain) (λ h. within (suc n) h.chain) (λ h. each h.chain) s.hand in
       omega arith
 

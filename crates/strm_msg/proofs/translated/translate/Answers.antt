@@ -8,7 +8,8 @@ use Rattle.strm_msg.proofs.translated.translate.Goals as goal
 pub returns-then-not-is_data_kind : goal.returns-then-not-is_data_kind
 returns-then-not-is_data_kind g c =
     let chain = in_hand (g.B.Blocks.value c.args.store.now) (token c.args.message) in
-    let is : is_data_kind (block_at 0 chain).kind ≡ false = ap is_data_kind (sym c.kind.ensures) ∙ sym c.is_data_kind.ensures ∙ c.if-not-is_data_kind.true in
+    let is : is_data_kind (block_at 0 chain).kind ≡ false =
+    ap is_data_kind (sym c.kind.ensures) ∙ sym c.is_data_kind.ensures ∙ c.if-not-is_data_kind.true in
     translated-none c.args.table.now c.requires.in_hand c.requires.chain is
 
 pub loop-init : goal.loop-init
@@ -26,5 +27,6 @@ loop-preserved g c = turning-next c.args.table.now c.loop.invariant (omega arith
 pub returns : goal.returns
 returns g c =
     let chain = in_hand (g.B.Blocks.value c.args.store.now) (token c.args.message) in
-    let is : is_data_kind (block_at 0 chain).kind ≡ true = ap is_data_kind (sym c.kind.ensures) ∙ sym c.is_data_kind.ensures ∙ c.if-not-is_data_kind.false in
+    let is : is_data_kind (block_at 0 chain).kind ≡ true =
+    ap is_data_kind (sym c.kind.ensures) ∙ sym c.is_data_kind.ensures ∙ c.if-not-is_data_kind.false in
     translated-all c.args.table.now c.requires.in_hand c.requires.chain (omega arith) c.loop.invariant is

@@ -8,5 +8,6 @@ use Rattle.strm_msg.proofs.translated.translate_block.Goals as goal
 pub returns-then-is_body_kind : goal.returns-then-is_body_kind
 returns-then-is_body_kind g c =
     let chain = in_hand (g.B.Blocks.value c.args.store.now) (token c.args.block) in
-    let is : is_body_kind (block_at 0 chain).kind ≡ true = ap is_body_kind (sym c.kind.ensures) ∙ sym c.is_body_kind.ensures ∙ c.if-is_body_kind.true in
+    let is : is_body_kind (block_at 0 chain).kind ≡ true =
+    ap is_body_kind (sym c.kind.ensures) ∙ sym c.is_body_kind.ensures ∙ c.if-is_body_kind.true in
     exchanged c.args.table.now is c.exchange.ensures

@@ -1,6 +1,6 @@
 -- The first block was parted from the others, turned, and hung behind them.
 use Rattle.std.proofs.Common.{length, ap, subst, sym, ◌∙◌}
-use Rattle.strm_blocks.specs.Blocks.{IsInHand, in_hand, token}
+use Rattle.strm_blocks.specs.Blocks.{IsInHand, in_hand}
 use Rattle.strm_msg.proofs.Translating.{last-apart, parted, rest-in_hand, turned-more}
 use Rattle.strm_msg.proofs.translated.turn.Goals as goal
 
@@ -23,4 +23,5 @@ link-requires-clause-apart g c = last-apart c.requires.in_hand c.translate_block
 
 pub returns-in-Some : goal.returns-in-Some
 returns-in-Some g c =
-    turned-more c.requires.in_hand c.translate_block-last.ensures (rw c.in-Some.is at c.unlink-rest.ensures) c.link.ensures.kept_name c.link.ensures.linked
+    let parted = rw c.in-Some.is at c.unlink-rest.ensures in
+    turned-more c.requires.in_hand c.translate_block-last.ensures parted c.link.ensures.kept_name c.link.ensures.linked
