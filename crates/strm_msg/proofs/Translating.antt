@@ -13,7 +13,7 @@ use Rattle.strm_blocks.specs.declared.in_hand.InHand.{InHand}
 use Rattle.strm_blocks.proofs.Laws.{free_m-is, in_hand-dropped, total-dropped, used-is}
 use Rattle.strm_msg.specs.Emptied.{Beside}
 use Rattle.strm_msg.specs.Messages.{IsChain, message_of}
-use Rattle.strm_msg.specs.Translated.{Translated, Turned, one_of, shown_block, translated, translated_block, translated_message}
+use Rattle.strm_msg.specs.Translated.{Translated, Rotated, one_of, shown_block, translated, translated_block, translated_message}
 use Rattle.strm_msg.proofs.Beside.{beside-apart, beside-chain, beside-in_hand, beside-times, held-beside, times-out}
 use Rattle.strm_msg.proofs.Hands.{changed-chain, changed-in_hand, dropped-changed, held-apart, held-chain, held-changed}
 use Rattle.strm_msg.proofs.Hands.{held-is, other-name, stays, stays-chain, times-replaced}
@@ -44,7 +44,7 @@ one-block (b ∷ c ∷ chain) one = absurd (omega arith)
 module _ {s : StoreValue} {i : ℕ} (table : List ℕ) where
   pub exchanged : {t : StoreValue} {r : ℕ} → is_body_kind (block_at 0 (in_hand s i)).kind ≡ true
       → (let b = block_at 0 (in_hand s i) in Copied (dropped s i) t r (filled_block b.kind b.band (translated table b.bytes)))
-      → Turned s t i r table []
+      → Rotated s t i r table []
   exchanged {t} {r} is c =
       let b = block_at 0 (in_hand s i) in
       record {
@@ -53,7 +53,7 @@ module _ {s : StoreValue} {i : ℕ} (table : List ℕ) where
         beside = held-beside c.fresh_name c.after;
       }
 
-  pub unchanged : IsInHand s i → length (in_hand s i) ≡ 1 → is_body_kind (block_at 0 (in_hand s i)).kind ≡ false → Turned s s i i table []
+  pub unchanged : IsInHand s i → length (in_hand s i) ≡ 1 → is_body_kind (block_at 0 (in_hand s i)).kind ≡ false → Rotated s s i i table []
   unchanged here one is =
       let b = block_at 0 (in_hand s i) in
       record {
@@ -123,23 +123,23 @@ module _ {s t : StoreValue} {i first : ℕ} (here : IsInHand s i) where
   parted None u = parted-last u
   parted (Some q) u = parted-more u
 
--- it is turned
-module _ {s t u : StoreValue} {i first r : ℕ} {table : List ℕ} (here : IsInHand s i) (turned : Turned t u first r table []) where
-  turned-shown : Parted s t i first → shown_block turned.block ≡ translated_block table (block_at 0 (in_hand s i))
-  turned-shown p =
-      turned.shown ∙ ap (λ k. translated_block table (block_at 0 (in_hand t k))) p.kept_name
+-- it is rotated
+module _ {s t u : StoreValue} {i first r : ℕ} {table : List ℕ} (here : IsInHand s i) (rotated : Rotated t u first r table []) where
+  rotated-shown : Parted s t i first → shown_block rotated.block ≡ translated_block table (block_at 0 (in_hand s i))
+  rotated-shown p =
+      rotated.shown ∙ ap (λ k. translated_block table (block_at 0 (in_hand t k))) p.kept_name
       ∙ ap (λ c. translated_block table (block_at 0 c)) p.chain_is
 
-  pub turned-last : UnlinkedLast s t i first → Turned s u i r table (drop 1 (in_hand s i))
-  turned-last l =
+  pub rotated-last : UnlinkedLast s t i first → Rotated s u i r table (drop 1 (in_hand s i))
+  rotated-last l =
       let p = parted-last here l in
       let none : [] ≡ drop 1 (in_hand s i) = ap (drop 1) (sym (one-block (in_hand s i) l.single)) in
       let store : dropped t first ≡ dropped s i = ap (dropped t) l.kept_name ∙ ap (λ v. dropped v i) l.same in
       record {
-        block = turned.block;
-        shown = turned-shown p;
-        beside = subst (λ xs. Beside (dropped s i) u r (xs ++ turned.block ∷ [])) none
-            (subst (λ v. Beside v u r (turned.block ∷ [])) store turned.beside);
+        block = rotated.block;
+        shown = rotated-shown p;
+        beside = subst (λ xs. Beside (dropped s i) u r (xs ++ rotated.block ∷ [])) none
+            (subst (λ v. Beside v u r (rotated.block ∷ [])) store rotated.beside);
       }
 
   -- and hung behind what was behind it
@@ -150,8 +150,8 @@ module _ {s t u : StoreValue} {i first r : ℕ} {table : List ℕ} (here : IsInH
     rest-store : dropped t first ≡ held (dropped s i) q chain
     rest-store = ap (dropped t) l.kept_name ∙ behind here l
 
-    last-beside : Beside (held (dropped s i) q chain) u r (turned.block ∷ [])
-    last-beside = subst (λ v. Beside v u r (turned.block ∷ [])) rest-store turned.beside
+    last-beside : Beside (held (dropped s i) q chain) u r (rotated.block ∷ [])
+    last-beside = subst (λ v. Beside v u r (rotated.block ∷ [])) rest-store rotated.beside
 
     rest-held : IsInHand (held (dropped s i) q chain) q
     rest-held = held-is (dropped s i) q chain (rest-fresh here l)
@@ -160,62 +160,62 @@ module _ {s t u : StoreValue} {i first r : ℕ} {table : List ℕ} (here : IsInH
     rest-in_hand = beside-in_hand last-beside q rest-held
 
     pub last-in_hand : IsInHand u r
-    last-in_hand = turned.beside.here
+    last-in_hand = rotated.beside.here
 
     pub last-apart : q ≢ r
     last-apart same = beside-apart last-beside q rest-held (sym same)
 
-    pub turned-more : {v : StoreValue} {w : ℕ} → w ≡ q → v ≡ changed (dropped u r) q (in_hand u q ++ in_hand u r)
-        → Turned s v i w table (drop 1 (in_hand s i))
-    turned-more {v} {w} kept linked =
-        let b = turned.block in
+    pub rotated-more : {v : StoreValue} {w : ℕ} → w ≡ q → v ≡ changed (dropped u r) q (in_hand u q ++ in_hand u r)
+        → Rotated s v i w table (drop 1 (in_hand s i))
+    rotated-more {v} {w} kept linked =
+        let b = rotated.block in
         let front : in_hand u q ≡ chain = beside-chain last-beside q (λ e. last-apart (sym e)) ∙ held-chain (dropped s i) q chain in
         let after : v ≡ held (dropped s i) q (chain ++ b ∷ []) =
         linked ∙ ap (λ xs. changed (dropped u r) q (xs ++ in_hand u r)) front ∙ ap (λ xs. changed (dropped u r) q (chain ++ xs)) last-beside.chain_is
         ∙ ap (λ z. changed z q (chain ++ b ∷ [])) last-beside.others ∙ held-changed (dropped s i) q chain (chain ++ b ∷ []) in
         record {
           block = b;
-          shown = turned-shown (parted-more here l);
+          shown = rotated-shown (parted-more here l);
           beside = subst (λ k. Beside (dropped s i) v k (drop 1 (in_hand s i) ++ b ∷ [])) (sym kept)
               (subst (λ xs. Beside (dropped s i) v q (xs ++ b ∷ [])) (rest-is here l) (held-beside (rest-fresh here l) after));
         }
 
 -- So many of a message's blocks went to its end.
-pub record Turning (old new : StoreValue) (message name : ℕ) (table : List ℕ) (n : ℕ) : Type 0 where
+pub record Rotating (old new : StoreValue) (message name : ℕ) (table : List ℕ) (n : ℕ) : Type 0 where
   done : List Block
   shown : map shown_block done ≡ map (translated_block table) (take n (in_hand old message))
   beside : Beside (dropped old message) new name (drop n (in_hand old message) ++ done)
 
 module _ {s : StoreValue} {i : ℕ} (table : List ℕ) where
-  pub turning-none : IsInHand s i → Turning s s i i table 0
-  turning-none here = record { done = []; shown = refl; beside = record { here = here; chain_is = sym (append-nil (in_hand s i)); others = refl } }
+  pub rotating-none : IsInHand s i → Rotating s s i i table 0
+  rotating-none here = record { done = []; shown = refl; beside = record { here = here; chain_is = sym (append-nil (in_hand s i)); others = refl } }
 
-  module _ {t : StoreValue} {k n : ℕ} (so : Turning s t i k table n) where
-    pub turning-in_hand : IsInHand t k
-    turning-in_hand = so.beside.here
+  module _ {t : StoreValue} {k n : ℕ} (so : Rotating s t i k table n) where
+    pub rotating-in_hand : IsInHand t k
+    rotating-in_hand = so.beside.here
 
-    pub turning-wide : s.mblks ≤ s.dblks → t.mblks ≤ t.dblks
-    turning-wide wide =
+    pub rotating-wide : s.mblks ≤ s.dblks → t.mblks ≤ t.dblks
+    rotating-wide wide =
         let m : t.mblks ≡ s.mblks = ap (λ (v : StoreValue). v.mblks) so.beside.others in
         let d : t.dblks ≡ s.dblks = ap (λ (v : StoreValue). v.dblks) so.beside.others in
         omega (arith, m, d, wide)
 
-    pub turning-next : {u : StoreValue} {r : ℕ} → n < length (in_hand s i) → Turned t u k r table (drop 1 (in_hand t k))
-        → Turning s u i r table (n + 1)
-    turning-next {u} {r} less turned =
+    pub rotating-next : {u : StoreValue} {r : ℕ} → n < length (in_hand s i) → Rotated t u k r table (drop 1 (in_hand t k))
+        → Rotating s u i r table (n + 1)
+    rotating-next {u} {r} less rotated =
         let chain = in_hand s i in
         let b = block_at n chain in
         let first : drop n chain ≡ b ∷ drop (n + 1) chain = drop-cons chain n no_block less ∙ ap (λ m. b ∷ drop m chain) (sym (add-one n)) in
         let now : in_hand t k ≡ b ∷ (drop (n + 1) chain ++ so.done) = so.beside.chain_is ∙ ap (λ xs. xs ++ so.done) first in
         record {
-          done = so.done ++ turned.block ∷ [];
-          shown = map-append shown_block so.done (turned.block ∷ [])
-              ∙ ap (λ xs. xs ++ shown_block turned.block ∷ []) so.shown
-              ∙ ap (λ x. map (translated_block table) (take n chain) ++ x ∷ []) (turned.shown ∙ ap (λ c. translated_block table (block_at 0 c)) now)
+          done = so.done ++ rotated.block ∷ [];
+          shown = map-append shown_block so.done (rotated.block ∷ [])
+              ∙ ap (λ xs. xs ++ shown_block rotated.block ∷ []) so.shown
+              ∙ ap (λ x. map (translated_block table) (take n chain) ++ x ∷ []) (rotated.shown ∙ ap (λ c. translated_block table (block_at 0 c)) now)
               ∙ sym (map_more (translated_block table) chain n no_block less);
           beside = subst (λ xs. Beside (dropped s i) u r xs)
-              (ap (λ c. drop 1 c ++ turned.block ∷ []) now ∙ append_assoc (drop (n + 1) chain) so.done (turned.block ∷ []))
-              (subst (λ v. Beside v u r (drop 1 (in_hand t k) ++ turned.block ∷ [])) so.beside.others turned.beside);
+              (ap (λ c. drop 1 c ++ rotated.block ∷ []) now ∙ append_assoc (drop (n + 1) chain) so.done (rotated.block ∷ []))
+              (subst (λ v. Beside v u r (drop 1 (in_hand t k) ++ rotated.block ∷ [])) so.beside.others rotated.beside);
         }
 
 -- One message is in hand in place of another one, with as many blocks.
@@ -266,7 +266,7 @@ module _ {s : StoreValue} {i : ℕ} (table : List ℕ) (here : IsInHand s i) (on
   translated-none is = swapped s i here (record { here = here; chain_is = refl; others = refl }) refl (whole-translated table (in_hand s i) is) one
 
   -- all blocks of any other one went to its end
-  pub translated-all : {t : StoreValue} {k n : ℕ} → length (in_hand s i) ≤ n → Turning s t i k table n
+  pub translated-all : {t : StoreValue} {k n : ℕ} → length (in_hand s i) ≤ n → Rotating s t i k table n
       → is_data_kind (block_at 0 (in_hand s i)).kind ≡ true → Translated s t i k table
   translated-all {t} {k} {n} all so is =
       let chain = in_hand s i in

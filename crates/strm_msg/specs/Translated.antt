@@ -24,7 +24,7 @@ translated_message table m = record m { body = option_map (translated table) m.b
 
 -- A message is in hand in place of another one. Its last block is the first of that one, with other bytes, and the blocks in
 -- front of it are named.
-pub record Turned (old new : StoreValue) (message name : ℕ) (table : List ℕ) (front : List Block) : Type 0 where
+pub record Rotated (old new : StoreValue) (message name : ℕ) (table : List ℕ) (front : List Block) : Type 0 where
   pub block : Block
   pub shown : shown_block block ≡ translated_block table (block_at 0 (in_hand old message))
   pub beside : Beside (dropped old message) new name (front ++ block ∷ [])

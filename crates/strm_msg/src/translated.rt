@@ -3,7 +3,7 @@ ghost use Rattle.std.specs.Prelude.{◌≡◌, ◌≤◌, [], length, take, drop
 ghost use Rattle.strm_blocks.specs.Blocks.{IsInHand, block_at, dropped, filled_block, in_hand, token};
 ghost use Rattle.strm_blocks.specs.Outcomes.{Copied};
 ghost use Rattle.strm_msg.specs.Messages.{IsChain};
-ghost use Rattle.strm_msg.specs.Translated.{Translated, Turned, translated};
+ghost use Rattle.strm_msg.specs.Translated.{Translated, Rotated, translated};
 
 use strm_blocks::{Blocks, InHand};
 
@@ -49,7 +49,7 @@ fn translate_block<B: Blocks>(store: &mut B, block: InHand, table: &[u8]) -> InH
     requires single { length (in_hand (B.value store.old) (token block)) ≡ 1 }
     requires table { length table.now ≡ 256 }
     requires wide { (B.value store.old).mblks ≤ (B.value store.old).dblks }
-    ensures { Turned (B.value store.old) (B.value store.new) (token block) (token result) table.now [] }
+    ensures { Rotated (B.value store.old) (B.value store.new) (token block) (token result) table.now [] }
 {
     if store.kind(&block, 0).is_body_kind() {
         return exchange(store, block, table);
@@ -58,12 +58,12 @@ fn translate_block<B: Blocks>(store: &mut B, block: InHand, table: &[u8]) -> InH
 }
 
 /// Takes the first block of a message to its end, with other bytes if it is of the data part: `unlinkb(9F)`, `linkb(9F)`.
-fn turn<B: Blocks>(store: &mut B, message: InHand, table: &[u8]) -> InHand
+fn rotate<B: Blocks>(store: &mut B, message: InHand, table: &[u8]) -> InHand
     requires in_hand { IsInHand (B.value store.old) (token message) }
     requires table { length table.now ≡ 256 }
     requires wide { (B.value store.old).mblks ≤ (B.value store.old).dblks }
     ensures { let chain = in_hand (B.value store.old) (token message) in
-        Turned (B.value store.old) (B.value store.new) (token message) (token result) table.now (drop 1 chain) }
+        Rotated (B.value store.old) (B.value store.new) (token message) (token result) table.now (drop 1 chain) }
 {
     let (first, rest) = store.unlink(message);
     let last = translate_block(store, first, table);
@@ -89,7 +89,7 @@ pub fn translate<B: Blocks>(store: &mut B, message: InHand, table: &[u8]) -> InH
     }
     let mut message = message;
     for _ in 0..store.blocks(&message) {
-        message = turn(store, message, table);
+        message = rotate(store, message, table);
     }
     message
 }

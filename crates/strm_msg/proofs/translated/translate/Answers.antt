@@ -2,7 +2,7 @@
 use Rattle.std.proofs.Common.{◌≡◌, ap, arith, false, sym, true, ◌∙◌}
 use Rattle.strm_types.specs.Flush.{is_data_kind}
 use Rattle.strm_blocks.specs.Blocks.{block_at, in_hand, token}
-use Rattle.strm_msg.proofs.Translating.{translated-all, translated-none, turning-in_hand, turning-next, turning-none, turning-wide}
+use Rattle.strm_msg.proofs.Translating.{translated-all, translated-none, rotating-in_hand, rotating-next, rotating-none, rotating-wide}
 use Rattle.strm_msg.proofs.translated.translate.Goals as goal
 
 pub returns-then-not-is_data_kind : goal.returns-then-not-is_data_kind
@@ -13,16 +13,16 @@ returns-then-not-is_data_kind g c =
     translated-none c.args.table.now c.requires.in_hand c.requires.chain is
 
 pub loop-init : goal.loop-init
-loop-init g c = turning-none c.args.table.now c.requires.in_hand
+loop-init g c = rotating-none c.args.table.now c.requires.in_hand
 
-pub turn-message-requires-clause-in_hand : goal.turn-message-requires-clause-in_hand
-turn-message-requires-clause-in_hand g c = turning-in_hand c.args.table.now c.loop.invariant
+pub rotate-message-requires-clause-in_hand : goal.rotate-message-requires-clause-in_hand
+rotate-message-requires-clause-in_hand g c = rotating-in_hand c.args.table.now c.loop.invariant
 
-pub turn-message-requires-clause-wide : goal.turn-message-requires-clause-wide
-turn-message-requires-clause-wide g c = turning-wide c.args.table.now c.loop.invariant c.requires.wide
+pub rotate-message-requires-clause-wide : goal.rotate-message-requires-clause-wide
+rotate-message-requires-clause-wide g c = rotating-wide c.args.table.now c.loop.invariant c.requires.wide
 
 pub loop-preserved : goal.loop-preserved
-loop-preserved g c = turning-next c.args.table.now c.loop.invariant (omega arith) c.turn-message.ensures
+loop-preserved g c = rotating-next c.args.table.now c.loop.invariant (omega arith) c.rotate-message.ensures
 
 pub returns : goal.returns
 returns g c =

@@ -1,8 +1,8 @@
--- The first block was parted from the others, turned, and hung behind them.
+-- The first block was parted from the others, rotated, and hung behind them.
 use Rattle.std.proofs.Common.{length, ap, subst, sym, ◌∙◌}
 use Rattle.strm_blocks.specs.Blocks.{IsInHand, in_hand}
-use Rattle.strm_msg.proofs.Translating.{last-apart, parted, rest-in_hand, turned-more}
-use Rattle.strm_msg.proofs.translated.turn.Goals as goal
+use Rattle.strm_msg.proofs.Translating.{last-apart, parted, rest-in_hand, rotated-more}
+use Rattle.strm_msg.proofs.translated.rotate.Goals as goal
 
 pub translate_block-last-requires-clause-in_hand : goal.translate_block-last-requires-clause-in_hand
 translate_block-last-requires-clause-in_hand g c =
@@ -24,4 +24,4 @@ link-requires-clause-apart g c = last-apart c.requires.in_hand c.translate_block
 pub returns-in-Some : goal.returns-in-Some
 returns-in-Some g c =
     let parted = rw c.in-Some.is at c.unlink-rest.ensures in
-    turned-more c.requires.in_hand c.translate_block-last.ensures parted c.link.ensures.kept_name c.link.ensures.linked
+    rotated-more c.requires.in_hand c.translate_block-last.ensures parted c.link.ensures.kept_name c.link.ensures.linked
