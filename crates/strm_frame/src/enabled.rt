@@ -70,6 +70,7 @@ impl Enabled {
     }
 
     /// Enables a queue, behind all others, unless it is enabled. A place without queues has none that could be.
+    #[inline(always)]
     pub fn enable(&mut self, name: QueueName)
         ensures { self.new ≡ enable name self.old }
     {
@@ -97,6 +98,7 @@ impl Enabled {
     }
 
     // Whether a queue is the only one that is enabled.
+    #[inline(always)]
     fn is_only(&self, name: QueueName) -> bool
         ensures one { OnTrue result (length self.now ≡ 1) }
         ensures none_else { OnTrue result (without name self.now ≡ []) }
@@ -107,7 +109,8 @@ impl Enabled {
         }
     }
 
-    /// Takes a queue off the list.
+    /// Takes a queue off the list. Most often it is the only one.
+    #[inline(always)]
     pub fn remove(&mut self, name: QueueName)
         ensures { self.new ≡ without name self.old }
     {
@@ -115,6 +118,13 @@ impl Enabled {
             self.names.pop();
             return;
         }
+        self.remove_among(name);
+    }
+
+    // Takes a queue off a list on which others stand.
+    fn remove_among(&mut self, name: QueueName)
+        ensures { self.new ≡ without name self.old }
+    {
         let mut rest = ArrayVec::new();
         for other in self.names.as_slice() {
             if !other.is_same(name) {

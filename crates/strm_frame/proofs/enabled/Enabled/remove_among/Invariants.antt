@@ -1,6 +1,6 @@
 use Rattle.std.proofs.Common.{◌≡◌, ◌≤◌, length, take}
 use Rattle.strm_types.specs.Names.{without}
-use Rattle.strm_frame.proofs.enabled.Enabled.remove.Given as goal
+use Rattle.strm_frame.proofs.enabled.Enabled.remove_among.Given as goal
 
 abbrev pub invariant-loop-other : goal.invariant-loop-other
 invariant-loop-other l = record {
