@@ -318,7 +318,7 @@ const MODULES: [(&[u8], bool); 9] = [
 ];
 
 // A module of a user's own that is set to so many bytes, and whether an image stands there.
-const SET: [(usize, bool); 2] = [(512, true), (513, false)];
+const SET: [(usize, bool); 2] = [(320, true), (321, false)];
 
 // The front of a head with such a module.
 const OWN: [u8; 8] = [0, 0, 0, 0, 0, 1, 4, 7];

@@ -29,7 +29,7 @@ impl Bands for AllBands {
     }
 }
 
-// What a module of a user's own is set to, which is 512 bytes at most.
+// What a module of a user's own is set to, which is `SETTINGS_MAX` bytes at most.
 fn within(bytes: &[u8]) -> &[u8]
     ensures { length result.now ≤ SETTINGS_MAX }
 {
