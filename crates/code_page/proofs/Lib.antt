@@ -1,1 +1,2 @@
-pub mod PageLaws
+pub mod PagesPassed
+pub mod PagesRead
