@@ -29,6 +29,7 @@ const LETTERS: [(u8, u8); 7] = [
 type Paged = Pair<RawStore, CodePage>;
 
 // Bytes as a line shows them: in quotes, those that aren't ASCII in hex.
+#[derive(Clone, Copy, Drop)]
 struct Shown<'a> {
     bytes: &'a [u8],
 }
@@ -45,6 +46,12 @@ impl fmt::Display for Shown<'_> {
             }
         }
         f.write_str("\"")
+    }
+}
+
+fn shown_of(out: &Content) -> Shown<'_> {
+    Shown {
+        bytes: out.as_slice(),
     }
 }
 
@@ -105,22 +112,12 @@ fn main(rt: HostRuntime) -> anyhow::Result<()> {
     opens(&mut pair, &mut out)?;
     for bytes in WRITTEN {
         carries(&mut pair, Side::Slave, Side::Master, bytes, &mut out)?;
-        let (written, shown) = (
-            Shown { bytes },
-            Shown {
-                bytes: out.as_slice(),
-            },
-        );
+        let (written, shown) = (Shown { bytes }, shown_of(&out));
         println!(rt; "written {written}, shown {shown}")?;
     }
     for bytes in TYPED {
         carries(&mut pair, Side::Master, Side::Slave, bytes, &mut out)?;
-        let (typed, read) = (
-            Shown { bytes },
-            Shown {
-                bytes: out.as_slice(),
-            },
-        );
+        let (typed, read) = (Shown { bytes }, shown_of(&out));
         println!(rt; "typed {typed}, read {read}")?;
     }
     Ok(())
