@@ -1,17 +1,19 @@
 //! The M_IOCTL that sets the page, and its answers (streamio(7I): I_STR; STREAMS Programming Guide: M_IOCTL, M_IOCACK, M_IOCNAK).
 
-ghost use Rattle.std.specs.Prelude.{◌≡◌, ◌++◌, if◌then◌else◌, ℕ, Some, true, false};
+ghost use Rattle.std.specs.Prelude.{◌≡◌, ◌≤◌, if◌then◌else◌, ℕ, length, Some, true};
+ghost use Rattle.strm_types.specs.declared.limits.TheConstants.{SETTINGS_MAX};
 ghost use Rattle.strm_types.specs.declared.rules.Fates.{Fates};
 ghost use Rattle.strm_types.specs.Acks.{payload};
 ghost use Rattle.strm_types.specs.Cells.{plain};
 ghost use Rattle.strm_types.specs.Commands.{is_asked};
+ghost use Rattle.strm_types.specs.Ioctls.{read_ioc};
 ghost use Rattle.strm_blocks.specs.Blocks.{IsInHand, in_hand, token};
 ghost use Rattle.strm_msg.specs.Messages.{IsChain};
 ghost use Rattle.strm_frame.specs.Hands.{IsWide};
 ghost use Rattle.strm_frame.specs.Outboxes.{message_in};
 ghost use Rattle.strm_pty.specs.Beside.{MayPass};
 ghost use Rattle.strm_pair.specs.OwnPuts.{OwnPuts};
-ghost use Rattle.code_page.specs.CodePages.{is_page, ours, page_of, page_puts};
+ghost use Rattle.code_page.specs.CodePages.{is_page, ours, page_command, page_of, page_puts};
 
 use crate::{PAGE_SIZE, SETPAGE};
 use strm_blocks::{Blocks, InHand};
@@ -27,13 +29,13 @@ const SETS: usize = 16 + PAGE_SIZE;
 // One byte more, so that a longer payload is known.
 const READ: usize = SETS + 1;
 
-/// The header of a message in hand that asks the module.
-pub(crate) fn asked_of<B: Blocks>(store: &B, here: Spot, message: &InHand) -> Option<Ioc>
+// The header of an M_IOCTL in hand with the module's command.
+fn header_in<B: Blocks>(store: &B, message: &InHand) -> Option<Ioc>
     requires in_hand { IsInHand (B.value store.now) (token message.now) }
     requires chain { IsChain (in_hand (B.value store.now) (token message.now)) }
-    ensures { result ≡ ours here.way (message_in (B.value store.now) (token message.now)) }
+    ensures { let m = message_in (B.value store.now) (token message.now) in result ≡ page_command (is_asked m) (read_ioc m.plain) }
 {
-    if matches!(here.way, Way::Up) || !is_ioctl(store.kind(message, 0)) {
+    if !is_ioctl(store.kind(message, 0)) {
         return None;
     }
     let ioc = header_of(store, message)?;
@@ -42,6 +44,26 @@ pub(crate) fn asked_of<B: Blocks>(store: &B, here: Spot, message: &InHand) -> Op
     } else {
         None
     }
+}
+
+/// The header of a message in hand that asks the module: it comes down.
+pub(crate) fn asked_of<B: Blocks>(store: &B, here: Spot, message: &InHand) -> Option<Ioc>
+    requires in_hand { IsInHand (B.value store.now) (token message.now) }
+    requires chain { IsChain (in_hand (B.value store.now) (token message.now)) }
+    ensures { result ≡ ours here.way (message_in (B.value store.now) (token message.now)) }
+{
+    match here.way {
+        Way::Down => header_in(store, message),
+        Way::Up => None,
+    }
+}
+
+// Sets the module to bytes.
+fn set_to(own: &mut Own, page: &[u8])
+    requires { length page.now ≤ SETTINGS_MAX }
+    ensures { own.new ≡ record own.old { settings = page_of page.now } }
+{
+    own.set(page);
 }
 
 // Sets the module to the page that an M_IOCTL brings, and says whether it brings one.
@@ -57,7 +79,7 @@ fn set_page<B: Blocks>(own: &mut Own, store: &B, message: &InHand) -> bool
     if count != SETS {
         return false;
     }
-    own.set(&bytes[16..SETS]);
+    set_to(own, &bytes[16..SETS]);
     true
 }
 
