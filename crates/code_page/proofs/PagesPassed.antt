@@ -1,8 +1,8 @@
 -- A message with other bytes goes on in place of the one that came.
-use Rattle.std.proofs.Common.{ℕ, ◌≡◌, ◌≤◌, ◌+◌, List, [], ◌∷◌, refl, sym, ap, ◌∙◌, arith}
+use Rattle.std.proofs.Common.{ℕ, ◌≤◌, List, [], ◌∷◌, ap, ◌∙◌, arith}
 use Rattle.strm_types.specs.declared.rules.Fates.{Fates}
 use Rattle.strm_types.specs.declared.spots.Spot.{Spot}
-use Rattle.strm_types.specs.Deliver.{Parcel, onward}
+use Rattle.strm_types.specs.Deliver.{onward}
 use Rattle.strm_types.specs.Message.{Message}
 use Rattle.strm_types.specs.Owns.{Own}
 use Rattle.strm_blocks.specs.Blocks.{StoreValue}

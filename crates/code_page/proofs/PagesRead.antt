@@ -1,8 +1,8 @@
 -- What is read of an M_IOCTL with a page.
-use Rattle.std.proofs.Common.{ℕ, suc, Fits, w8, ◌≡◌, ◌≢◌, ◌≤◌, ◌<◌, min, true, false, List, [], ◌∷◌, length, get_or, take, drop, refl, sym, ap, ◌∙◌, arith}
+use Rattle.std.proofs.Common.{ℕ, suc, Fits, w8, ◌≡◌, ◌≢◌, min, true, false, List, [], ◌∷◌, length, get_or, take, drop, refl, sym, ap, ◌∙◌, arith}
 use Rattle.std.proofs.lemmas.Bool.Decides.{nat_tests}
 use Rattle.std.proofs.lemmas.List.{drop-take, length-drop, take_all}
-use Rattle.std.specs.Prelude.{◌%◌, ◌==◌}
+use Rattle.std.specs.Prelude.{◌%◌}
 use Rattle.strm_types.specs.Acks.{payload}
 use Rattle.strm_frame.specs.Prelude.{filled}
 use Rattle.strm_frame.proofs.Read.{first-of}

@@ -6,7 +6,7 @@ use Rattle.std.proofs.lemmas.Bool.Decides.{nat_tests}
 use Rattle.std.proofs.lemmas.List.{length-append, length-map}
 use Rattle.std.proofs.lemmas.List.Sums.{sum_by-cons}
 use Rattle.std.specs.List.{AllByRecursion}
-use Rattle.std.specs.Prelude.{◌==◌, ◌&&◌, ◌||◌, ◌%◌, count_by, not, slice_index_or, sum_by, None, Option, Some, option_map}
+use Rattle.std.specs.Prelude.{◌&&◌, ◌||◌, ◌%◌, count_by, not, slice_index_or, sum_by, None, Option, Some, option_map}
 use Rattle.strm_types.specs.declared.ioctls.Ioc.{Ioc}
 use Rattle.strm_types.specs.declared.names.Way.{Way}
 use Rattle.strm_types.specs.declared.names.Way.TheVariants.{Up, Down}
@@ -15,7 +15,7 @@ use Rattle.strm_types.specs.Acks.{ack_message, acked, payload}
 use Rattle.strm_types.specs.Budgets.{Does, Within, emits_at}
 use Rattle.strm_types.specs.Cells.{AreCells, Cells, plain}
 use Rattle.strm_types.specs.Commands.{is_asked, is_ioctl}
-use Rattle.strm_types.specs.Deliver.{Acted, onward, toward}
+use Rattle.strm_types.specs.Deliver.{onward, toward}
 use Rattle.strm_types.specs.Ioctls.{ioc_bytes, nak_message, read_ioc, refused}
 use Rattle.strm_types.specs.Message.{Message, cells_of, has_parts, is_part, map_message, part, weight_of}
 use Rattle.strm_types.specs.Names.{direction_at}
@@ -24,7 +24,7 @@ use Rattle.strm_types.specs.Owns.{Own}
 use Rattle.strm_types.specs.Shapes.{Asking, shape_by, shape_of}
 use Rattle.strm_types.specs.Tables.{own_does}
 use Rattle.strm_types.specs.Write.{chunk_count}
-use Rattle.strm_laws.specs.Behaviours.{Behaviour, GoodOwn, OwnPut, blocks_of, part_blocks}
+use Rattle.strm_laws.specs.Behaviours.{GoodOwn, OwnPut, blocks_of, part_blocks}
 use Rattle.strm_laws.specs.GoodMessages.{GoodMessage}
 use Rattle.strm_types.proofs.CostsOf.{one-few}
 use Rattle.strm_types.proofs.ShapesOf.{asked-shape}
@@ -35,7 +35,6 @@ use Rattle.strm_laws.proofs.LdtermKeeps.{onward-weighs}
 use Rattle.strm_laws.proofs.NoOwn.{passes-put, passes-within}
 use Rattle.strm_laws.proofs.PutForgets.{parts-forget}
 use Rattle.strm_laws.proofs.PutWeights.{no-parts}
-use Rattle.code_page.specs.declared.TheConstants.{CODE_PAGE}
 use Rattle.code_page.specs.CodePages.{answered, changed, exchanged, is_page, knows_page, no_page, ours, page_command, page_of, page_puts, passed}
 
 -- what a part has is mapped, and no part comes or goes

@@ -1,5 +1,5 @@
 -- The answer says whether a page came.
-use Rattle.std.proofs.Common.{◌≡◌, true, false, cond, sym, ap, subst, ◌∙◌}
+use Rattle.std.proofs.Common.{◌≡◌, cond, sym, ap, subst, ◌∙◌}
 use Rattle.strm_types.specs.declared.ioctls.Ioc.{Ioc}
 use Rattle.strm_types.specs.Acks.{payload}
 use Rattle.strm_types.specs.Ioctls.{ioc_bytes}

@@ -1,6 +1,5 @@
 -- By the kind, the header and its command.
-use Rattle.std.proofs.Common.{sym, ap, ◌∙◌}
-use Rattle.std.specs.Prelude.{Some}
+use Rattle.std.proofs.Common.{sym, ◌∙◌}
 use Rattle.strm_types.specs.Commands.{is_asked}
 use Rattle.strm_types.specs.Ioctls.{read_ioc}
 use Rattle.strm_blocks.specs.Blocks.{token}

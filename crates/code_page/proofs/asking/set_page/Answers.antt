@@ -1,5 +1,5 @@
 -- A page came where as many bytes were read as one has with its header.
-use Rattle.std.proofs.Common.{◌≡◌, true, false, refl, sym, ap, ◌∙◌, replicate, drop, take}
+use Rattle.std.proofs.Common.{refl, sym, ap, ◌∙◌, replicate, drop, take}
 use Rattle.strm_types.specs.Acks.{payload}
 use Rattle.strm_blocks.specs.Blocks.{in_hand, token}
 use Rattle.strm_msg.specs.Bytes.{bytes_of}

@@ -1,5 +1,5 @@
 -- Without a page the message goes on; with one, that which has other bytes.
-use Rattle.std.proofs.Common.{◌≡◌, true, false, sym, ap, subst, ◌∙◌}
+use Rattle.std.proofs.Common.{◌≡◌, true, false, sym, subst}
 use Rattle.strm_types.specs.Cells.{plain}
 use Rattle.strm_blocks.specs.Blocks.{token}
 use Rattle.strm_msg.specs.Translated.{Translated}
