@@ -1,0 +1,3 @@
+pub mod PagesAsked
+pub mod PagesPassed
+pub mod PagesRead

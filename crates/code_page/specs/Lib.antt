@@ -1,0 +1,3 @@
+pub mod CodePages
+pub mod PageLaws
+pub mod PageBehaviour
