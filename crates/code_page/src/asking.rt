@@ -100,6 +100,12 @@ pub(crate) fn answer<B: Blocks>(
     if set_page(own, store, &message) {
         reply(store, here, MsgKind::Iocack, &ioc.acked().bytes(), message)
     } else {
-        reply(store, here, MsgKind::Iocnak, &ioc.refused().bytes(), message)
+        reply(
+            store,
+            here,
+            MsgKind::Iocnak,
+            &ioc.refused().bytes(),
+            message,
+        )
     }
 }

@@ -25,9 +25,7 @@ const NEXT: Step<'static> = Step::Set(SLAVE, Page::Next, PAGE_SIZE, OBEYED);
 // Bytes that are typed at the master, and others that are shown there.
 const TYPE: Step<'static> = Step::Call(
     MASTER,
-    Event::Write {
-        bytes: b"abz-Q\n",
-    },
+    Event::Write { bytes: b"abz-Q\n" },
     Ok(Answer::Count(6)),
 );
 

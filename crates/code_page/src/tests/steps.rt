@@ -9,9 +9,7 @@ use std::alloc::{AllocError, Global};
 use std::process::Abort;
 use strm_blocks::{Blocks, Reserve};
 use strm_pair::{NoModule, OwnModule, Pair};
-use strm_types::{
-    Answer, Caller, Config, Content, Dir, Event, Prio, Refusal, Rule, Side, Wanted,
-};
+use strm_types::{Answer, Caller, Config, Content, Dir, Event, Prio, Refusal, Rule, Side, Wanted};
 
 pub const MASTER: Caller = Caller {
     side: Side::Master,
@@ -270,6 +268,9 @@ pub fn goes_on<B: Reserve>(
     };
     follow(rt, &mut second, parts[1].title, parts[1].steps);
     let other = restored::<B, NoModule>(alloc, image.as_slice())?;
-    assert!(rt; matches!(other, Err(Refusal::Einval)), "a pair without the module");
+    assert!(rt;
+        matches!(other, Err(Refusal::Einval)),
+        "a pair without the module"
+    );
     Ok(())
 }
