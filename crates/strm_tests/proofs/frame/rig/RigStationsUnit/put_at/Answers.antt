@@ -41,7 +41,7 @@ put-acts-requires g c =
     let none = none-taken (map (standing_in (λ t y. y.name) s) xs) (c.args.to.at - 1) in
     let low : 0 < c.args.to.at = omega (arith, inside) in
     let few : c.args.to.at ≤ length xs = omega (arith, inside, two) in
-    (omega arith, (low, (few, (c.requires.held.held, (c.requires.can_put, (c.requires.chain, record { mblks = omega (arith, none); dblks = omega (arith, none) }))))))
+    (omega arith, (low, (few, (c.requires.held.held, (c.requires.can_put, (c.requires.chain, (record { mblks = omega (arith, none); dblks = omega (arith, none) }, tt)))))))
 
 pub returns-clause-puts : goal.returns-clause-puts
 returns-clause-puts g c =
