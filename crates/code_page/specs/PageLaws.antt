@@ -24,7 +24,7 @@ use Rattle.strm_types.specs.Owns.{Own}
 use Rattle.strm_types.specs.Shapes.{Asking, shape_by, shape_of}
 use Rattle.strm_types.specs.Tables.{own_does}
 use Rattle.strm_types.specs.Write.{chunk_count}
-use Rattle.strm_laws.specs.Behaviours.{GoodOwn, OwnPut, blocks_of, part_blocks}
+use Rattle.strm_laws.specs.Behaviours.{GoodOwn, OwnPut, blocks_of, part_blocks, passes_all}
 use Rattle.strm_laws.specs.GoodMessages.{GoodMessage}
 use Rattle.strm_types.proofs.CostsOf.{one-few}
 use Rattle.strm_types.proofs.ShapesOf.{asked-shape}
@@ -67,7 +67,8 @@ module _ {C : Type 0} (cells : Cells C) (page : List ℕ) where
   part-weighs q same None = refl
   part-weighs q same (Some xs) = exchanged-weighs q same xs
 
-  changed-weighs : (q : C → Bool) → ((b : ℕ) (c : C) → q (cells.mapped b c) ≡ q c) → (m : Message C) → weight_of q (changed cells page m) ≡ weight_of q m
+  changed-weighs : (q : C → Bool) → ((b : ℕ) (c : C) → q (cells.mapped b c) ≡ q c) → (m : Message C)
+      → weight_of q (changed cells page m) ≡ weight_of q m
   unfolding weight_of cells_of
   changed-weighs q same m =
       omega (
@@ -119,7 +120,7 @@ low-bytes [] = tt
 low-bytes (b ∷ bytes) = (omega arith, low-bytes bytes)
 
 module _ {C : Type 0} (cells : Cells C) (here : Spot) (m : Message C) (x : Own) where
-  changes : OwnPut true cells here m x (record { state = x; notes = []; sent = onward here.way here (changed cells x.settings m) ∷ []; gone = [] })
+  changes : OwnPut true cells here m x (passes_all here (changed cells x.settings m) x)
   changes = record {
     number = refl;
     notes = refl;
@@ -141,7 +142,7 @@ module _ {C : Type 0} (cells : Cells C) (here : Spot) (m : Message C) (x : Own) 
   }
 
   -- a put that changes no byte owes no less of a test on cells that may see bytes
-  passes : OwnPut true cells here m x (record { state = x; notes = []; sent = onward here.way here m ∷ []; gone = [] })
+  passes : OwnPut true cells here m x (passes_all here m x)
   passes =
       let same = passes-put cells here m x in
       record {
@@ -157,7 +158,7 @@ module _ {C : Type 0} (cells : Cells C) (here : Spot) (m : Message C) (x : Own) 
         stays = same.stays;
       }
 
-  goes-on : (page : Bool) → OwnPut true cells here m x (record { state = x; notes = []; sent = onward here.way here (passed page cells x.settings m) ∷ []; gone = [] })
+  goes-on : (page : Bool) → OwnPut true cells here m x (passes_all here (passed page cells x.settings m) x)
   goes-on true = changes
   goes-on false = passes
 
@@ -198,7 +199,10 @@ module _ {C : Type 0} (cells : Cells C) (here : Spot) (m : Message C) (x : Own) 
       sends = λ good. (ack-good ioc [] (omega arith), tt);
       stays = λ good. record {
         number = good.number;
-        few = (let is : length (payload m.plain) ≡ 256 = grind (arith, nat_tests) in omega (arith, is, length-map (payload m.plain) (λ (b : ℕ). b % 256)));
+        few = (
+            let is : length (payload m.plain) ≡ 256 = grind (arith, nat_tests) in
+            omega (arith, is, length-map (payload m.plain) (λ (b : ℕ). b % 256))
+            );
         bytes = low-bytes (payload m.plain);
       };
     }

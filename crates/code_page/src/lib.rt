@@ -2,8 +2,6 @@
 //! "Modules"). It stands on what the crates of a pair export, as any user's module does.
 #![tactic(auto)]
 
-ghost use Rattle.std.specs.Prelude.{◌≡◌};
-
 mod asking;
 mod passing;
 #[cfg(test)]
@@ -26,11 +24,12 @@ pub const SETPAGE: u32 = 0x4301;
 /// How many bytes a page has: one for each byte.
 pub const PAGE_SIZE: usize = 256;
 
-/// A module that puts other bytes in place of those that pass it. It is set to a page of 256 bytes, and where the page has `b` at place `a`, each byte
-/// `a` of a data part becomes `b`: of M_DATA, and of M_PROTO and M_PCPROTO, whose control part stays. That is so on the way up and on the way down.
+/// A module that puts other bytes in place of those that pass it. It is set to a page of 256 bytes, and where the page has `b` at place `a`, each
+/// byte `a` of a data part becomes `b`: of M_DATA, and of M_PROTO and M_PCPROTO, whose control part stays. That is so on the way up and on the way
+/// down.
 ///
-/// As it is pushed it is set to nothing, and all passes as it is. An M_IOCTL of [`SETPAGE`] that comes down with 256 bytes sets the page, and is answered
-/// with M_IOCACK; with another number of bytes it is answered with M_IOCNAK, EINVAL, and the page stays. All else passes.
+/// As it is pushed it is set to nothing, and all passes as it is. An M_IOCTL of [`SETPAGE`] that comes down with 256 bytes sets the page, and is
+/// answered with M_IOCACK; with another number of bytes it is answered with M_IOCNAK, EINVAL, and the page stays. All else passes.
 pub enum CodePage {}
 
 impl Behaves for CodePage {

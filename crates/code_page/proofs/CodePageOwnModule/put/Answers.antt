@@ -23,7 +23,8 @@ returns-in-Some g c =
     let here = c.args.here in
     let told = c.args._told.now in
     let most = own_at own_does here m in
-    subst (λ o. OwnPuts s (g.B.Blocks.value c.answer.new.store) c.answer.new.own i most c.answer.result told told (page_puts o plain here m c.args.own.now))
+    let t = g.B.Blocks.value c.answer.new.store in
+    subst (λ o. OwnPuts s t c.answer.new.own i most c.answer.result told told (page_puts o plain here m c.args.own.now))
     (sym (sym c.asked_of.ensures ∙ c.in-Some.is)) (c.answer.ensures told most)
 
 pub returns-in-None : goal.returns-in-None

@@ -12,7 +12,9 @@ pub returns-then-not-is_ioctl : goal.returns-then-not-is_ioctl
 returns-then-not-is_ioctl g c =
     let s = g.B.Blocks.value c.args.store.now in
     let i = token c.args.message.now in
-    sym (asks-nothing (is_asked (message_in s i)) (read_ioc (message_in s i).plain) (asked-not s i c.kind.result c.kind.ensures (sym c.is_ioctl.ensures ∙ c.if-not-is_ioctl.true)))
+    let m = message_in s i in
+    let none = asked-not s i c.kind.result c.kind.ensures (sym c.is_ioctl.ensures ∙ c.if-not-is_ioctl.true) in
+    sym (asks-nothing (is_asked m) (read_ioc m.plain) none)
 
 pub header_of-requires-clause-kind : goal.header_of-requires-clause-kind
 header_of-requires-clause-kind g c =

@@ -34,5 +34,6 @@ returns-clause-set g c =
     let chain = in_hand s i in
     let count = c.first_bytes-count in
     let read = page-read (replicate 273 0) (bytes_of chain) count.result refl count.ensures.count c.if-count-ne-SETS.false in
-    let given = ap (λ bytes. take 256 (drop 16 bytes)) count.ensures.given ∙ read ∙ ap (λ m. payload m.plain) (sym (plain-is chain (asked-plain s i c.requires.asked))) in
+    let same = ap (λ m. payload m.plain) (sym (plain-is chain (asked-plain s i c.requires.asked))) in
+    let given = ap (λ bytes. take 256 (drop 16 bytes)) count.ensures.given ∙ read ∙ same in
     c.set_to.ensures ∙ ap (λ bytes. record c.args.own.now { settings = page_of bytes }) given

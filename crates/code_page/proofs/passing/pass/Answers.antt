@@ -17,8 +17,10 @@ returns-then-page-ne-PAGE_SIZE g c = λ told most.
     let i = token c.args.message in
     let own = c.args.own.now in
     let here = c.args.here in
-    let none : is_page own.settings ≡ false = no-page c.settings-page.result.now own.settings c.settings-page.ensures.settings c.if-page-ne-PAGE_SIZE.true in
-    subst (λ is. OwnPuts s s own i most c.pass_on.result told told (passes_all here (passed is plain own.settings (message_in s i)) own)) (sym none)
+    let none : is_page own.settings ≡ false =
+    no-page c.settings-page.result.now own.settings c.settings-page.ensures.settings c.if-page-ne-PAGE_SIZE.true in
+    let m = message_in s i in
+    subst (λ is. OwnPuts s s own i most c.pass_on.result told told (passes_all here (passed is plain own.settings m) own)) (sym none)
     (c.pass_on.ensures s own told most c.requires.may)
 
 pub returns : goal.returns
@@ -29,8 +31,10 @@ returns g c = λ told most.
     let j = token c.translate-message.result in
     let own = c.args.own.now in
     let here = c.args.here in
-    let yes : is_page own.settings ≡ true = page-is c.settings-page.result.now own.settings c.settings-page.ensures.settings c.if-page-ne-PAGE_SIZE.false in
+    let yes : is_page own.settings ≡ true =
+    page-is c.settings-page.result.now own.settings c.settings-page.ensures.settings c.if-page-ne-PAGE_SIZE.false in
     let done = subst (λ page. Translated s t i j page) c.settings-page.ensures.settings c.translate-message.ensures in
-    subst (λ is. OwnPuts s t own i most c.pass_on-2.result told told (passes_all here (passed is plain own.settings (message_in s i)) own)) (sym yes)
+    let m = message_in s i in
+    subst (λ is. OwnPuts s t own i most c.pass_on-2.result told told (passes_all here (passed is plain own.settings m) own)) (sym yes)
     (passes-on s t here i j own.settings done c.pass_on-2.result own told most c.requires.wide
     (c.pass_on-2.ensures t own told most (may-on s t here i j own.settings done c.requires.may)))
