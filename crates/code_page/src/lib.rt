@@ -2,6 +2,8 @@
 //! "Modules"). It stands on what the crates of a pair export, as any user's module does.
 #![tactic(auto)]
 
+ghost use Rattle.std.specs.Prelude.{◌≡◌};
+
 mod asking;
 mod passing;
 #[cfg(test)]
