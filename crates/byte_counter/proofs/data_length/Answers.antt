@@ -24,9 +24,9 @@ pub returns-then-is_data_kind : goal.returns-then-is_data_kind
 returns-then-is_data_kind g c =
     c.msgdsize.ensures
     ∙ data-shown (in_hand (g.B.Blocks.value c.args.store.now) (token c.args.message.now))
-      (ap is_data_kind (sym c.kind.ensures) ∙ (sym c.is_data_kind.ensures ∙ c.if-is_data_kind.true))
+    (ap is_data_kind (sym c.kind.ensures) ∙ (sym c.is_data_kind.ensures ∙ c.if-is_data_kind.true))
 
 pub returns-else-is_data_kind : goal.returns-else-is_data_kind
 returns-else-is_data_kind g c =
     none-shown (in_hand (g.B.Blocks.value c.args.store.now) (token c.args.message.now))
-      (ap is_data_kind (sym c.kind.ensures) ∙ (sym c.is_data_kind.ensures ∙ c.if-is_data_kind.false))
+    (ap is_data_kind (sym c.kind.ensures) ∙ (sym c.is_data_kind.ensures ∙ c.if-is_data_kind.false))

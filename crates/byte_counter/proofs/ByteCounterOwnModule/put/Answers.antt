@@ -17,7 +17,7 @@ returns g c =
     let own : Own = c.args.own.now in
     let most = own_at own_does c.args.here m in
     let counted : c.count_on.new.own ≡ record own { settings = counted_on own.settings (data_length m) } =
-        c.count_on.ensures ∙ ap (λ n. record own { settings = counted_on own.settings n }) c.data_length.ensures in
+    c.count_on.ensures ∙ ap (λ n. record own { settings = counted_on own.settings n }) c.data_length.ensures in
     let told = c.args._told.now in
     subst (λ x. OwnPuts s s c.count_on.new.own (token c.args.message) most c.pass_on.result told told (passes_all c.args.here m x)) counted
-        (c.pass_on.ensures s c.count_on.new.own told most c.requires.may)
+    (c.pass_on.ensures s c.count_on.new.own told most c.requires.may)
