@@ -76,8 +76,8 @@ fn turn<B: Blocks>(store: &mut B, message: InHand, table: &[u8]) -> InHand
 /// Puts other bytes in place of those of a message's data part, by a table: `b` becomes `table[b]`. The message keeps its
 /// kind, its band and its control part, and one without parts stays as it is. Each M_DATA block is exchanged for one with a
 /// data block of its own, so duplicates of the message keep their bytes. A data block is free for each, where there are at
-/// least as many as message blocks. It takes a step for each two blocks of the message, and the cost of the bytes.
-pub fn translate<B: Blocks>(store: &mut B, message: InHand, table: &[u8]) -> InHand
+/// least as many as message blocks. It takes a step for each pair of the message's blocks, and the cost of the bytes.
+pub fn translate<B: Blocks>(store: &mut B, mut message: InHand, table: &[u8]) -> InHand
     requires in_hand { IsInHand (B.value store.old) (token message) }
     requires chain { IsChain (in_hand (B.value store.old) (token message)) }
     requires table { length table.now ≡ 256 }
@@ -87,7 +87,6 @@ pub fn translate<B: Blocks>(store: &mut B, message: InHand, table: &[u8]) -> InH
     if !store.kind(&message, 0).is_data_kind() {
         return message;
     }
-    let mut message = message;
     for _ in 0..store.blocks(&message) {
         message = turn(store, message, table);
     }
