@@ -159,9 +159,6 @@ module _ {s t u : StoreValue} {i first r : ℕ} {table : List ℕ} (here : IsInH
     pub rest-in_hand : IsInHand u q
     rest-in_hand = beside-in_hand last-beside q rest-held
 
-    pub last-in_hand : IsInHand u r
-    last-in_hand = turned.beside.here
-
     pub last-apart : q ≢ r
     last-apart same = beside-apart last-beside q rest-held (sym same)
 
