@@ -13,7 +13,7 @@ use Rattle.strm_laws.specs.GoodMessages.{AreGood, GoodMessage}
 use Rattle.strm_laws.specs.LdtermWeights.{IgnoresMapping}
 use Rattle.strm_laws.specs.Places.{weight_gone, weight_made, weight_sent}
 
--- One as an image may hold it: its number is that of a name, and it is set to 512 bytes at most.
+-- One as an image may hold it: its number is that of a name, and it is set to 320 bytes at most.
 pub record GoodOwn (x : Own) : Type 0 where
   pub number : x.number < 256
   pub few : length x.settings ≤ SETTINGS_MAX

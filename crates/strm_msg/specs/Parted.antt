@@ -1,5 +1,5 @@
 -- The parts of a message as a visitor adds them up, block by block.
-use Rattle.std.specs.Prelude.{ℕ, Bool, ◌&&◌, ◌+◌, ◌-◌, ◌^◌, min, if◌then◌else◌, List, length, Option, Some, unwrap_or}
+use Rattle.std.specs.Prelude.{ℕ, ◌&&◌, ◌+◌, ◌-◌, ◌^◌, min, if◌then◌else◌, List, length, Option, Some, unwrap_or}
 use Rattle.strm_types.specs.Kinds.{is_control_kind, is_body_kind}
 use Rattle.strm_blocks.specs.Outcomes.{SeenBlock}
 use Rattle.strm_msg.specs.declared.sizes.PartSizes.{PartSizes}

@@ -1,5 +1,5 @@
 -- What a side of a pair is ready for (poll(2)): what its calls would be told as the state is.
-use Rattle.std.specs.Prelude.{Bool, true, false, not, ◌==◌, List, [], length, Option, None, Some}
+use Rattle.std.specs.Prelude.{Bool, true, false, not, ◌==◌, [], length, Option, Some}
 use Rattle.strm_pair.specs.Prelude.{Write, Side, Refusal, Slot, Answered, is_open, unfit, State, stream, Behaviour}
 use Rattle.strm_types.specs.declared.events.Event.TheVariants.{Get, Read}
 use Rattle.strm_types.specs.declared.modes.Wanted.TheVariants.{Any}

@@ -1,5 +1,5 @@
 -- The streams beside a store that is as wide as modules of a user's own want it (OwnModule).
-use Rattle.std.specs.Prelude.{ℕ, ◌≡◌, Bool}
+use Rattle.std.specs.Prelude.{◌≡◌, Bool}
 use Rattle.strm_pair.specs.Prelude.{StoreValue}
 use Rattle.strm_frame.specs.Hands.{IsWide, SameFor}
 use Rattle.strm_frame.proofs.WidePools.{wide-on}

@@ -1,7 +1,7 @@
 -- Job control: who is in the background of a terminal, what becomes of a call from there, and the commands that read and set the foreground
 -- process group (POSIX, General Terminal Interface, "Process Groups" and "Terminal Access Control"; tcgetpgrp, tcsetpgrp; termio(7I):
 -- TOSTOP).
-use Rattle.std.specs.Prelude.{ℕ, Bool, true, false, not, ◌&&◌, ◌||◌, ◌==◌, if◌then◌else◌, List, length, Option, None, Some}
+use Rattle.std.specs.Prelude.{ℕ, Bool, false, not, ◌&&◌, ◌||◌, ◌==◌, if◌then◌else◌, List, length, Option, None, Some}
 use Rattle.strm_types.specs.declared.answers.Answer.TheVariants.{Done, Bytes, Nak}
 use Rattle.strm_types.specs.declared.events.Caller.{Caller}
 use Rattle.strm_types.specs.declared.ioctls.TheConstants.{TIOCGPGRP, TIOCSPGRP}

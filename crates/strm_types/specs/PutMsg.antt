@@ -1,5 +1,5 @@
 -- What a putmsg(2) or putpmsg(2) sends down a stream, and what it is refused for before anything else is looked at.
-use Rattle.std.specs.Prelude.{ℕ, Bool, false, not, ◌&&◌, ◌||◌, ◌+◌, nat_le, nat_lt, if◌then◌else◌, List, [], length, Option, None, Some}
+use Rattle.std.specs.Prelude.{ℕ, Bool, false, not, ◌&&◌, ◌||◌, ◌+◌, nat_lt, if◌then◌else◌, List, [], length, Option, None, Some}
 use Rattle.strm_types.specs.declared.kinds.MsgKind.{MsgKind}
 use Rattle.strm_types.specs.declared.kinds.MsgKind.TheVariants.{Data, Proto, Pcproto}
 use Rattle.strm_types.specs.declared.limits.TheConstants.{CONTROL_MAX, DATA_MAX}

@@ -1,6 +1,6 @@
 -- What refusals are told by: the first of two that holds, a condition, a band, whether data stands on a queue, and the blocks of a turn.
 use Rattle.std.specs.List.{list_any}
-use Rattle.std.specs.Prelude.{ℕ, Bool, true, false, not, nat_lt, List, Option, None, Some}
+use Rattle.std.specs.Prelude.{ℕ, Bool, true, false, not, List, Option, None, Some}
 use Rattle.strm_types.specs.declared.refusals.Refusal.{Refusal}
 use Rattle.strm_types.specs.declared.limits.TheConstants.{STOP_BLOCKS, TURN_BLOCKS}
 use Rattle.strm_types.specs.declared.names.Place.{Place}

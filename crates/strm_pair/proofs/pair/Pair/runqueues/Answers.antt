@@ -1,5 +1,5 @@
 -- Turn by turn.
-use Rattle.strm_pair.proofs.Prelude.{◌≡◌, ◌≤◌, length, ap, sym, ◌∙◌, subst, arith, None, Some, slice_get}
+use Rattle.strm_pair.proofs.Prelude.{◌≡◌, ◌≤◌, length, ap, sym, ◌∙◌, subst, arith, Some, slice_get}
 use Rattle.strm_pair.specs.Prelude.{Config, PairState, RanTurns, next_refused, queue_refused}
 use Rattle.strm_laws.proofs.Replay.{refused-by}
 use Rattle.strm_pair.proofs.Runs.{full-refuses, next-allowed, next-is, none-first, one-more}

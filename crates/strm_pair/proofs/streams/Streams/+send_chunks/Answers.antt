@@ -1,5 +1,5 @@
 -- A chunk goes, and the rest is a write of the other chunks.
-use Rattle.strm_pair.proofs.Prelude.{◌≡◌, ◌≤◌, ◌-◌, ◌+◌, ℕ, suc, length, sym, ap, subst, ◌∙◌, arith, delivered-idle}
+use Rattle.strm_pair.proofs.Prelude.{◌≡◌, ◌-◌, ◌+◌, ℕ, suc, length, sym, ap, subst, ◌∙◌, arith, delivered-idle}
 use Rattle.strm_pair.specs.Prelude.{plain, data_message, chunks_of, Wrote, below_head, chunks_sent, delivered}
 use Rattle.strm_pair.specs.Pairs.{state_in}
 use Rattle.strm_pair.specs.Effects.{Delivers}
