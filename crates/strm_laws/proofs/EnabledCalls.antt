@@ -26,7 +26,7 @@ use Rattle.strm_laws.specs.StackCosts.{Stands, stands_of, stands_on}
 use Rattle.strm_laws.specs.Stacked.{Standing, module_name}
 use Rattle.strm_laws.specs.State.{State, Stream, book, stream, with_driver_queue, with_head_queue, with_ioctl, with_stream}
 use Rattle.strm_types.proofs.EnabledNames.{same_module-self, same_module-sound}
-use Rattle.strm_laws.proofs.EnabledExist.{MayBe, any-noted, before-there, index-there, more-among, noted-there, some-there}
+use Rattle.strm_laws.proofs.EnabledExist.{MayBe, any-noted, before-there, if-there, index-there, more-among, noted-there, some-there}
 use Rattle.strm_laws.proofs.EnabledPuts.{Enabled, delivered-enabled, head-enabled, stream-enabled}
 use Rattle.strm_laws.proofs.GoodCalls.{with-get}
 use Rattle.strm_laws.proofs.PushForgets.{clears}

@@ -22,7 +22,7 @@ use Rattle.strm_laws.specs.StackCosts.{Stands, stands_of}
 use Rattle.strm_laws.specs.Stacked.{Standing, module_asks, module_name, module_puts, module_rests}
 use Rattle.strm_laws.specs.State.{State, Stream, stream, with_driver_queue, with_stream}
 use Rattle.strm_laws.specs.Turns.{driver_serves, held_back, is_stopped_across, moved_across, turned, turned_at, turned_queue, up_across, with_driver}
-use Rattle.strm_laws.proofs.EnabledExist.{AreNoted, among-there, any-noted, before-there, index-there, noted-there, some-there, without-there}
+use Rattle.strm_laws.proofs.EnabledExist.{AreNoted, among-there, any-noted, before-there, if-there, index-there, noted-there, some-there, without-there}
 use Rattle.strm_laws.proofs.GoodTurns.{calls-either, outcome-holds}
 use Rattle.strm_laws.proofs.PutParts.{booked-holds, either-holds, parts-hold}
 use Rattle.strm_laws.proofs.SameNames.{keep-names, queue-names, serve-names}

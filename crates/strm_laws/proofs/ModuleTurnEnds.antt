@@ -12,7 +12,7 @@ use Rattle.strm_laws.specs.Puts.{earlier_at, put_in}
 use Rattle.strm_laws.specs.Stacked.{module_asks, module_rests}
 use Rattle.strm_laws.specs.State.{State, stream, with_stream}
 use Rattle.strm_laws.specs.TurnOutcomes.{TurnOutcome}
-use Rattle.strm_laws.proofs.NamesAdded.{AddsNone, some-adds}
+use Rattle.strm_laws.proofs.NamesAdded.{AddsNone, if-adds, some-adds}
 use Rattle.strm_laws.proofs.PutParts.{Stays, acted-holds, sent-holds}
 use Rattle.strm_laws.proofs.SameNames.{queue-names, serve-names}
 

@@ -14,7 +14,7 @@ use Rattle.strm_laws.specs.State.{State, stream}
 use Rattle.strm_laws.specs.TurnOutcomes.{TurnOutcome}
 use Rattle.strm_laws.specs.Turns.{driver_serves, held_back, is_stopped_across, moved_across, turned, turned_at, turned_queue, up_across, with_driver}
 use Rattle.strm_laws.proofs.ModuleTurnEnds.{module_turned-holds, past-holds}
-use Rattle.strm_laws.proofs.NamesAdded.{AddsNone, some-adds, without-adds}
+use Rattle.strm_laws.proofs.NamesAdded.{AddsNone, if-adds, some-adds, without-adds}
 use Rattle.strm_laws.proofs.PutParts.{Stays, delivered-holds}
 
 pub record Turns {C : Type 0} (K : Behaviour) (P : State C → Type 0) : Type 0 where
