@@ -80,6 +80,7 @@ impl Enabled {
     }
 
     /// Enables a queue, if there is one.
+    #[inline(always)]
     pub fn enable_found(&mut self, name: Option<QueueName>)
         ensures { self.new ≡ enable_found name self.old }
     {
@@ -89,6 +90,7 @@ impl Enabled {
     }
 
     /// Enables a queue on a condition.
+    #[inline(always)]
     pub fn enable_if(&mut self, condition: bool, name: QueueName)
         ensures { self.new ≡ enable_if condition name self.old }
     {

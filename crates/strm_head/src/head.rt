@@ -145,6 +145,7 @@ impl Head {
 
     /// What a read of up to `n` bytes is refused for, before it takes anything: EAGAIN where it finds nothing and the input
     /// isn't at its end, EBADMSG for a control part under RPROTNORM.
+    #[inline(always)]
     pub fn read_refusal<B: Blocks>(&self, store: &B, at_end: bool, n: usize) -> Option<Refusal>
         requires { IsHeadQueue (B.value store.now) self.now.queue }
         ensures { result ≡ read_refusal self.now.control_mode at_end n (messages_on (B.value store.now) self.now.queue.list) }

@@ -5,7 +5,7 @@ use Rattle.strm_types.specs.Owns.{Own}
 use Rattle.strm_laws.specs.Behaviours.{Behaviour, GoodOwn, OwnPut}
 
 -- what is owed where no bytes are changed is owed where some are
-wider : {C : Type 0} (a b : Bool) → (a ≡ true → b ≡ true) → (cells : Cells C) (here : Spot) (m : Message C) (x : Own) (t : Acted C Own)
+pub wider : {C : Type 0} (a b : Bool) → (a ≡ true → b ≡ true) → (cells : Cells C) (here : Spot) (m : Message C) (x : Own) (t : Acted C Own)
     → OwnPut a cells here m x t → OwnPut b cells here m x t
 wider a b less cells here m x t own = record {
   number = own.number;

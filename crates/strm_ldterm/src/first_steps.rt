@@ -42,6 +42,7 @@ fn drop_first<B: Blocks>(store: &mut B, message: InHand) -> InHand
 }
 
 /// Frees blocks without bytes at the front of a message of data, up to one that has some; the last one stays.
+#[inline(always)]
 pub(crate) fn skip_empty<B: Blocks>(store: &mut B, mut message: InHand) -> InHand
     requires in_hand { IsInHand (B.value store.old) (token message) }
     requires is { IsData (B.value store.old) (token message) }

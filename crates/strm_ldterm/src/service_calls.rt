@@ -164,6 +164,7 @@ fn is_under_way(stage: &Stage) -> bool
 /// Treats the message in work: the byte that has begun, and those that are left. It ends where something is sent, to be called again,
 /// and stops where fewer blocks are free than a byte may take: what is left goes back to the front of its queue then. The cost is
 /// in proportion to the bytes that are treated, and a step for each block of the message.
+#[inline(always)]
 pub(crate) fn treat<B: Blocks>(
     ldterm: &mut Ldterm,
     queues: &mut QueuePair,

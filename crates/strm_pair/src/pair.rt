@@ -365,6 +365,7 @@ impl<B: Blocks + Drop, M: OwnModule> Pair<B, M> {
     /// first. No part has more than 4096 bytes.
     ///
     /// The cost is in proportion to the bytes that the call moves. No memory is taken.
+    #[inline(always)]
     pub fn call(
         &mut self,
         caller: Caller,

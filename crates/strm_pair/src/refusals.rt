@@ -99,6 +99,7 @@ impl Streams {
     }
 
     /// Whether a side's head is at the end of its input, where nothing is to be read there.
+    #[inline(always)]
     pub(crate) fn is_at_end<B: Blocks>(&self, store: &B, side: Side) -> bool
         requires { AreHeld (B.value store.now) self.now }
         ensures { result ≡ at_end side (state_in (B.value store.now) self.now) }

@@ -74,6 +74,7 @@ impl Streams {
     ghost use Rattle.strm_pair.specs.Pairs.{AreBeside, state_in};
 
     /// Whether a message of a band may go on past a place of a side's stream, as messages of a way go. Nobody waits by this.
+    #[inline(always)]
     pub(crate) fn has_room_past<B: Blocks>(
         &self,
         store: &B,

@@ -215,6 +215,7 @@ impl Streams {
     }
 
     // A message that comes to the driver of a side.
+    #[inline(always)]
     fn put_driver<B: Blocks>(
         &mut self,
         store: &mut B,
@@ -285,6 +286,7 @@ impl Streams {
     }
 
     // A message that is put at a spot.
+    #[inline(always)]
     fn put<B: Blocks, M: OwnModule>(
         &mut self,
         store: &mut B,
@@ -338,6 +340,7 @@ impl<B: Blocks, M: OwnModule> Stations<B, M> for Streams {
 
     ghost stays = { ComesToStand };
 
+    #[inline(always)]
     fn put_at(&mut self, store: &mut B, to: Spot, message: InHand, told: &mut Fates) -> Outbox {
         store.audit();
         self.put::<B, M>(store, to, message, told)

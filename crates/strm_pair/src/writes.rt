@@ -70,6 +70,7 @@ impl Streams {
 
     // Sends so many chunks of the bytes, of at most 256 each, while band 0 of the first queue below the head isn't full, and says how
     // many bytes have gone. Each takes one block of each kind.
+    #[inline(always)]
     fn send_chunks<B: Blocks, M: OwnModule>(
         &mut self,
         store: &mut B,

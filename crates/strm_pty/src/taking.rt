@@ -44,6 +44,7 @@ pub(crate) fn let_go<B: Blocks>(store: &mut B, message: InHand) -> Acts
 
 /// Puts a message on the driver's queue, from which it will go up the other side's stream, and no block is freed. Once the master is
 /// closed it is freed, and its bytes are told.
+#[inline(always)]
 pub(crate) fn take_in<B: Blocks>(
     store: &mut B,
     queue: &mut Queue,

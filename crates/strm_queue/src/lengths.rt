@@ -41,6 +41,7 @@ impl Visitor for Measure {
 }
 
 // Tells how many bytes one message has, in all of its blocks or in its M_DATA blocks; none where it has no such block, or there is none.
+#[inline(always)]
 fn length<B: Blocks>(store: &B, queue: &Queue, data_only: bool, passes_over: bool) -> Option<usize>
     ensures { result ≡ length_on data_only passes_over (list_at (B.value store.now) queue.now.list) }
 {

@@ -125,6 +125,7 @@ pub fn mark_all(queue: &mut Queue, marks: Marks)
 }
 
 /// Puts a message in hand on a queue, and says whether that enables a queue with a service procedure: `putq(9F)`. No block is taken or freed.
+#[inline(always)]
 pub fn enqueue<B: Blocks>(store: &mut B, queue: &mut Queue, message: InHand) -> bool
     requires ready { IsReady (B.value store.old) queue.old }
     requires in_hand { IsInHand (B.value store.old) (token message) }
@@ -145,6 +146,7 @@ pub fn enqueue<B: Blocks>(store: &mut B, queue: &mut Queue, message: InHand) -> 
 
 /// Takes the first message off a queue into the hand, with its chain as it stood there: `getq(9F)`. None where no message
 /// stands there.
+#[inline(always)]
 pub fn dequeue<B: Blocks>(store: &mut B, queue: &mut Queue) -> Option<InHand>
     requires { IsReady (B.value store.old) queue.old }
     ensures { MatchOption result (NoneTaken (B.value store.old) (B.value store.new) queue.old queue.new)
