@@ -16,6 +16,7 @@ use Rattle.strm_types.specs.Queue as plain
 use Rattle.strm_head.specs.declared.head.Head as heads
 use Rattle.strm_head.specs.Heads.{notes_of}
 use Rattle.strm_queue.specs.declared.queue.Queue.{Queue}
+use Rattle.strm_frame.proofs.Shifting.{shifts-joined, shifts-spends}
 use Rattle.strm_pty.specs.Does.{driver_cost, Swaps}
 use Rattle.strm_pair.specs.Pairs.{end_at, with_end, state_in, AreBeside, Stays, kept_by}
 use Rattle.strm_pair.proofs.Sides.{driver-changed, driver-state, head-changed, head-state, driver-is, head-is}
@@ -24,6 +25,7 @@ use Rattle.strm_types.specs.Heads.{head_put, is_doubled, obeyed, turned_round, w
 use Rattle.strm_head.specs.declared.putting.Down as heads_down
 use Rattle.strm_head.specs.declared.putting.Down.TheVariants as downs
 use Rattle.strm_frame.proofs.Handing.{one-parts, one-chains}
+use Rattle.strm_frame.proofs.Shifting.{shifts-both, shifts-as}
 use Rattle.strm_pty.proofs.Doing.{times-one}
 use Rattle.strm_pair.specs.declared.streams.Streams.{Streams}
 use Rattle.strm_types.specs.Costs.{is_turned, turns_round, up_takes}
