@@ -1,6 +1,6 @@
 -- Pairs that stand for images.
-use Rattle.std.proofs.Common.{◌≡◌, ◌∙◌, ◌-◌, ℕ, true, leb, sym, ap, subst, List}
-use Rattle.std.specs.Prelude.{Option, None, Some, Result, Ok, Err, OnOk}
+use Rattle.std.proofs.Common.{◌≡◌, ◌∙◌, ◌-◌, ℕ, true, leb, sym, ap, subst, List, arith}
+use Rattle.std.specs.Prelude.{Option, None, Some, Result, Ok, Err, IfOk, OnOk}
 use Rattle.std.proofs.lemmas.Bool.{and_parts, leb-true}
 use Rattle.strm_types.specs.declared.limits.Config.{Config}
 use Rattle.strm_types.specs.declared.refusals.Refusal.{Refusal}
@@ -16,7 +16,7 @@ use Rattle.strm_image.proofs.ReadRows.{same_images}
 use Rattle.strm_pair.specs.Pairs.{free_in}
 use Rattle.strm_pair.specs.Restored.{IsImageFor, image_blocks, restored}
 use Rattle.strm_pair.proofs.Shown.{free-empty}
-use Rattle.strm_vectors.specs.Told.{IsPairOf}
+use Rattle.strm_vectors.specs.Told.{IsFound, IsLeft, IsPairOf}
 
 -- a pair over a store that held nothing and has enough blocks
 pub pair_over : (x : Imaged) (s : StoreValue) (limits : Config) (mblks dblks : ℕ) (p : PairState) → s ≡ empty_store mblks dblks → limits.mblks ≡ s.mblks → limits.dblks ≡ s.dblks
@@ -32,6 +32,21 @@ pair_over x s limits mblks dblks p blank of_m of_d few is =
       free_dblks = ap (λ (q : PairState). q.free.dblks) is ∙ ap (λ n. n - image_blocks x) (of_d ∙ ap (λ (t : StoreValue). t.dblks) blank);
     }
 
+-- what such a pair leaves of the blocks says how many its image takes
+pub found_left : (x : Imaged) (room : ℕ) (p : PairState) (text : List ℕ) (mblks dblks : ℕ) → IsPairOf x room room p → IsLeft p room text mblks dblks
+    → IsFound x text mblks dblks
+found_left x room p text mblks dblks of left =
+    let some = of.some_mblks in
+    let free_m = of.free_mblks in
+    let free_d = of.free_dblks in
+    let takes_m = left.takes_mblks in
+    let takes_d = left.takes_dblks in
+    record {
+      text_of = subst (λ (y : Imaged). IsTextOf image text (Second, y)) of.same left.text_of;
+      takes_mblks = omega arith;
+      takes_dblks = omega arith;
+    }
+
 -- a call that was refused by one name isn't refused by another, and one that wasn't is by none
 pub same_why : {A : Type 0} → (e : Result A Refusal) (why other : Refusal) → e ≡ Err why → e ≡ Err other → why ≡ other
 same_why e why other one two = cc
@@ -42,6 +57,10 @@ not_refused why r none some = cc
 pub on_ok : {A E : Type 0} (r : Result A E) (P Q : Type 0) → (P → Q) → OnOk r P → OnOk r Q
 on_ok (Ok x) P Q so p = so p
 on_ok (Err e) P Q so p = tt
+
+pub if_ok : {A E : Type 0} (r : Result A E) (P Q : A → Type 0) → ((x : A) → P x → Q x) → IfOk r P → IfOk r Q
+if_ok (Ok x) P Q so p = so x p
+if_ok (Err e) P Q so p = tt
 
 -- two texts whose pairs have one and the same image are images of one and the same state
 pub one_state : (text other same : List ℕ) (blocks : ℕ) (y : Imaged) → IsImageFor no_own other y → IsTextOf image same (Second, y)

@@ -31,3 +31,9 @@ pub record IsFound (x : Imaged) (text : List ℕ) (mblks dblks : ℕ) : Type 0 w
   pub text_of : IsTextOf image text (Second, x)
   pub takes_mblks : mblks ≡ image_blocks x
   pub takes_dblks : dblks ≡ image_blocks x
+
+-- what a pair that was made over so many blocks of each kind leaves of them: its image, and how many of them it took
+pub record IsLeft (p : PairState) (room : ℕ) (text : List ℕ) (mblks dblks : ℕ) : Type 0 where
+  pub text_of : IsTextOf image text (Second, imaged p.state p.fates)
+  pub takes_mblks : mblks ≡ room - p.free.mblks
+  pub takes_dblks : dblks ≡ room - p.free.dblks

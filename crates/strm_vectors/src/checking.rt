@@ -1,19 +1,20 @@
 //! Whether what a line says of an image holds.
 
-ghost use Rattle.std.specs.Prelude.{◌≡◌, ◌<◌, ◌≤◌, IfOk, OnOk};
+ghost use Rattle.std.specs.Prelude.{◌≡◌, ◌<◌, ◌≤◌, Some, IfOk, OnOk};
 ghost use Rattle.strm_types.specs.declared.refusals.Refusal.TheVariants.{Einval};
 ghost use Rattle.strm_laws.proofs.NoOwn.{none as no_own};
 ghost use Rattle.strm_image.specs.declared.versions.Version.TheVariants.{Second};
 ghost use Rattle.strm_image.specs.Format.{IsTextOf};
 ghost use Rattle.strm_image.specs.Image.{Imaged, image};
 ghost use Rattle.strm_pair.specs.Restored.{IsImageFor, IsNoImage, image_blocks};
-ghost use Rattle.strm_vectors.specs.Told.{Holds, IsFound};
+ghost use Rattle.strm_vectors.specs.Told.{Holds, IsFound, IsLeft};
 
 use crate::differences::Difference;
 use crate::pairs::{played, restored};
 use crate::vectors::Vector;
 use std::alloc::{AllocError, Global};
 use strm_blocks::Reserve;
+use strm_pair::Pair;
 use strm_types::Refusal;
 
 /// The most blocks of each kind that a store has.
@@ -27,23 +28,50 @@ struct Found {
     dblks: usize,
 }
 
-// What a text gives over a store that has room for every text of its length: a message of 12 bytes takes at most two blocks. A text of version 2
-// is its pair's image.
-fn found_in<B: Reserve>(alloc: Global, text: &[u8]) -> Result<Found, Difference>
-    ensures { IfOk result (λ f. (x : Imaged) × (IsImageFor no_own text.now x × IsFound x f.image.items f.mblks f.dblks)) }
+// As many blocks of each kind as have room for every text of this length: a message of 12 bytes takes at most two blocks.
+fn room_for(text: &[u8]) -> usize
+    ensures some { 0 < result }
+    ensures few { result ≤ 65536 }
 {
-    let room = (text.len() / 6 + 1).min(BLOCKS_MAX);
-    let pair = restored::<B>(alloc, text, room, room)?;
+    (text.len() / 6 + 1).min(BLOCKS_MAX)
+}
+
+// What a pair that was made over so many blocks gives.
+fn found_of<B: Reserve>(alloc: Global, pair: &Pair<B>, room: usize) -> Result<Found, Difference>
+    requires mblks { pair.now.free.mblks ≤ room }
+    requires dblks { pair.now.free.dblks ≤ room }
+    ensures { IfOk result (λ f. IsLeft pair.now room f.image.items f.mblks f.dblks) }
+{
     let (mblks, dblks) = pair.free_blocks();
     let image = pair.image(alloc)?;
-    if text.get(4) == Some(&2) && image.as_slice() != text {
-        return Err(Difference::OtherText);
-    }
     Ok(Found {
         image,
         mblks: room - mblks,
         dblks: room - dblks,
     })
+}
+
+// What a text gives over so many blocks of each kind.
+fn found_over<B: Reserve>(alloc: Global, text: &[u8], room: usize) -> Result<Found, Difference>
+    requires some { 0 < room }
+    requires few { room ≤ 65536 }
+    ensures { IfOk result (λ f. (x : Imaged) × (IsImageFor no_own text.now x × IsFound x f.image.items f.mblks f.dblks)) }
+{
+    let pair = restored::<B>(alloc, text, room, room)?;
+    let found = found_of::<B>(alloc, &pair, room);
+    drop(pair);
+    found
+}
+
+// What a text gives over a store that has room for every text of its length. A text of version 2 is its pair's image.
+fn found_in<B: Reserve>(alloc: Global, text: &[u8]) -> Result<Found, Difference>
+    ensures { IfOk result (λ f. (x : Imaged) × (IsImageFor no_own text.now x × IsFound x f.image.items f.mblks f.dblks)) }
+{
+    let found = found_over::<B>(alloc, text, room_for(text))?;
+    if text.get(4) == Some(&2) && found.image.as_slice() != text {
+        return Err(Difference::OtherText);
+    }
+    Ok(found)
 }
 
 // A text takes so many blocks of each kind, and no fewer of either.
@@ -63,8 +91,16 @@ fn takes<B: Reserve>(
             dblks: found.dblks,
         });
     }
+    no_fewer::<B>(alloc, text, blocks)?;
+    Ok(())
+}
+
+// So many blocks are enough for a text, and one less of either kind isn't.
+fn no_fewer<B: Reserve>(alloc: Global, text: &[u8], blocks: usize) -> Result<(), Difference>
+    requires { blocks < 65536 }
+{
     if blocks > 0 {
-        let _pair = restored::<B>(alloc, text, blocks, blocks)?;
+        is_enough::<B>(alloc, text, blocks)?;
     }
     if blocks > 1 {
         is_short::<B>(alloc, text, blocks - 1, blocks)?;
@@ -73,12 +109,24 @@ fn takes<B: Reserve>(
     Ok(())
 }
 
+// A pair is made of a text over so many blocks of each kind.
+fn is_enough<B: Reserve>(alloc: Global, text: &[u8], blocks: usize) -> Result<(), Difference>
+    requires some { 0 < blocks }
+    requires few { blocks ≤ 65536 }
+{
+    match refusal::<B>(alloc, text, blocks, blocks) {
+        None => Ok(()),
+        Some(why) => Err(Difference::Refused(why)),
+    }
+}
+
 // Why no pair is made of a text over so many blocks, if none is.
 fn refusal<B: Reserve>(alloc: Global, text: &[u8], mblks: usize, dblks: usize) -> Option<Refusal>
     requires some_mblks { 0 < mblks }
     requires few_mblks { mblks ≤ 65536 }
     requires some_dblks { 0 < dblks }
     requires few_dblks { dblks ≤ 65536 }
+    ensures { result ≡ Some Einval → IsNoImage no_own text.now }
 {
     restored::<B>(alloc, text, mblks, dblks).err()
 }
@@ -122,10 +170,10 @@ fn agrees<B: Reserve>(
 fn is_bad<B: Reserve>(alloc: Global, text: &[u8]) -> Result<(), Difference>
     ensures { OnOk result (IsNoImage no_own text.now) }
 {
-    let Err(why) = restored::<B>(alloc, text, 1, 1) else {
-        return Err(Difference::Restored);
-    };
-    says_no_image(why)
+    match refusal::<B>(alloc, text, 1, 1) {
+        None => Err(Difference::Restored),
+        Some(why) => says_no_image(why),
+    }
 }
 
 // It was refused as what is no image.
@@ -138,6 +186,40 @@ fn says_no_image(why: Refusal) -> Result<(), Difference>
     }
 }
 
+// The pairs of two texts have one image, and that of the first takes so many blocks.
+fn are_alike<B: Reserve>(
+    alloc: Global,
+    text: &[u8],
+    other: &[u8],
+    blocks: u16,
+) -> Result<(), Difference>
+    ensures { OnOk result ((x : Imaged) × (IsImageFor no_own text.now x × (IsImageFor no_own other.now x × (image_blocks x ≡ blocks)))) }
+{
+    let found = found_in::<B>(alloc, other)?;
+    agrees::<B>(alloc, text, found.image.as_slice(), blocks)
+}
+
+// The pair that a script leaves has the image of a text's pair, which takes so many blocks.
+fn is_left<B: Reserve>(
+    alloc: Global,
+    text: &[u8],
+    script: &[u8],
+    blocks: u16,
+) -> Result<(), Difference>
+    ensures { OnOk result ((x : Imaged) × (IsImageFor no_own text.now x × (image_blocks x ≡ blocks))) }
+{
+    let left = played::<B>(alloc, script)?;
+    agrees::<B>(alloc, text, left.as_slice(), blocks)
+}
+
+// A pair is made of a text.
+fn is_image<B: Reserve>(alloc: Global, text: &[u8]) -> Result<(), Difference>
+    ensures { OnOk result ((x : Imaged) × IsImageFor no_own text.now x) }
+{
+    let _found = found_in::<B>(alloc, text)?;
+    Ok(())
+}
+
 /// Whether what a line says holds, and else the first thing that differs.
 pub fn check<B: Reserve>(alloc: Global, vector: &Vector) -> Result<(), Difference>
     ensures { OnOk result (Holds vector.now) }
@@ -148,33 +230,27 @@ pub fn check<B: Reserve>(alloc: Global, vector: &Vector) -> Result<(), Differenc
             text,
             other,
             blocks,
-        } => {
-            let other = found_in::<B>(alloc, other.as_slice())?;
-            agrees::<B>(alloc, text.as_slice(), other.image.as_slice(), *blocks)
-        }
+        } => are_alike::<B>(alloc, text.as_slice(), other.as_slice(), *blocks),
         Vector::Script {
             script,
             text,
             blocks,
-        } => {
-            let left = played::<B>(alloc, script.as_slice())?;
-            agrees::<B>(alloc, text.as_slice(), left.as_slice(), *blocks)
-        }
-        Vector::Untold { text } => {
-            let _found = found_in::<B>(alloc, text.as_slice())?;
-            Ok(())
-        }
+        } => is_left::<B>(alloc, text.as_slice(), script.as_slice(), *blocks),
+        Vector::Untold { text } => is_image::<B>(alloc, text.as_slice()),
     }
+}
+
+// What a text gave, in words.
+fn in_words(alloc: Global, found: &Found) -> Result<String, AllocError> {
+    let image = hex::encode(alloc, found.image.as_slice())?;
+    format!(in alloc; "image {image} {} {}", found.mblks, found.dblks)
 }
 
 /// What a text gives, in words: `image`, the image of its pair in hexadecimal, and how many message blocks and data blocks the pair took; or why
 /// there is none.
 pub fn restored_as<B: Reserve>(alloc: Global, text: &[u8]) -> Result<String, AllocError> {
     match found_in::<B>(alloc, text) {
-        Ok(found) => {
-            let image = hex::encode(alloc, found.image.as_slice())?;
-            format!(in alloc; "image {image} {} {}", found.mblks, found.dblks)
-        }
+        Ok(found) => in_words(alloc, &found),
         Err(difference) => format!(in alloc; "{difference}"),
     }
 }

@@ -55,16 +55,39 @@ fn image_of<B: Reserve>(alloc: Global, session: &Session<B>) -> Result<Vec<u8>, 
     }
 }
 
-/// The image of the pair that a script leaves.
-pub fn played<B: Reserve>(alloc: Global, script: &[u8]) -> Result<Vec<u8>, Difference>
-    ensures { IfOk result (λ text. (x : Imaged) × IsTextOf image text.items (Second, x)) }
-{
-    let mut session: Session<B> = Session::new(alloc);
+// Plays a script to its end.
+fn play<B: Reserve>(
+    alloc: Global,
+    session: &mut Session<B>,
+    script: &[u8],
+) -> Result<(), Difference> {
     let Ok(()) = session.take(alloc, script) else {
         return Err(Difference::Ended);
     };
     let Ok(()) = session.finish(alloc) else {
         return Err(Difference::Ended);
     };
-    image_of(alloc, &session)
+    Ok(())
+}
+
+// The image of the pair that a script leaves in a session.
+fn played_in<B: Reserve>(
+    alloc: Global,
+    session: &mut Session<B>,
+    script: &[u8],
+) -> Result<Vec<u8>, Difference>
+    ensures { IfOk result (λ text. (x : Imaged) × IsTextOf image text.items (Second, x)) }
+{
+    play(alloc, session, script)?;
+    image_of(alloc, session)
+}
+
+/// The image of the pair that a script leaves.
+pub fn played<B: Reserve>(alloc: Global, script: &[u8]) -> Result<Vec<u8>, Difference>
+    ensures { IfOk result (λ text. (x : Imaged) × IsTextOf image text.items (Second, x)) }
+{
+    let mut session: Session<B> = Session::new(alloc);
+    let image = played_in(alloc, &mut session, script);
+    drop(session);
+    image
 }
