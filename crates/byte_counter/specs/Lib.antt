@@ -1,0 +1,3 @@
+pub mod ByteCounter
+pub mod ByteCounterLaws
+pub mod ByteCounterBehaviour
