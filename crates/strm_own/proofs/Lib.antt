@@ -1,0 +1,3 @@
+pub mod Prelude
+pub mod OwnPassing
+pub mod Replies

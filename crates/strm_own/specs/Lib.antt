@@ -1,0 +1,3 @@
+pub mod Prelude
+pub mod OwnPuts
+pub mod Stands
