@@ -7,3 +7,5 @@ pub mod Stacks
 pub mod StandingLaws
 pub mod StackLaws
 pub mod Does
+pub mod MayEnable
+pub mod NoOwn

@@ -18,7 +18,7 @@ mod standing;
 
 pub use carrying::{deliver, deliver_all};
 pub use enabled::Enabled;
-pub use modules::{Acts, LetGo, Module, PutProcedure};
+pub use modules::{Acts, LetGo, Module, Procedures};
 pub use parcels::{Outbox, Sent};
 pub use places::Stations;
 pub use queue_pair::{QueuePair, Tables, direction_at};
