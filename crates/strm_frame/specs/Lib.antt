@@ -8,3 +8,5 @@ pub mod Queued
 pub mod StandingLaws
 pub mod StackLaws
 pub mod Does
+pub mod MayEnable
+pub mod NoOwn

@@ -20,7 +20,7 @@ mod standing;
 
 pub use carrying::{deliver, deliver_all};
 pub use enabled::Enabled;
-pub use modules::{Acts, LetGo, Module, PutProcedure};
+pub use modules::{Acts, LetGo, Module, Procedures};
 pub use notes::{note_if, rooms};
 pub use parcels::{Outbox, Sent};
 pub use places::Stations;

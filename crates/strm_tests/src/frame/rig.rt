@@ -79,6 +79,15 @@ impl Rig {
         })
     }
 
+    // Enables a queue, if there is one. One module has a name on the list, so there is room for its two queues.
+    fn enable(&mut self, name: Option<QueueName>)
+        ensures { self.new.modules ≡ self.old.modules }
+    {
+        if self.enabled.as_slice().len() < 14 {
+            self.enabled.enable_found(name);
+        }
+    }
+
     // Enables what a note says of the module at a place.
     fn note(&mut self, at: usize, note: Note)
         ensures { self.new.modules ≡ self.old.modules }
@@ -90,7 +99,7 @@ impl Rig {
                 None => None,
             },
         };
-        self.enabled.enable_found(name);
+        self.enable(name);
     }
 
     // The same where a condition holds.
@@ -171,7 +180,7 @@ impl Rig {
             way: Way::Down,
         };
         let mut told = Fates::none();
-        let served = self.modules.serve(store, here, false, &mut told);
+        let served = self.modules.serve::<(), B>(store, here, false, &mut told);
         self.note_all(at, served.acts.notes.as_slice());
         let mut sent = served.acts.sent;
         let Some(next) = sent.take_first() else {
@@ -202,7 +211,7 @@ impl Rig {
         ensures { AtRest (B.value store.new) self.new.modules.modules.items }
     {
         self.disable(at);
-        let Asks::Room(band) = self.modules.asks(store, at, Way::Down) else {
+        let Asks::Room(band) = self.modules.asks::<(), B>(store, at, Way::Down) else {
             self.end_turn(store, at, false);
             return Turn::Idle;
         };

@@ -7,7 +7,7 @@ use Rattle.strm_ldterm.specs.ServedLaws.{again-works}
 use Rattle.strm_ldterm.specs.Stands.{ldterm_in, paired}
 use Rattle.strm_ldterm.proofs.Standing.{ServesAt, held-there, never-bare, stands-held}
 use Rattle.strm_ldterm.proofs.Spared.{call-room}
-use Rattle.strm_ldterm.proofs.module.LdtermModule.serve.Goals as goal
+use Rattle.strm_ldterm.proofs.module.LdtermProceduresUnit.serve.Goals as goal
 
 pub unreachable-requires : goal.unreachable-requires
 unreachable-requires g c = never-bare (g.B.Blocks.value c.args.store.now) c.args.self.now c.args.queues.now c.in_default.is c.requires.held

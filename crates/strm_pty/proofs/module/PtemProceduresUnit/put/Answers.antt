@@ -4,7 +4,7 @@ use Rattle.strm_pty.specs.Prelude.{tallied, message_in, token}
 use Rattle.strm_pty.specs.Beside.{ptem_in}
 use Rattle.strm_types.proofs.PtemPuts.{puts-gone}
 use Rattle.strm_pty.proofs.Alone.{alone-ready, alone-stands}
-use Rattle.strm_pty.proofs.module.PtemPutProcedureUnit.put.Goals as goal
+use Rattle.strm_pty.proofs.module.PtemProceduresUnit.put.Goals as goal
 
 pub put-requires-clause-in_hand : goal.put-requires-clause-in_hand
 put-requires-clause-in_hand g c = can-in_hand (g.B.Blocks.value c.args.store.now) (token c.args.message) (λ _. 0) c.audit.ensures c.requires.can_put

@@ -8,7 +8,7 @@ use Rattle.strm_frame.specs.Standings.{queues_in}
 use Rattle.strm_frame.proofs.Flags.{way-ready, way-shown}
 use Rattle.strm_ldterm.specs.Stands.{own_in}
 use Rattle.strm_ldterm.proofs.Standing.{never-bare, stands-held}
-use Rattle.strm_ldterm.proofs.module.LdtermModule.asks.Goals as goal
+use Rattle.strm_ldterm.proofs.module.LdtermProceduresUnit.asks.Goals as goal
 
 pub unreachable-requires : goal.unreachable-requires
 unreachable-requires g c = never-bare (g.B.Blocks.value c.args.store.now) c.args.self.now c.args.queues.now c.in_default.is c.requires.held

@@ -5,7 +5,7 @@ use Rattle.strm_types.proofs.PcktWithin.{pckt-own}
 use Rattle.strm_pty.proofs.PacketCosts.{packs-hands, packs-spends}
 use Rattle.strm_pty.specs.Packs.{pckt_in}
 use Rattle.strm_pty.proofs.Alone.{alone-ready, alone-stands}
-use Rattle.strm_pty.proofs.module.PcktPutProcedureUnit.put.Goals as goal
+use Rattle.strm_pty.proofs.module.PcktProceduresUnit.put.Goals as goal
 
 pub put-requires-clause-in_hand : goal.put-requires-clause-in_hand
 put-requires-clause-in_hand g c = can-in_hand (g.B.Blocks.value c.args.store.now) (token c.args.message) (λ _. 0) c.audit.ensures c.requires.can_put

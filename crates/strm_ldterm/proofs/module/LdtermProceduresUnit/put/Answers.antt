@@ -1,7 +1,7 @@
 -- What its procedure did, in the frame's words.
 use Rattle.strm_blocks.specs.Blocks.{token}
 use Rattle.strm_ldterm.proofs.Standing.{never-bare, puts-stand, stands-held}
-use Rattle.strm_ldterm.proofs.module.LdtermPutProcedureUnit.put.Goals as goal
+use Rattle.strm_ldterm.proofs.module.LdtermProceduresUnit.put.Goals as goal
 
 pub unreachable-requires : goal.unreachable-requires
 unreachable-requires g c = never-bare (g.B.Blocks.value c.args.store.now) c.args.self.now c.args.queues.now c.in_default.is c.requires.held

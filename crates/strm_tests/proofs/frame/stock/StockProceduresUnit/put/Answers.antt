@@ -21,7 +21,7 @@ use Rattle.strm_frame.proofs.Handing.{can-in_hand, no-parts, none-chains, none-h
 use Rattle.strm_frame.proofs.WidePools.{frees-spends}
 use Rattle.strm_tests.proofs.ToySteps.{changed-own, changed-pair, changed-ready, kind-stays, stocks-stay}
 use Rattle.strm_tests.proofs.ToySteps.{stocks-on, joined-hands, never-bare, owned-by, pair-ready}
-use Rattle.strm_tests.proofs.frame.stock.StockPutProcedureUnit.put.Goals as goal
+use Rattle.strm_tests.proofs.frame.stock.StockProceduresUnit.put.Goals as goal
 
 pub kind-kind-requires-clause-in_hand : goal.kind-kind-requires-clause-in_hand
 kind-kind-requires-clause-in_hand g c = can-in_hand _ _ _ c.audit.ensures c.requires.can_put

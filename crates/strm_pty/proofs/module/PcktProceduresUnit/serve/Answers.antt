@@ -1,6 +1,6 @@
 -- Nothing is done.
 use Rattle.strm_pty.proofs.Prelude.{rules, still-hands, none-hands, none-chains, no-parts, no-room}
-use Rattle.strm_pty.proofs.module.PcktModule.serve.Goals as goal
+use Rattle.strm_pty.proofs.module.PcktProceduresUnit.serve.Goals as goal
 
 pub returns : goal.returns
 returns g c =

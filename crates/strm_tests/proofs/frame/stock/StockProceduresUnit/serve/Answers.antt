@@ -15,7 +15,7 @@ use Rattle.strm_tests.specs.Toys.{Stock, stock_serves}
 use Rattle.strm_frame.proofs.Handing.{still-hands, none-hands, none-chains, no-parts, one-parts, one-chains, no-room}
 use Rattle.strm_tests.proofs.ToySteps.{changed-own, changed-pair, changed-ready, never-bare, one-room, owned-by, pair-ready, serves-none, serves-first, took-changes, took-hands}
 use Rattle.strm_frame.proofs.Emptiness.{none-listed}
-use Rattle.strm_tests.proofs.frame.stock.StockModule.serve.Goals as goal
+use Rattle.strm_tests.proofs.frame.stock.StockProceduresUnit.serve.Goals as goal
 
 pub unreachable-requires : goal.unreachable-requires
 unreachable-requires g c = never-bare c.args.queues.now c.in_default.is c.requires.held.itself

@@ -1,7 +1,7 @@
 -- Nothing stands on queues that it hasn't.
 use Rattle.strm_pty.proofs.Prelude.{◌≤◌, sym, subst, arith, Option}
 use Rattle.strm_pty.specs.Prelude.{first_size, messages_on, QueuePair, queues_in}
-use Rattle.strm_pty.proofs.module.PcktModule.asks.Goals as goal
+use Rattle.strm_pty.proofs.module.PtemProceduresUnit.asks.Goals as goal
 
 pub returns-clause-few : goal.returns-clause-few
 returns-clause-few g c =

@@ -1,5 +1,5 @@
 use Rattle.strm_tests.proofs.ToySteps.{stock-few}
-use Rattle.strm_tests.proofs.frame.stock.StockModule.asks.Goals as goal
+use Rattle.strm_tests.proofs.frame.stock.StockProceduresUnit.asks.Goals as goal
 
 pub returns-in-Down-Some-clause-few : goal.returns-in-Down-Some-clause-few
 returns-in-Down-Some-clause-few g c = stock-few _ c.args.way _ c.audit.ensures c.requires.held.queues
