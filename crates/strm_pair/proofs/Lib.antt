@@ -63,3 +63,4 @@ mod PairsMade
 mod RestoredPairs
 mod ImagesBack
 pub mod Holding
+pub mod OwnCalls

@@ -97,7 +97,7 @@ impl Streams {
             at: at as u8,
             way: name.way,
         };
-        match self.end(name.side).stack.asks(store, at, name.way) {
+        match self.end(name.side).stack.asks::<M, B>(store, at, name.way) {
             Asks::Empty => self.stay(store, here, Turn::Idle),
             Asks::Held => self.stay(store, here, Turn::Blocked),
             Asks::Free => Begun::Serves(here),

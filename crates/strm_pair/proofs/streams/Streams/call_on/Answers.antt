@@ -24,11 +24,11 @@ loop-call-init g c =
     let full = full-at here (g.B.Blocks.value c.args.store.now) c.args.self.now (c.requires.may.rests.held.beside here.side).stack in
     let since : Since here false 0 st0 st0 = record { all = omega arith; full = λ first. full; opened = λ side. refl; stands = refl } in
     let first = along here K st0 false 0 [] st0 st (reached-first here st0 K low begins) m.result e.itself e.state f f m.new.told refl e.tells e.left 0 (omega arith) (omega arith) since
-    (λ over none. first-went here m.result st0 e.itself low full over (omega (arith, none)) (HasRoom (g.B.Blocks.value c.args.store.now) STOP_BLOCKS) c.requires.may.room e.some) m.result.again refl in
+    (λ over none. first-went here K m.result st0 e.itself low full over (omega (arith, none)) (HasRoom (g.B.Blocks.value c.args.store.now) STOP_BLOCKS) c.requires.may.room e.some) m.result.again refl in
     record {
       along = subst (λ n. Along K m.result.again here n st0 st f m.new.told) (let none : 0 + m.result.bytes ≡ m.result.bytes = omega arith in none) first;
       few = subst (λ n. FewAt m.result.again here n st0 (g.B.Blocks.value m.new.store)) (let none : 0 + m.result.bytes ≡ m.result.bytes = omega arith in none)
-          (few-along here false m.result st0 e.itself low full 0 st0 (g.B.Blocks.value m.new.store) since e.few m.result.again refl);
+          (few-along K here false m.result st0 e.itself low full 0 st0 (g.B.Blocks.value m.new.store) since e.few m.result.again refl);
       room = e.room;
       beside = e.beside;
       hand = e.hand;
@@ -57,7 +57,7 @@ overflow_add-bytes g c =
     let st0 = state_in (g.B.Blocks.value c.args.store.now) c.args.self.now in
     let st = state_in (g.B.Blocks.value l.store) l.self in
     let on : GoOn K here l.bytes st0 st c.args.told.now l.told = subst (λ more. Along K more here l.bytes st0 st c.args.told.now l.told) c.loop-call-test.true l.invariant.along in
-    let most = call-within here true m.result st m.ensures.itself on.reached.begins on.reached.inside in
+    let most = call-within K here true m.result st m.ensures.itself on.reached.begins on.reached.inside in
     let within = on.reached.within in
     let few = c.requires.few in
     omega (arith, most, within, few)
@@ -94,7 +94,7 @@ loop-call-preserved g c =
     let since : Since here true l.bytes st0 st = record
     { all = on.all; full = λ first. absurd (false≢true (sym first)); opened = on.opened; stands = on.stands } in
     record {
-      few = few-along here true m.result st e.itself on.reached.inside (full-at here (g.B.Blocks.value l.store) l.self (l.invariant.beside here.side).stack) l.bytes st0 (g.B.Blocks.value m.new.store) since e.few m.result.again refl;
+      few = few-along K here true m.result st e.itself on.reached.inside (full-at here (g.B.Blocks.value l.store) l.self (l.invariant.beside here.side).stack) l.bytes st0 (g.B.Blocks.value m.new.store) since e.few m.result.again refl;
       along = along here K st0 true l.bytes on.gone st behind on.reached m.result e.itself e.state f l.told m.new.told on.tells e.tells e.left on.count on.few on.left since
           (λ over none. later-went here K l.bytes st0 st f l.told m.result on e.itself over none) m.result.again refl;
       room = e.room;

@@ -1,6 +1,6 @@
 -- Its kind says it.
 use Rattle.strm_pair.proofs.KindsDo.{kind-fits, ldterm-kind, own-kind, pckt-kind, ptem-kind}
-use Rattle.strm_pair.proofs.modules.AnyModuleModule.asks.Goals as goal
+use Rattle.strm_pair.proofs.modules.AnyModuleProcedures.asks.Goals as goal
 
 pub asks-requires : goal.asks-requires
 asks-requires g c = record { held = kind-fits _ _ _ _ _ ldterm-kind _ _ _ _ c.in-Ldterm.is c.requires.held }

@@ -5,7 +5,7 @@ use Rattle.strm_types.specs.LdtermStands.{discipline_at}
 use Rattle.strm_ldterm.specs.Bounds.{turn_cost}
 use Rattle.strm_pair.specs.AnyModules.{kind_cost, kind_keeps}
 use Rattle.strm_pair.proofs.KindsDo.{kind-fits, kind-serves, ldterm-kind, own-kind, pckt-kind, ptem-kind}
-use Rattle.strm_pair.proofs.modules.AnyModuleModule.serve.Goals as goal
+use Rattle.strm_pair.proofs.modules.AnyModuleProcedures.serve.Goals as goal
 
 pub serve-requires-clause-held : goal.serve-requires-clause-held
 serve-requires-clause-held g c = kind-fits _ _ _ _ _ ldterm-kind _ _ _ _ c.in-Ldterm.is c.requires.held

@@ -1,6 +1,6 @@
 -- Its kind does it.
 use Rattle.strm_pair.proofs.KindsDo.{kind-fits, kind-puts, ldterm-kind, own-kind, pckt-kind, ptem-kind}
-use Rattle.strm_pair.proofs.modules.AnyModulePutProcedure.put.Goals as goal
+use Rattle.strm_pair.proofs.modules.AnyModuleProcedures.put.Goals as goal
 
 pub put-requires-clause-held : goal.put-requires-clause-held
 put-requires-clause-held g c = kind-fits _ _ _ _ _ ldterm-kind _ _ _ _ c.in-Ldterm.is c.requires.held
