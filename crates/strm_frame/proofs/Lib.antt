@@ -16,3 +16,4 @@ mod Staying
 pub mod Pairs
 mod Letting
 pub mod Flags
+mod Queued

@@ -1,3 +1,5 @@
 pub mod Prelude
 pub mod OwnPuts
 pub mod Stands
+pub mod Flushed
+pub mod StandsLaws

@@ -2,7 +2,10 @@
 //! one, and what becomes of it on a stream, with the queues that the stream gives it.
 #![tactic(auto)]
 
+mod asking;
 mod own;
 mod owned;
+mod putting;
+mod serving;
 
 pub use own::{NoModule, Own, OwnModule, is_known, pass_on, reply};

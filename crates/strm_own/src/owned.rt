@@ -1,20 +1,21 @@
-//! A module of a user's own among those of a stream's stack (STREAMS Programming Guide, "Modules"). It has no queues and no line, and no turn of it
-//! is ever made.
+//! A module of a user's own among those of a stream's stack (STREAMS Programming Guide, "Modules"; qinit(9S)). It has no line. Where its number is from
+//! `OWN_QUEUED` on it has queues, and keeps nothing in hand between two calls.
 
+use crate::asking::asked_on;
 use crate::own::{Own, OwnModule};
-use arrayvec::ArrayVec;
+use crate::{putting, serving};
 use strm_blocks::{Blocks, InHand};
-use strm_frame::{Acts, Module, Outbox, PutProcedure, QueuePair, Served};
+use strm_frame::{Acts, Module, Procedures, QueuePair, Served};
 use strm_types::{Asks, Fates, ModuleName, Spot, Way};
 
 impl Module for Own {
-    ghost use Rattle.std.specs.Prelude.{◌≡◌, refl, None, [], false};
+    ghost use Rattle.std.specs.Prelude.{◌≡◌, refl, [], false};
     ghost use Rattle.strm_types.specs.declared.names.ModuleName.TheVariants as names;
-    ghost use Rattle.strm_types.specs.declared.spots.Asks.TheVariants.{Empty};
     ghost use Rattle.strm_types.specs.Owns as plain;
+    ghost use Rattle.strm_types.specs.OwnStands as there;
     ghost use Rattle.strm_types.specs.Tables.{own_does};
-    ghost use Rattle.strm_types.specs.Service.{acts_alone, unserved};
-    ghost use Rattle.strm_frame.specs.StandingLaws.{none-same};
+    ghost use Rattle.strm_own.specs.Stands as stands;
+    ghost use Rattle.strm_own.specs.StandsLaws.{has-same};
 
     ghost Plain = { plain.Own };
 
@@ -22,19 +23,19 @@ impl Module for Own {
 
     ghost name_of = { λ p. names.Own p.number };
 
-    ghost IsHeld = { λ s x queues. queues ≡ None };
+    ghost IsHeld = { λ s x queues. stands.HasQueues x queues };
 
     ghost keeps = { λ x i. 0 };
 
-    ghost puts = { λ own here m x. acts_alone (own here m) x };
+    ghost puts = { λ by here m x. there.own_puts by here m x };
 
     ghost line_of = { λ p. [] };
 
     ghost without_line = { λ p. p };
 
-    ghost asks = { λ way x. Empty };
+    ghost asks = { λ by way x. there.own_asks by way x };
 
-    ghost serves = { λ here again stop x. unserved x };
+    ghost serves = { λ by here again stop x. there.own_serves by here x };
 
     ghost MayServe = { λ way again p. again ≡ false };
 
@@ -44,33 +45,10 @@ impl Module for Own {
 
     ghost holds = { λ p. false };
 
-    ghost turn_cost = { λ here again p. 0 };
+    ghost turn_cost = { λ here again p. stands.turn_room };
 
     fn name(&self) -> ModuleName {
         ModuleName::Own(self.number())
-    }
-
-    fn asks<B: Blocks>(&self, _queues: &Option<QueuePair>, _store: &B, _way: Way) -> Asks {
-        Asks::Empty
-    }
-
-    fn serve<B: Blocks>(
-        &mut self,
-        _queues: &mut Option<QueuePair>,
-        _store: &mut B,
-        _here: Spot,
-        _again: bool,
-        _told: &mut Fates,
-    ) -> Served {
-        Served {
-            acts: Acts {
-                notes: ArrayVec::new(),
-                sent: Outbox::none(),
-            },
-            bytes: 0,
-            stopped: false,
-            again: false,
-        }
     }
 
     fn line_len(&self) -> usize {
@@ -81,43 +59,65 @@ impl Module for Own {
         0
     }
 
-    ghost frame = { λ s t x queues others lists same held. (refl, none-same queues others lists held) };
+    ghost frame = { λ s t x queues others lists same held. (refl, has-same x queues others lists held) };
 
-    ghost rested = { λ s t x queues others lists none held. (refl, none-same queues others lists held) };
+    ghost rested = { λ s t x queues others lists none held. (refl, has-same x queues others lists held) };
 
     ghost rests = { λ s x queues way i held may. refl };
 
     ghost either_way = { λ way other p may. may };
 
-    ghost turn_goes = { λ here again stop x may. refl };
-
     ghost line_stays = { λ p way again may. may };
 }
 
-impl<M: OwnModule> PutProcedure<M> for Own {
+impl<M: OwnModule> Procedures<M> for Own {
     ghost use Rattle.strm_types.specs.Cells as cells;
+    ghost use Rattle.strm_laws.specs.Behaviours.{own_by};
+    ghost use Rattle.strm_own.specs.StandsLaws.{own-once, own-within};
 
-    ghost by = { λ here m x. M.does.puts cells.plain here m x };
+    ghost by = { own_by M.does cells.plain };
 
     ghost wide = { M.wide };
 
     fn put<B: Blocks>(
         &mut self,
-        _queues: &mut Option<QueuePair>,
+        queues: &mut Option<QueuePair>,
         store: &mut B,
         here: Spot,
         message: InHand,
         told: &mut Fates,
     ) -> Acts {
         store.audit();
-        let sent = M::put(self, store, here, message, told);
-        Acts {
-            notes: ArrayVec::new(),
-            sent,
+        match queues {
+            Some(pair) => putting::put::<M, B>(self, pair, store, here, message, told),
+            None => putting::put_alone::<M, B>(self, store, here, message, told),
         }
     }
 
-    ghost within = { λ here m x. (M.does.put cells.plain here m x.part).within };
+    fn asks<B: Blocks>(&self, queues: &Option<QueuePair>, store: &B, way: Way) -> Asks {
+        match queues {
+            Some(pair) => asked_on::<M, B>(self, store, way, pair.queue(way)),
+            None => Asks::Empty,
+        }
+    }
+
+    fn serve<B: Blocks>(
+        &mut self,
+        queues: &mut Option<QueuePair>,
+        store: &mut B,
+        here: Spot,
+        _again: bool,
+        told: &mut Fates,
+    ) -> Served {
+        match queues {
+            Some(pair) => serving::serve::<M, B>(self, pair, store, here, told),
+            None => serving::unserved(),
+        }
+    }
+
+    ghost within = { λ here m x. own-within M.does here m x };
 
     ghost put_stays = { λ here m x way again may. may };
+
+    ghost turn_goes = { λ here again stop x may. own-once (own_by M.does cells.plain) here x };
 }
