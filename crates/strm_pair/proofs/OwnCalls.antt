@@ -1,6 +1,8 @@
 -- Calls of the service procedure of a module of a user's own: each treats the first message of its queue whole, and what it sends takes little.
-use Rattle.strm_pair.proofs.Prelude.{ℕ, ◌≡◌, ◌≤◌, Bool, true, false, List, [], ◌∷◌, refl, arith, Option, None, Some, sum_by, sum_by-cons}
+use Rattle.strm_pair.proofs.Prelude.{ℕ, ◌≡◌, ◌≤◌, Bool, true, false, List, [], ◌∷◌, refl, sym, arith, Option, None, Some, sum_by, sum_by-cons}
+use Rattle.strm_pair.proofs.Prelude.{false≢true}
 use Rattle.strm_pair.specs.Prelude.{Way, Up, Down, Spot, plain, most, cost_of, Message, shape_of, first_size, bytes_left, disciplined, stood, Behaviour}
+use Rattle.strm_pair.specs.Prelude.{OfOwn}
 use Rattle.strm_types.specs.Budgets.{emits_at, next_at}
 use Rattle.strm_types.specs.Ldterms.{new_ldterm}
 use Rattle.strm_types.specs.OwnStands.{OwnActs, own_served, own_serves}
@@ -11,6 +13,8 @@ use Rattle.strm_types.specs.Tables.{own_does}
 use Rattle.strm_types.proofs.CostsOf.{most-few, none-few}
 use Rattle.strm_laws.specs.Behaviours.{own_by}
 use Rattle.strm_laws.proofs.OwnQueues.{first_emits, served-owed}
+use Rattle.strm_own.specs.Stands.{turn_room}
+use Rattle.strm_pair.specs.AnyModules.{MayServe, kind_cost}
 
 -- what its table has of one message
 own-few : (here : Spot) (way : Way) (shape : Shape) → sum_by most (emits_at here (own_does way shape)) ≤ 24
@@ -49,3 +53,10 @@ own-whole own here Down true o None = omega arith
 own-whole own here Down true o (Some pair) = omega (arith, served-whole own (record here { way = Down }) o pair pair.write.messages)
 own-whole own here Down false o None = omega arith
 own-whole own here Down false o (Some pair) = omega (arith, served-whole own (record here { way = Down }) o pair pair.write.messages)
+
+-- what it may count on is enough for what it sends
+pub own-room : (here : Spot) (way : Way) (again : Bool) (o : Own) → MayServe way again (OfOwn o)
+    → turn_room ≤ kind_cost (record here { way = way }) again (OfOwn o)
+own-room here Up true o may = absurd (false≢true (sym (may refl)))
+own-room here Up false o may = omega arith
+own-room here Down again o may = omega arith

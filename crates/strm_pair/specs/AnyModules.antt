@@ -1,14 +1,12 @@
 -- The modules that may stand on a stream, beside a store: each is what one of its kind is by itself.
 use Rattle.std.specs.Prelude.{ℕ, ◌≡◌, Bool, false, true, List, [], ◌∷◌, map, Option, None, Some, is_some}
 use Rattle.std.specs.List.{AllByRecursion}
-use Rattle.std.proofs.Common.{refl, ap, ◌∙◌}
+use Rattle.std.proofs.Common.{refl, ap}
 use Rattle.strm_pair.specs.Prelude.{ModuleName, Way, Up, Spot, plain, disciplined, Message, have_queues, has_queues, stood, Module, OfLdterm, OfPtem}
 use Rattle.strm_pair.specs.Prelude.{Behaviour, OfOwn, OfPckt}
 use Rattle.strm_pair.specs.Prelude.{Standing, kind_name, module_name, module_puts, module_serves, without_kind_line, ldterm_of, StoreValue, SameOwn}
 use Rattle.strm_pair.specs.Prelude.{Fits, keeps_of, owns, queues_in, queues_own, standing_in, own-rests, ptem_in, pckt_in}
-use Rattle.strm_types.specs.OwnStands.{OwnActs, own_served, own_serves}
-use Rattle.strm_types.specs.Owns.{Own}
-use Rattle.strm_types.specs.Standings.{QueuePair, way_queue}
+use Rattle.strm_types.specs.Standings.{QueuePair}
 use Rattle.strm_laws.specs.Behaviours.{own_by}
 use Rattle.strm_laws.specs.Pushes.{is_known, kind_named}
 use Rattle.strm_frame.specs.declared.queue_pair.QueuePair as frame
@@ -21,6 +19,7 @@ use Rattle.strm_ldterm.specs.Served.{MayBeServed}
 use Rattle.strm_ldterm.specs.ServedLaws.{either-served, line-served, puts-served, serves-served}
 use Rattle.strm_ldterm.specs.Stands as stands
 use Rattle.strm_own.specs.Stands.{HasQueues}
+use Rattle.strm_own.specs.StandsLaws.{has-same, own-once}
 use Rattle.strm_pair.specs.declared.modules.AnyModule.{AnyModule}
 use Rattle.strm_pair.specs.declared.modules.AnyModule.TheVariants as kinds
 
@@ -93,13 +92,6 @@ keeps x i = keeps_of kind_keeps x i
 abbrev pub turn_cost : Spot → Bool → Standing ℕ → ℕ
 turn_cost here again x = kind_cost here again x.part
 
--- where lists are the same there are queues or there are none
-lists-some : (queues others : Option frame.QueuePair) → lists_of others ≡ lists_of queues → is_some others ≡ is_some queues
-lists-some None None same = refl
-lists-some None (Some pair) same = absurd (cc)
-lists-some (Some pair) None same = absurd (cc)
-lists-some (Some pair) (Some other) same = refl
-
 -- It stands for the same, and fits, where its queues' lists are the same and what it keeps is.
 pub module-frame : (s t : StoreValue) (x : AnyModule) (queues others : Option frame.QueuePair) → lists_of others ≡ lists_of queues
     → SameOwn s t (queues_own queues) (kind_keeps x) → IsKindHeld s x queues → (kind_in t x ≡ kind_in s x) × IsKindHeld t x others
@@ -107,7 +99,7 @@ module-frame s t (kinds.Ldterm x) queues others lists same held =
     let r = own-frame s t x queues others lists (record { lists = same.lists; mblks = same.mblks; dblks = same.dblks; kept = same.kept }) held in (ap OfLdterm r.0, r.1)
 module-frame s t (kinds.Ptem x) queues others lists same held = (refl, none-same queues others lists held)
 module-frame s t (kinds.Pckt x) queues others lists same held = (refl, none-same queues others lists held)
-module-frame s t (kinds.Own o) queues others lists same held = (refl, lists-some queues others lists ∙ held)
+module-frame s t (kinds.Own o) queues others lists same held = (refl, has-same o queues others lists held)
 
 -- and where it keeps nothing, whatever stands on them
 pub module-rested : (s t : StoreValue) (x : AnyModule) (queues others : Option frame.QueuePair) → lists_of others ≡ lists_of queues
@@ -115,7 +107,7 @@ pub module-rested : (s t : StoreValue) (x : AnyModule) (queues others : Option f
 module-rested s t (kinds.Ldterm x) queues others lists none held = let r = own-rested s t x queues others lists none held in (ap OfLdterm r.0, r.1)
 module-rested s t (kinds.Ptem x) queues others lists none held = (refl, none-same queues others lists held)
 module-rested s t (kinds.Pckt x) queues others lists none held = (refl, none-same queues others lists held)
-module-rested s t (kinds.Own o) queues others lists none held = (refl, lists-some queues others lists ∙ held)
+module-rested s t (kinds.Own o) queues others lists none held = (refl, has-same o queues others lists held)
 
 pub any-frame : (s t : StoreValue) (x : AnyStanding) → SameOwn s t (owns x) (keeps x) → IsHeld s x
     → (module_in t x ≡ module_in s x) × IsHeld t x
@@ -155,20 +147,11 @@ either-serves way at (OfLdterm l) may = either-served way at l may
 either-serves way at (OfOwn o) may = λ up. refl
 either-serves way at other may = tt
 
--- one of a user's own treats a message whole in a call
-own-over : (own : OwnActs ℕ) (here : Spot) (o : Own) (queues : Option (QueuePair ℕ)) → (own_serves own here (stood o queues)).again ≡ false
-own-over own here o None = refl
-own-over own here o (Some pair) = of (way_queue here.way pair).messages
-  where
-    of : (ms : List (Message ℕ)) → (own_served own here (stood o (Some pair)) pair ms).again ≡ false
-    of [] = refl
-    of (m ∷ ms) = refl
-
 pub serves-on : (K : Behaviour) (here : Spot) (again : Bool) (stop : Option ℕ) (p : Module ℕ) (queues : Option (QueuePair ℕ))
     → MayServe here.way again p
     → (let t = module_serves K plain here 0 again stop (stood p queues) in MayServe here.way t.again t.acted.state.part)
 serves-on K here again stop (OfLdterm l) queues may = serves-served plain here 0 again stop (disciplined l queues) may
-serves-on K here again stop (OfOwn o) queues may = λ up. own-over (own_by K plain) here o queues
+serves-on K here again stop (OfOwn o) queues may = λ up. own-once (own_by K plain) here (stood o queues)
 serves-on K here again stop other queues may = tt
 
 pub puts-serve : (K : Behaviour) (here : Spot) (m : Message ℕ) (way : Way) (again : Bool) (p : Module ℕ) (queues : Option (QueuePair ℕ))
