@@ -64,3 +64,5 @@ mod RestoredPairs
 mod ImagesBack
 pub mod Holding
 pub mod OwnCalls
+pub mod Enabling
+pub mod DriverNoted

@@ -22,12 +22,14 @@ use Rattle.strm_ldterm.specs.Turns.{needs}
 use Rattle.strm_pair.specs.AnyModules.{MayServe, turn_cost}
 use Rattle.strm_pair.specs.declared.service_calls.Call.{Call}
 use Rattle.strm_pair.specs.declared.streams.Streams.{Streams}
+use Rattle.strm_pair.specs.Enabling.{AreFewEnabled}
 use Rattle.strm_pair.specs.ModuleServed.{ActsAs, CallsAs, IsKeptAll, LeavesFew, MayBook, StackServes, TellsAs, acts_in, between, call_of, call_units, next_cost, stop_in, with_more}
 use Rattle.strm_pair.specs.Pairs.{state_in, end_at, with_end, AreBeside, kept_by}
 use Rattle.strm_pair.specs.Staying.{ComesToStand}
 use Rattle.strm_ldterm.proofs.Freeing.{stays-few}
 use Rattle.strm_ldterm.proofs.Spared.{call-few}
 use Rattle.strm_pair.specs.Framing.{kept-parts}
+use Rattle.strm_pair.proofs.Enabling.{acted-few}
 use Rattle.strm_pair.proofs.ModuleSteps.{stack-acts, stack-modules}
 use Rattle.strm_pair.proofs.OwnCalls.{own-call-few}
 use Rattle.strm_pair.proofs.Sides.{modules-are}
@@ -153,7 +155,7 @@ module _ (K : Behaviour) (s t : StoreValue) (p q : Streams) (x : Stack) (here : 
       }
 
   -- what the module does, and what is booked of it
-  pub acts-by : (place : Option Place) (earlier : Way → Option QueueName) (m n : ℕ) → IsStore s → IsKeptAll s p → AreBeside s p
+  pub acts-by : (place : Option Place) (earlier : Way → Option QueueName) (m n : ℕ) → IsStore s → IsKeptAll s p → AreFewEnabled st → AreBeside s p
       → place ≡ slice_index_or (places_of ms) (here.at - 1) None → ((way : Way) → earlier way ≡ earlier_at here.side here.at st way)
       → StackServes K s t old x here again served f f'
       → let told = (called here K again (stop_in (call_of served)) ms).gone in m ≡ made_in MasterToSlave told → n ≡ made_in SlaveToMaster told
@@ -162,7 +164,7 @@ module _ (K : Behaviour) (s t : StoreValue) (p q : Streams) (x : Stack) (here : 
         books = with_more m n p.books;
       }
       → ActsAs K s t p q here again (call_of served) (sent_of served.acts.sent) f f'
-  acts-by place earlier m n store all beside place_is earlier_is e m_is n_is q_is =
+  acts-by place earlier m n store all few beside place_is earlier_is e m_is n_is q_is =
       let stop = stop_in (call_of served) in
       let same = sym (modules-are s p here.side) in
       let did = called here K again stop ms in
@@ -181,6 +183,7 @@ module _ (K : Behaviour) (s t : StoreValue) (p q : Streams) (x : Stack) (here : 
         hands = r.hands;
         room = subst (λ ls. HasRoom t (later_cost served.again (at_place (turn_cost here true) 0 here.at ls) (parcels_in t (sent_of served.acts.sent)))) (sym (ap (λ y. (stream here.side (state_in t y)).modules) q_is ∙ stack-modules here.side t p x (noted here.side place earlier served.acts.notes.items p.enabled) (with_more m n p.books))) e.room;
         pool = e.pool;
+        enabled = subst AreFewEnabled (sym r.state) (acted-few st few here did (serve-names K plain here 0 again stop (here.at - 1) ms));
       }
 
 -- what a call sends takes little, also where it becomes packets
@@ -267,8 +270,9 @@ module _ (K : Behaviour) (r s : StoreValue) (o p : Streams) (here : Spot) (again
       → (let u = in_turn (carried (put_in K plain) HOPS) (parcels_in s sent_on) (state_in s p) in f'' ≡ tallied u.gone f')
       → (let u = in_turn (carried (put_in K plain) HOPS) (parcels_in s sent_on) (state_in s p) in state_in t q ≡ u.state)
       → AreBeside t q → Handles s t (λ i. times_sent i sent_on) (kept_by p) (kept_by q) (λ _. 0)
-      → Takes s t (spare (state_in s p)) (spare (state_in t q)) takes 0 → SamePool s t → CallsAs K r t o q here again call f f''
-  calls-by t q f'' all blocks told state beside hands spends pool =
+      → Takes s t (spare (state_in s p)) (spare (state_in t q)) takes 0 → SamePool s t → AreFewEnabled (state_in t q)
+      → CallsAs K r t o q here again call f f''
+  calls-by t q f'' all blocks told state beside hands spends pool enabled =
       let st = state_in r o in
       let w = acts_in K here again call st in
       let on : List (Parcel ℕ) → State ℕ → Carried ℕ (State ℕ) = λ ps v. in_turn (carried (put_in K plain) HOPS) ps v in
@@ -287,4 +291,5 @@ module _ (K : Behaviour) (r s : StoreValue) (o p : Streams) (here : Spot) (again
             (record { mblks = omega (arith, spends.blocks.mblks, takes-most); dblks = omega (arith, spends.blocks.dblks, takes-most) });
         left = omega (arith, acted-spare, spends.spare, takes-few);
         pool = record { mblks = pool.mblks ∙ a.pool.mblks; dblks = pool.dblks ∙ a.pool.dblks };
+        enabled = enabled;
       }

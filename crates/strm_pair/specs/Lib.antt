@@ -17,6 +17,7 @@ pub mod ModuleLists
 pub mod ModuleStacks
 pub mod Named
 pub mod Nearest
+pub mod Enabling
 pub mod Pairs
 pub mod PairViews
 pub mod Running

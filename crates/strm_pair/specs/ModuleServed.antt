@@ -10,6 +10,7 @@ use Rattle.strm_frame.specs.Serves.{stop_of}
 use Rattle.strm_pair.specs.AnyModules.{turn_cost}
 use Rattle.strm_pair.specs.declared.service_calls.Call.{Call}
 use Rattle.strm_pair.specs.declared.streams.Streams.{Streams}
+use Rattle.strm_pair.specs.Enabling.{AreFewEnabled}
 use Rattle.strm_pair.specs.Pairs.{state_in, AreBeside, kept_by}
 use Rattle.strm_pair.specs.Stacks.{modules_in, IsStackHeld, stack_owns, stack_keeps, Stack}
 
@@ -49,7 +50,7 @@ abbrev pub IsKeptAll : StoreValue → Streams → Type 0
 IsKeptAll s p = (i : ℕ) → times_in i s.hand ≡ kept_by p i
 
 -- A call of the turn may be made at a place: a module stands there and is at that call, the streams fit the store, which has blocks enough,
--- and nothing else is in hand.
+-- nothing else is in hand, and enabled queues are there.
 pub record MayCall (s : StoreValue) (p : Streams) (here : Spot) (again : Bool) : Type 0 where
   pub inside : 0 < here.at
   pub within : here.at ≤ length (stream here.side (state_in s p)).modules
@@ -57,6 +58,7 @@ pub record MayCall (s : StoreValue) (p : Streams) (here : Spot) (again : Bool) :
   pub beside : AreBeside s p
   pub hand : IsKeptAll s p
   pub room : HasRoom s (call_cost here again (state_in s p))
+  pub enabled : AreFewEnabled (state_in s p)
 
 -- what the module at a place does in a call
 abbrev pub acts_in : Behaviour → Spot → Bool → Call → State ℕ → Took ℕ (State ℕ)
@@ -110,6 +112,7 @@ pub record ActsAs (K : Behaviour) (old new : StoreValue) (p q : Streams) (here :
   pub hands : Handles old new (λ _. 0) (kept_by p) (kept_by q) (λ i. times_sent i sent_on)
   pub room : HasRoom new (later_cost call.again (next_cost here (state_in new q)) (parcels_in new sent_on))
   pub pool : SamePool old new
+  pub enabled : AreFewEnabled (state_in new q)
 
 -- A call that stopped left few blocks free, where what it sent is kept ahead.
 abbrev pub LeavesFew : Spot → Bool → Call → State ℕ → StoreValue → Type 0
@@ -129,6 +132,7 @@ pub record CallsAs (K : Behaviour) (old new : StoreValue) (p q : Streams) (here 
   pub room : OnTrue call.again (HasRoom new (next_cost here (state_in new q)))
   pub left : spare (state_in old p) ≤ spare (state_in new q) + call_units call.bytes
   pub pool : SamePool old new
+  pub enabled : AreFewEnabled (state_in new q)
 
 -- Calls that treated fewer bytes of a turn than its message has, as it began, stopped where few blocks are free, if what they sent is kept ahead.
 abbrev pub StopsFew : Spot → ℕ → State ℕ → StoreValue → Type 0

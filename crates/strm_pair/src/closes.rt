@@ -19,6 +19,7 @@ use strm_types::{Answer, Band, Fates, FlushAsked, FlushQueues, Rule, Side, Spot,
 impl Streams {
     ghost use Rattle.strm_types.specs.declared.names.Side.TheVariants.{Slave};
     ghost use Rattle.strm_pair.specs.Effects.{AreAtRest, Becomes, Delivers, Leads, MayDeliver};
+    ghost use Rattle.strm_pair.specs.Enabling.{AreFewEnabled};
     ghost use Rattle.strm_pair.specs.Pairs.{state_in, AreHeld};
 
     /// Flushes a side's stream: an M_FLUSH goes down from its head, with all that it gives rise to.
@@ -49,7 +50,8 @@ impl Streams {
 
     // Lets all go that stands at a side's head.
     fn clear_head<B: Blocks>(&mut self, store: &mut B, side: Side, told: &mut Fates)
-        requires { AreHeld (B.value store.old) self.old }
+        requires held { AreHeld (B.value store.old) self.old }
+        requires enabled { AreFewEnabled (state_in (B.value store.old) self.old) }
         ensures { let s = B.value store.old in let is = head_emptied EndClosed of_all side (state_in s self.old) in
             Leads s (B.value store.new) self.new told.old told.new is.state is.gone }
     {
@@ -67,7 +69,8 @@ impl Streams {
 
     // Lets all go that stands at a side's driver.
     fn clear_driver<B: Blocks>(&mut self, store: &mut B, side: Side, told: &mut Fates)
-        requires { AreHeld (B.value store.old) self.old }
+        requires held { AreHeld (B.value store.old) self.old }
+        requires enabled { AreFewEnabled (state_in (B.value store.old) self.old) }
         ensures { let s = B.value store.old in let is = driver_emptied EndClosed of_all side (state_in s self.old) in
             Leads s (B.value store.new) self.new told.old told.new is.state is.gone }
     {

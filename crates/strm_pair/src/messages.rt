@@ -34,6 +34,7 @@ fn len_of(lent: Option<&[u8]>) -> usize
 
 impl Streams {
     ghost use Rattle.strm_pair.specs.Effects.{Becomes, Delivers, Leads, MayDeliver};
+    ghost use Rattle.strm_pair.specs.Enabling.{AreFewEnabled};
     ghost use Rattle.strm_pair.specs.Pairs.{state_in, AreHeld};
 
     /// Keeps a book of what comes from a side.
@@ -92,6 +93,7 @@ impl Streams {
         told: &mut Fates,
     ) -> Answer<u32>
         requires held { AreHeld (B.value store.old) self.old }
+        requires enabled { AreFewEnabled (state_in (B.value store.old) self.old) }
         requires fresh { out.old.items ≡ [] }
         ensures answer { reply_in result out.new.items ≡ (get_at plain side wanted cmax dmax (state_in (B.value store.old) self.old)).answer }
         ensures filled { answer_len result ≡ length out.new.items }

@@ -66,6 +66,7 @@ pub(crate) struct TakenOff {
 
 impl Streams {
     ghost use Rattle.strm_blocks.specs.Blocks.{StoreValue};
+    ghost use Rattle.strm_frame.specs.MayEnable.{MayEnable};
     ghost use Rattle.strm_pair.specs.Effects.{AreAtRest, Leads};
     ghost use Rattle.strm_pair.specs.Pairs.{state_in, end_at, with_end, AreHeld};
 
@@ -257,6 +258,7 @@ impl Streams {
     // What the other side's driver has may come to the read queue of the module on top, which has this name, where it has one: no other module of the
     // stream has one then.
     fn come_from_driver<B: Blocks>(&mut self, store: &B, side: Side, name: ModuleName)
+        requires room { MayEnable self.old.enabled (driver_of (other side)) }
         ensures { let s = state_in (B.value store.now) self.old in self.new ≡ record self.old {
           enabled = enable_if (have_queues name && not (is_none_left (stream (other side) s).driver.queue.messages)) (driver_of (other side)) s.enabled;
         } }

@@ -63,7 +63,9 @@ pub(crate) struct Call {
 }
 
 impl Streams {
+    ghost use Rattle.strm_laws.specs.StackCosts.{stands_of};
     ghost use Rattle.strm_pair.specs.Effects.{MayDeliver};
+    ghost use Rattle.strm_pair.specs.Enabling.{AreFewEnabled};
     ghost use Rattle.strm_pair.specs.Pairs.{state_in, end_at, with_end, AreBeside, SamePool};
 
     // How many bytes are booked as made in each direction.
@@ -178,6 +180,8 @@ impl Streams {
         ensures beside { AreBeside (B.value store.new) self.new }
         ensures hand { IsKeptAll (B.value store.new) self.new }
         ensures pool { SamePool (B.value store.old) (B.value store.new) }
+        ensures enabled { AreFewEnabled (state_in (B.value store.new) self.new) }
+        ensures stands { stands_of (state_in (B.value store.new) self.new) ≡ stands_of (state_in (B.value store.old) self.old) }
     {
         let mut call = self.call_module::<B, M>(store, here, false, told);
         let mut bytes = call.bytes;

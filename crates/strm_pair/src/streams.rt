@@ -91,6 +91,7 @@ fn new_end(first: usize, tables: SideTables) -> StreamEnd
 impl Streams {
     ghost use Rattle.strm_types.specs.declared.names.Side.TheVariants.{Master};
     ghost use Rattle.strm_pair.specs.Effects.{AreAtRest, Becomes, Leads, MayDeliver};
+    ghost use Rattle.strm_pair.specs.Enabling.{AreFewEnabled};
     ghost use Rattle.strm_pair.specs.Pairs.{free_in, state_in, end_at, with_end, AreBeside, AreHeld};
 
     /// The streams of a new pair.
@@ -148,7 +149,8 @@ impl Streams {
     /// Opens the slave: its head is as new, and what waits for it may come.
     #[inline(never)]
     pub fn open_slave<B: Blocks>(&mut self, store: &mut B) -> Answer<u32>
-        requires { AreHeld (B.value store.old) self.old }
+        requires held { AreHeld (B.value store.old) self.old }
+        requires enabled { AreFewEnabled (state_in (B.value store.old) self.old) }
         ensures answer { result ≡ Done }
         ensures leads { (told : Fates) → let s = B.value store.old in
             Leads s (B.value store.new) self.new told told (opened_slave (state_in s self.old)) [] }
@@ -179,6 +181,7 @@ impl Streams {
         told: &mut Fates,
     )
         requires held { AreHeld (B.value store.old) self.old }
+        requires enabled { AreFewEnabled (state_in (B.value store.old) self.old) }
         requires fresh { out.old.items ≡ [] }
         ensures answer { Bytes out.new.items ≡ (read_at plain side n (state_in (B.value store.old) self.old)).answer }
         ensures most { length out.new.items ≤ min n READ_MAX }

@@ -3,6 +3,7 @@ use Rattle.strm_pair.proofs.Prelude.{ℕ, suc, ◌≡◌, ◌-◌, length, sym, 
 use Rattle.strm_pair.specs.Prelude.{Carried, all_taken, top_taken, State, stream}
 use Rattle.strm_pair.specs.Pairs.{state_in}
 use Rattle.strm_pair.specs.Effects.{Leads}
+use Rattle.strm_pair.proofs.Enabling.{taken-few}
 use Rattle.strm_pair.proofs.Idle.{top-idle}
 use Rattle.strm_pair.proofs.Takings.{all-by-one, none-taken, one-less}
 use Rattle.strm_pair.proofs.Leading.{leads-both, leads-nowhere, rests-behind}
@@ -25,7 +26,8 @@ take_all-requires g t c κs within =
     let many : suc (c.args.count - 1) ≡ length (stream c.args.side st).modules = omega (arith, c.requires.count, c.if-count-eq0.false) in
     let some = c.if-count-eq0.false in
     let left = sym (one-less c.args.rule c.args.side st (state_in (g.B.Blocks.value c.take_top.new.store) c.take_top.new.self) leads.state (c.args.count - 1) many) in
-    let rests = rests-behind s (g.B.Blocks.value c.take_top.new.store) c.take_top.new.self c.args.told.now c.take_top.new.told taken.state taken.gone leads (top-idle c.args.rule c.args.side st c.requires.rests.idle) in
+    let rests = rests-behind s (g.B.Blocks.value c.take_top.new.store) c.take_top.new.self c.args.told.now c.take_top.new.told taken.state taken.gone leads
+    (top-idle c.args.rule c.args.side st c.requires.rests.idle) (taken-few c.args.rule c.args.side st c.requires.rests.enabled) in
     (omega arith, (within, (rests, left)))
 
 pub returns : goal.returns

@@ -104,7 +104,7 @@ returns g c =
     let m = between c.of-before.result.from_master f'.made_from_master in
     let n = between c.of-before.result.from_slave f'.made_from_slave in
     let at : Streams → Streams = λ z. record z { enabled = noted here.side place earlier served.acts.notes.items z.enabled; books = with_more m n z.books } in
-    acts-by K s t p c.book_made.new.self x here c.args.again served f f' place earlier m n c.audit.ensures c.requires.may.hand c.requires.may.beside
+    acts-by K s t p c.book_made.new.self x here c.args.again served f f' place earlier m n c.audit.ensures c.requires.may.hand c.requires.may.enabled c.requires.may.beside
     place_is (λ way. before-stays s t p y here.side way here.at (c.requires.may.beside here.side).stack e.serves.held names) e.serves m_is n_is
     (c.book_made.ensures
     ∙ ap (λ (z : Streams). record z { books = with_more m n z.books }) (c.note.ensures t ∙ ap (λ ns. record y { enabled = noted here.side place earlier ns y.enabled }) c.as_slice.ensures.value)

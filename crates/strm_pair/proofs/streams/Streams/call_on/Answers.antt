@@ -1,12 +1,14 @@
 -- Each call goes on from what those before it led to.
 use Rattle.strm_pair.proofs.Prelude.{◌≡◌, ◌<◌, ◌+◌, ◌-◌, false, true, [], length, refl, sym, ap, subst, ◌∙◌, arith, false≢true}
-use Rattle.strm_pair.specs.Prelude.{STOP_BLOCKS, stream, times_in, HasRoom}
+use Rattle.strm_pair.specs.Prelude.{STOP_BLOCKS, stream, stands_of, times_in, HasRoom}
 use Rattle.strm_laws.proofs.ModuleTurnCalls.{reached-first}
 use Rattle.strm_pair.specs.Framing.{rests}
+use Rattle.strm_pair.specs.ModuleServed.{stop_in}
 use Rattle.strm_pair.specs.Pairs.{state_in}
 use Rattle.strm_pair.proofs.CallsOn.{Along, FewAt, GoOn, Since, along, comes-closer, few-along, first-begins, first-books, first-cost, first-went, later-went, next-books, still_to_come}
 use Rattle.strm_pair.proofs.MovingOn.{full-at}
 use Rattle.strm_pair.proofs.ServeSteps.{call-within}
+use Rattle.strm_pair.proofs.StopsFew.{led-stands}
 use Rattle.strm_frame.proofs.WidePools.{wide-on}
 use Rattle.strm_pair.proofs.streams.Streams.call_on.Goals as goal
 
@@ -33,6 +35,8 @@ loop-call-init g c =
       beside = e.beside;
       hand = e.hand;
       pool = record { mblks = e.pool.mblks; dblks = e.pool.dblks };
+      enabled = e.enabled;
+      stands = ap stands_of e.state ∙ led-stands K here false (stop_in m.result) st0;
     }
 
 pub call_module-call-requires-clause-books : goal.call_module-call-requires-clause-books
@@ -101,6 +105,8 @@ loop-call-preserved g c =
       beside = e.beside;
       hand = e.hand;
       pool = record { mblks = e.pool.mblks ∙ l.invariant.pool.mblks; dblks = e.pool.dblks ∙ l.invariant.pool.dblks };
+      enabled = e.enabled;
+      stands = ap stands_of e.state ∙ led-stands K here true (stop_in m.result) st ∙ l.invariant.stands;
     }
 
 pub call_module-call-requires-clause-may : goal.call_module-call-requires-clause-may
@@ -117,6 +123,7 @@ call_module-call-requires-clause-may g c =
       within = c.requires.within;
       begins = first-begins here st0 at_rest.idle (let inside = c.requires.inside in let within = c.requires.within in omega arith);
       beside = at_rest.held.beside;
+      enabled = at_rest.enabled;
       hand = λ i. ap (times_in i) at_rest.held.hand ∙ sym (rests s p at_rest.held.beside at_rest.idle i);
       room = record { mblks = omega (arith, cost, room.mblks); dblks = omega (arith, cost, room.dblks) };
     }

@@ -6,6 +6,7 @@ use Rattle.strm_laws.specs.Pushes.{ioctl_dropped}
 use Rattle.strm_pair.specs.Pairs.{state_in}
 use Rattle.strm_pair.specs.Effects.{Leads}
 use Rattle.strm_pair.proofs.Dropping.{same-sought, slot-stays}
+use Rattle.strm_pair.proofs.Enabling.{taken-few}
 use Rattle.strm_pair.proofs.Idle.{top-idle}
 use Rattle.strm_pair.proofs.Leading.{leads-then, rests-behind}
 use Rattle.strm_frame.proofs.WidePools.{wide-on}
@@ -17,7 +18,7 @@ put_mode-requires-clause-rests g c =
     let st = state_in s c.args.self.now in
     let taken = top_taken ModulePopped c.args.side (stream c.args.side st).modules st in
     rests-behind s (g.B.Blocks.value c.take_top-taken.new.store) c.take_top-taken.new.self c.args.told.now c.take_top-taken.new.told taken.state taken.gone c.take_top-taken.ensures.taken.leads
-    (top-idle ModulePopped c.args.side st c.requires.rests.idle)
+    (top-idle ModulePopped c.args.side st c.requires.rests.idle) (taken-few ModulePopped c.args.side st c.requires.rests.enabled)
 
 pub put_mode-requires-clause-room : goal.put_mode-requires-clause-room
 put_mode-requires-clause-room g c =
