@@ -118,8 +118,8 @@ fn put_ldterm(out: &mut Sink, l: &LdtermText<'_>) {
     put_flag(out, l.after_lnext);
     put_u32(out, l.column);
     put_line(out, few(l.line));
-    put_queue(out, &l.read_queue, QueueKind::LdtermRead);
-    put_queue(out, &l.write_queue, QueueKind::LdtermWrite);
+    put_queue(out, &l.read_queue, QueueKind::ModuleRead);
+    put_queue(out, &l.write_queue, QueueKind::ModuleWrite);
 }
 
 fn put_module(out: &mut Sink, module: &ModuleText<'_>) {
