@@ -56,8 +56,8 @@ fn put_ldterm<'a, B: Blocks>(
     let Some(pair) = queues else { unreachable!() };
     let mut out = out;
     put_line_modes(&mut out, ldterm);
-    let out = put_queue(store, &pair.read, QueueKind::LdtermRead, out);
-    put_queue(store, &pair.write, QueueKind::LdtermWrite, out)
+    let out = put_queue(store, &pair.read, QueueKind::ModuleRead, out);
+    put_queue(store, &pair.write, QueueKind::ModuleWrite, out)
 }
 
 // A ptem, which has no queues.
