@@ -1,5 +1,5 @@
 -- A message that is put on a queue of a pair, and one that is taken off it.
-use Rattle.strm_frame.proofs.Prelude.{ℕ, ◌≡◌, Bool, [], ◌∷◌, refl, sym, ap, ◌∙◌, arith, Some}
+use Rattle.strm_frame.proofs.Prelude.{ℕ, ◌≡◌, ◌+◌, Bool, [], ◌∷◌, refl, sym, ap, ◌∙◌, arith, Some}
 use Rattle.strm_frame.specs.Prelude.{Up, Down, StoreValue, IsStore, IsInHand, dropped, in_hand, list_at, times_in, Queue, Changes, Dequeued, FreesBlocks}
 use Rattle.strm_frame.specs.Prelude.{FreesNone, queue_in}
 use Rattle.strm_types.specs.Queue.{put_enables, put_on}
@@ -137,6 +137,7 @@ module _ (s t : StoreValue) (pair : QueuePair) (ready : IsPairReady s pair) (q :
         ∙ ap (λ r. record (pair_in s pair) { read = r }) (sym (ap (λ v. queue_in v q) taken.same) ∙ taken.queue);
     ready = record { read = taken.ready; write = (stays-other taken.same).write; apart = omega (arith, taken.list, ready.apart) };
     lists = ap (λ k. k ∷ pair.write.list ∷ []) taken.list;
+    own = record { lists = λ k none. ap (λ v. list_at v k) taken.same; owns_same = λ k. ap (λ n. once n k + once pair.write.list k) taken.list };
   }
 
   pub none-down : NoneTaken s t pair.write q → TakesNone s t pair (record pair { write = q }) Down
@@ -147,4 +148,5 @@ module _ (s t : StoreValue) (pair : QueuePair) (ready : IsPairReady s pair) (q :
         ∙ ap (λ w. record (pair_in s pair) { write = w }) (sym (ap (λ v. queue_in v q) taken.same) ∙ taken.queue);
     ready = record { read = (stays-other taken.same).read; write = taken.ready; apart = omega (arith, taken.list, ready.apart) };
     lists = ap (λ k. pair.read.list ∷ k ∷ []) taken.list;
+    own = record { lists = λ k none. ap (λ v. list_at v k) taken.same; owns_same = λ k. ap (λ n. once pair.read.list k + once n k) taken.list };
   }
