@@ -24,9 +24,9 @@ module _ (own : OwnActs ℕ) (way : Way) (o : Own) (s : StoreValue) (k : ℕ) (p
   asks-high high =
       let ms = message_of p.message ∷ map message_of p.rest in
       sym (
-          ap (own_asked own way o) stand
-          ∙ ap (λ h. cond h asked.Free (cond (own.goes way ms o) (asked.Room (record { 0 = (message_of p.message).band })) asked.Held)) (kind ∙ high)
-          )
+      ap (own_asked own way o) stand
+      ∙ ap (λ h. cond h asked.Free (cond (own.goes way ms o) (asked.Room (record { 0 = (message_of p.message).band })) asked.Held)) (kind ∙ high)
+      )
 
   -- or else, as the module says
   pub begins : is_high_priority peek.kind ≡ false → BeginsOrdinary (messages_on s k)
@@ -37,8 +37,8 @@ module _ (own : OwnActs ℕ) (way : Way) (o : Own) (s : StoreValue) (k : ℕ) (p
   asks-low low =
       let ms = message_of p.message ∷ map message_of p.rest in
       sym (
-          ap (own_asked own way o) stand
-          ∙ ap (λ h. cond h asked.Free (cond (own.goes way ms o) (asked.Room (record { 0 = (message_of p.message).band })) asked.Held)) (kind ∙ low)
-          ∙ ap (λ g. cond g (asked.Room (record { 0 = (message_of p.message).band })) asked.Held) (ap (λ l. own.goes way l o) (sym stand))
-          ∙ ap (λ b. cond {A = Asks} (own.goes way (messages_on s k) o) (asked.Room (record { 0 = b })) asked.Held) (band-is p.message ∙ sym p.seen.band)
-          )
+      ap (own_asked own way o) stand
+      ∙ ap (λ h. cond h asked.Free (cond (own.goes way ms o) (asked.Room (record { 0 = (message_of p.message).band })) asked.Held)) (kind ∙ low)
+      ∙ ap (λ g. cond g (asked.Room (record { 0 = (message_of p.message).band })) asked.Held) (ap (λ l. own.goes way l o) (sym stand))
+      ∙ ap (λ b. cond {A = Asks} (own.goes way (messages_on s k) o) (asked.Room (record { 0 = b })) asked.Held) (band-is p.message ∙ sym p.seen.band)
+      )

@@ -9,5 +9,5 @@ mod owned;
 mod putting;
 mod serving;
 
-pub use looking::has_byte;
+pub use looking::{has_byte, has_ioctl};
 pub use own::{NoModule, Own, OwnModule, is_known, pass_on, reply};

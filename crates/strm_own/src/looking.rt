@@ -1,10 +1,13 @@
 //! What a module looks for in the messages that stand on its queues, as it says whether they may go on.
 
 ghost use Rattle.std.specs.Prelude.{◌≡◌};
+ghost use Rattle.std.specs.List.{list_any};
+ghost use Rattle.strm_types.specs.Commands.{is_ioctl};
 ghost use Rattle.strm_queue.specs.Stored.{IsReady, messages_on};
 ghost use Rattle.strm_own.specs.Looking.{has_byte};
 
 use strm_blocks::{Blocks, Visitor};
+use strm_frame::ioctls::is_ioctl;
 use strm_queue::Queue;
 use strm_types::{Band, MsgKind};
 
@@ -48,4 +51,36 @@ pub fn has_byte<B: Blocks>(store: &B, queue: &Queue, byte: u8) -> bool
     };
     store.visit(queue.list, &mut seeker);
     seeker.found
+}
+
+// Sees whether an M_IOCTL stands on a list.
+#[derive(Drop)]
+struct Asker {
+    found: bool,
+}
+
+impl Visitor for Asker {
+    ghost use Rattle.std.specs.Prelude.{not, if◌then◌else◌};
+    ghost use Rattle.strm_types.specs.Commands.{is_ioctl};
+
+    ghost after = { λ v b. if b.first then record { found = is_ioctl b.kind } else v };
+
+    ghost goes_on = { λ v. not v.found };
+
+    fn see(&mut self, first: bool, kind: MsgKind, _band: Band, _bytes: &[u8]) -> bool {
+        if first {
+            self.found = is_ioctl(kind);
+        }
+        !self.found
+    }
+}
+
+/// Whether an M_IOCTL stands on a queue. The cost is a step for each block of the messages in front of the first one.
+pub fn has_ioctl<B: Blocks>(store: &B, queue: &Queue) -> bool
+    ensures { result ≡ list_any (λ m. is_ioctl m.kind) (messages_on (B.value store.now) queue.now.list) }
+{
+    store.audit();
+    let mut asker = Asker { found: false };
+    store.visit(queue.list, &mut asker);
+    asker.found
 }
