@@ -1,7 +1,9 @@
 -- A message that is put on a queue of a pair, and one that is taken off it.
-use Rattle.strm_frame.proofs.Prelude.{ℕ, ◌≡◌, Bool, [], ◌∷◌, refl, sym, ap, ◌∙◌, arith, Some}
-use Rattle.strm_frame.specs.Prelude.{Up, Down, StoreValue, IsStore, IsInHand, dropped, in_hand, list_at, times_in, Queue, Changes, Dequeued, FreesBlocks}
-use Rattle.strm_frame.specs.Prelude.{FreesNone, queue_in}
+use Rattle.strm_frame.proofs.Prelude.{ℕ, ◌≡◌, ◌+◌, Bool, [], ◌∷◌, refl, sym, ap, subst, ◌∙◌, arith, None, Option, Some}
+use Rattle.std.specs.Prelude.{MatchOption}
+use Rattle.strm_frame.specs.Prelude.{Way, Up, Down, StoreValue, IsStore, IsInHand, dropped, in_hand, list_at, times_in, Queue, Changes, Dequeued, FreesBlocks}
+use Rattle.strm_frame.specs.Prelude.{FreesNone, queue_in, token}
+use Rattle.strm_blocks.specs.declared.in_hand.InHand.{InHand}
 use Rattle.strm_types.specs.Queue.{put_enables, put_on}
 use Rattle.strm_blocks.specs.Blocks.{held}
 use Rattle.strm_msg.proofs.Hands.{stays-chain}
@@ -137,6 +139,7 @@ module _ (s t : StoreValue) (pair : QueuePair) (ready : IsPairReady s pair) (q :
         ∙ ap (λ r. record (pair_in s pair) { read = r }) (sym (ap (λ v. queue_in v q) taken.same) ∙ taken.queue);
     ready = record { read = taken.ready; write = (stays-other taken.same).write; apart = omega (arith, taken.list, ready.apart) };
     lists = ap (λ k. k ∷ pair.write.list ∷ []) taken.list;
+    own = record { lists = λ k none. ap (λ v. list_at v k) taken.same; owns_same = λ k. ap (λ n. once n k + once pair.write.list k) taken.list };
   }
 
   pub none-down : NoneTaken s t pair.write q → TakesNone s t pair (record pair { write = q }) Down
@@ -147,4 +150,19 @@ module _ (s t : StoreValue) (pair : QueuePair) (ready : IsPairReady s pair) (q :
         ∙ ap (λ w. record (pair_in s pair) { write = w }) (sym (ap (λ v. queue_in v q) taken.same) ∙ taken.queue);
     ready = record { read = (stays-other taken.same).read; write = taken.ready; apart = omega (arith, taken.list, ready.apart) };
     lists = ap (λ k. pair.read.list ∷ k ∷ []) taken.list;
+    own = record { lists = λ k none. ap (λ v. list_at v k) taken.same; owns_same = λ k. ap (λ n. once pair.read.list k + once n k) taken.list };
   }
+
+-- by what was taken
+module _ (s t : StoreValue) (pair : QueuePair) (ready : IsPairReady s pair) (q : Queue) (way : Way) where
+  pub taken-up : (o : Option InHand) → way ≡ Up → MatchOption o (NoneTaken s t pair.read q) (λ m. Dequeued s t pair.read q (token m))
+      → MatchOption o (TakesNone s t pair (record pair { read = q }) way) (λ m. TakesFirst s t pair (record pair { read = q }) way (token m))
+  taken-up None up taken = subst (λ w. TakesNone s t pair (record pair { read = q }) w) (sym up) (none-up s t pair ready q taken)
+  taken-up (Some m) up taken =
+      subst (λ w. TakesFirst s t pair (record pair { read = q }) w (token m)) (sym up) (takes-up s t pair ready q (token m) taken)
+
+  pub taken-down : (o : Option InHand) → way ≡ Down → MatchOption o (NoneTaken s t pair.write q) (λ m. Dequeued s t pair.write q (token m))
+      → MatchOption o (TakesNone s t pair (record pair { write = q }) way) (λ m. TakesFirst s t pair (record pair { write = q }) way (token m))
+  taken-down None down taken = subst (λ w. TakesNone s t pair (record pair { write = q }) w) (sym down) (none-down s t pair ready q taken)
+  taken-down (Some m) down taken =
+      subst (λ w. TakesFirst s t pair (record pair { write = q }) w (token m)) (sym down) (takes-down s t pair ready q (token m) taken)

@@ -26,6 +26,7 @@ pub record TakesNone (old new : StoreValue) (pair pair' : QueuePair) (way : Way)
   pub state : pair_in new pair' ≡ pair_in old pair
   pub ready : IsPairReady new pair'
   pub lists : lists_of (Some pair') ≡ lists_of (Some pair)
+  pub own : OnlyOwn old new (queues_own (Some pair)) (queues_own (Some pair'))
 
 -- The first message of the queue of a way was taken off it into the hand, beside what was there. Only that queue changed, and no block was taken.
 pub record TakesFirst (old new : StoreValue) (pair pair' : QueuePair) (way : Way) (message : ℕ) : Type 0 where

@@ -3,9 +3,11 @@
 #![tactic(auto)]
 
 mod asking;
+mod looking;
 mod own;
 mod owned;
 mod putting;
 mod serving;
 
+pub use looking::{has_byte, has_ioctl};
 pub use own::{NoModule, Own, OwnModule, is_known, pass_on, reply};

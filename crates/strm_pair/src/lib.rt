@@ -36,4 +36,4 @@ mod zeros;
 pub use pair::{Pair, Recorded};
 pub use readiness::Ready;
 pub use scheduler::Ran;
-pub use strm_own::{NoModule, Own, OwnModule, pass_on, reply};
+pub use strm_own::{NoModule, Own, OwnModule, has_byte, has_ioctl, pass_on, reply};
