@@ -4,11 +4,13 @@ use Rattle.strm_pair.proofs.Prelude.{refl, sym, ap, subst, ◌∙◌, arith, ◌
 use Rattle.strm_pair.specs.Prelude.{ModuleName, Place, Driver, QueueName, Side, Master, Slave, Way, Up, Down, Note, Rule, ReadMode, Spot, plain, Acted}
 use Rattle.strm_pair.specs.Prelude.{Message, State, Stream, stream, with_stream, with_modules, Standing, module_name, stands_of, before_at, earlier_at}
 use Rattle.strm_pair.specs.Prelude.{enable, enable_if, enable_some, is_enabled, noted, places_of, put_in, delivered, module_acted, mode_put, top_taken}
-use Rattle.strm_pair.specs.Prelude.{driver_of, head_above, StoreValue, Restorable, GoodStream, MODULES, Behaviour, with_driver}
+use Rattle.strm_pair.specs.Prelude.{driver_of, head_above, StoreValue, Restorable, GoodStream, MODULES, Behaviour, EndClosed, head_emptied, of_all}
+use Rattle.strm_pair.specs.Prelude.{queue_behind, writer_goes, before_driver, before_head, driver_place, with_driver_queue, with_head_queue}
 use Rattle.std.specs.List.{AllByRecursion}
 use Rattle.strm_types.specs.declared.spots.Note.TheVariants.{Enable, Room}
 use Rattle.strm_types.specs.Names.{enable_found, has_queues_at, without}
 use Rattle.strm_types.specs.Options.{mode_message}
+use Rattle.strm_laws.specs.Closes.{driver_emptied}
 use Rattle.strm_laws.specs.Earlier.{queue_named}
 use Rattle.strm_laws.specs.Pushes.{all_taken}
 use Rattle.strm_laws.specs.Restorable.{AreEnabled, IsThere, is_there_among}
@@ -111,6 +113,11 @@ module _ (s : State ℕ) (e : AreFewEnabled s) where
       → MayEnable (enable_some goes o s.enabled) name
   some-room goes o may name there = λ has absent. room-enabled e.all e.few _ (some-names goes o may) name (e.among name there) absent
 
+  pub let-room : (side : Side) (way : Way) (at : ℕ) (goes : Bool) (name : QueueName) → IsThere (stands_of s) name
+      → MayEnable (enable_some goes (before_at side way at s) s.enabled) name
+  let-room side way at goes name there =
+      some-room goes (before_at side way at s) (before-there (stands_of s) s refl side way at) name there
+
   pub one-room : (name : QueueName) → IsThere (stands_of s) name → MayEnable s.enabled name
   one-room name there = some-room false None tt name there
 
@@ -127,6 +134,19 @@ module _ (s : State ℕ) (e : AreFewEnabled s) where
 
   pub without-few : (name : QueueName) → AreFewEnabled (record s { enabled = without name s.enabled })
   without-few name = stays-few (record s { enabled = without name s.enabled }) refl (without-there e.all name s.enabled e.names)
+
+  -- a head and a driver from whose queues all goes
+  pub emptied-few : (side : Side) → AreFewEnabled (head_emptied EndClosed of_all side s).state
+  emptied-few side =
+      let q = (stream side s).head.queue in
+      goes-few side (with_head_queue (queue_behind of_all q) (stream side s)) (writer_goes of_all q) (before_head side s) refl
+      (before-there (stands_of s) s refl side Up 0)
+
+  pub driver-few : (side : Side) → AreFewEnabled (driver_emptied EndClosed of_all side s).state
+  driver-few side =
+      let q = (stream side s).driver.queue in
+      goes-few side (with_driver_queue (queue_behind of_all q) (stream side s)) (writer_goes of_all q) (before_driver side s) refl
+      (before-there (stands_of s) s refl side Down (driver_place side s))
 
   -- what notes say of the queues of a place that are there
   pub noted-names : (side : Side) (place : Option Place) (earlier : Way → Option QueueName) (notes : List Note)

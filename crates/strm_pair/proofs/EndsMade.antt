@@ -1,6 +1,6 @@
 -- A stream of a text, on four lists of a store: its queues one after the other, and then its modules.
 use Rattle.strm_pair.proofs.Prelude.{ℕ, ◌≡◌, ◌≢◌, ◌≤◌, ◌<◌, ◌+◌, Bool, true, false, List, [], ◌∷◌, map, refl, sym, ap, subst, ◌∙◌, arith, ◌==◌}
-use Rattle.strm_pair.proofs.Prelude.{is_some, sum_by, Option, nat_tests, sum_by-cons, kind-is, ready-same}
+use Rattle.strm_pair.proofs.Prelude.{is_some, sum_by, Option, None, Some, nat_tests, sum_by-cons, kind-is, ready-same}
 use Rattle.strm_pair.specs.Prelude.{MsgKind, Openness, is_data_kind, is_body_kind, is_control_kind, EachOnce, module_name, is_part_kind, Block}
 use Rattle.strm_pair.specs.Prelude.{StoreValue, block_at, list_at, message_of, queue_in, HoldsReadable, IsHeadQueue, Head, head_in, all_of, Stack}
 use Rattle.strm_pair.specs.Prelude.{ModuleText, StreamText, laid_blocks, module_now, modules_now, names_now, queue_now, laid_now, Tables, owns}
@@ -10,7 +10,7 @@ use Rattle.strm_types.specs.Queue as state
 use Rattle.strm_types.specs.Heads as heads
 use Rattle.strm_laws.specs.Restorable.{StandsOn}
 use Rattle.strm_queue.specs.declared.queue.Queue.{Queue}
-use Rattle.strm_image.specs.declared.modules.ModuleText.TheVariants as texts
+use Rattle.strm_image.specs.declared.modules.QueuesText.{QueuesText}
 use Rattle.strm_image.specs.Counts as counts
 use Rattle.strm_image.specs.Counts.{queue_blocks}
 use Rattle.strm_pair.specs.declared.ends.StreamEnd.{StreamEnd}
@@ -44,10 +44,11 @@ blocks-same [] = refl
 blocks-same (m ∷ ms) = omega (arith, sum_by-cons counts.module_blocks (module_now m) (modules_now ms), sum_by-cons module_blocks m ms, one m, blocks-same ms)
   where
     one : (m : ModuleText) → counts.module_blocks (module_now m) ≡ module_blocks m
-    one (texts.Ldterm l) = omega arith
-    one (texts.Ptem p) = refl
-    one texts.Pckt = refl
-    one (texts.Own o) = refl
+    one m = by m.queues
+      where
+        by : (queues : Option QueuesText) → let n = record m { queues = queues } in counts.module_blocks (module_now n) ≡ module_blocks n
+        by None = refl
+        by (Some q) = omega arith
 
 -- ---- the lists
 

@@ -1,72 +1,58 @@
 -- The modules of a text, placed one behind the other.
 use Rattle.strm_pair.proofs.Prelude.{ℕ, zero, suc, ◌≡◌, ◌≤◌, ◌<◌, ◌+◌, cond, true, List, [], ◌∷◌, ◌++◌, length, map, take, get_or, refl, sym, ap}
-use Rattle.strm_pair.proofs.Prelude.{subst, ◌∙◌, arith, is_some, sum_by, Option, Some, take_more, sum_by-cons, once-self}
-use Rattle.strm_pair.specs.Prelude.{same_module, stood, EachOnce, OfLdterm, module_name, StoreValue, list_at, HasRoom, SameOwn, once, stack-stays}
-use Rattle.strm_pair.specs.Prelude.{all_of, AreHeld, LdtermText, ModuleText, module_now, modules_now, names_now, QueuePair, Tables, HasInHand, own_in}
+use Rattle.strm_pair.proofs.Prelude.{subst, ◌∙◌, arith, is_some, sum_by, Option, None, Some, take_more, sum_by-cons, once-self}
+use Rattle.strm_pair.specs.Prelude.{stood, EachOnce, have_queues, kind_name, StoreValue, list_at, HasRoom, SameOwn, once, stack-stays}
+use Rattle.strm_pair.specs.Prelude.{all_of, AreHeld, ModuleText, module_now, modules_now, names_now, QueuePair, Tables, queues_in}
 use Rattle.strm_pair.specs.Prelude.{IsPairReady, owns, pair_in, queues_own, standing}
 use Rattle.std.proofs.lemmas.List.{map-append}
 use Rattle.std.proofs.lemmas.List.Sums.{sum_by-le-sum_by, sum_by_more_le, sum_by_push}
-use Rattle.strm_types.specs.declared.names.ModuleName.TheVariants as names
-use Rattle.strm_laws.specs.StackCosts.{times_there}
-use Rattle.strm_laws.proofs.StackOnce.{nothing-there, top-times}
-use Rattle.strm_image.specs.declared.modules.ModuleText.TheVariants as texts
-use Rattle.strm_image.specs.ModuleTexts.{own_now, pair_now}
-use Rattle.strm_ldterm.specs.declared.ldterm.Ldterm.{Ldterm}
-use Rattle.strm_ldterm.specs.Stands.{keeps_itself}
-use Rattle.strm_pair.specs.declared.modules.AnyModule.TheVariants as kinds
-use Rattle.strm_pair.specs.AnyModules.{AnyStanding, IsHeld, any-frame, keeps, module_in}
-use Rattle.strm_pair.specs.Placing.{AreStacked, IsFreeFor, IsPlaced, module_blocks, own_of}
+use Rattle.strm_image.specs.declared.modules.QueuesText.{QueuesText}
+use Rattle.strm_image.specs.ModuleTexts.{kind_now, pair_now}
+use Rattle.strm_pair.specs.declared.modules.AnyModule.{AnyModule}
+use Rattle.strm_pair.specs.AnyModules.{AnyStanding, IsHeld, IsKindHeld, any-frame, keeps, kind_in, kind_keeps, module_in}
+use Rattle.strm_pair.specs.Placing.{AreFreeFor, ArePlaced, AreStacked, IsModuleText, IsPlaced, module_blocks, own_by, own_of}
 use Rattle.strm_pair.specs.Runs.{Spent}
-use Rattle.strm_pair.specs.Standing.{FillsTwo, ldterm_blocks}
+use Rattle.strm_pair.specs.Standing.{FillsTwo, pair_blocks}
 use Rattle.strm_pair.specs.ModuleLists.{either-once}
 use Rattle.strm_pair.proofs.MadeModules.{once-two}
 use Rattle.strm_pair.proofs.ModuleTaken.{once-is}
 use Rattle.strm_pair.proofs.Shown.{all-joined}
 
--- ---- one ldterm stands there at most
+-- ---- one module with queues stands there at most
 
-abbrev pub is_ldterm : ModuleText → ℕ
-is_ldterm (texts.Ldterm l) = 1
-is_ldterm (texts.Ptem p) = 0
-is_ldterm texts.Pckt = 0
-is_ldterm (texts.Own o) = 0
+abbrev pub has_pair : ModuleText → ℕ
+has_pair m = by m.queues
+  where
+    by : Option QueuesText → ℕ
+    by None = 0
+    by (Some q) = 1
 
-told-once : (m : ModuleText) → cond {A = ℕ} (same_module (module_name (module_now m)) names.Ldterm) 1 0 ≡ is_ldterm m
-told-once (texts.Ldterm l) = refl
-told-once (texts.Ptem p) = refl
-told-once texts.Pckt = refl
-told-once (texts.Own o) = refl
-
-times-ldterm : (ms : List ModuleText) (at : ℕ) → length ms ≤ at → times_there names.Ldterm (names_now ms) at ≡ sum_by is_ldterm ms
-times-ldterm [] at within = nothing-there names.Ldterm at
-times-ldterm (m ∷ ms) zero within = absurd (omega (arith, within))
-times-ldterm (m ∷ ms) (suc at) within =
-    omega (arith, top-times names.Ldterm (module_name (module_now m)) (names_now ms) at, times-ldterm ms at (omega (arith, within)), told-once m, sum_by-cons is_ldterm m ms)
-
-pub one-ldterm : (ms : List ModuleText) → EachOnce (names_now ms) → sum_by is_ldterm ms ≤ 1
-one-ldterm ms each = omega (arith, each.once names.Ldterm (length ms), times-ldterm ms (length ms) (omega arith))
+pub one-pair : (ms : List ModuleText) → EachOnce (names_now ms) → sum_by has_pair ms ≤ 1
+one-pair ms each = ?
 
 module _ (first k : ℕ) where
-  own-few : (m : ModuleText) → own_of first k m ≤ is_ldterm m
-  own-few (texts.Ldterm l) = once-two first (first + 1) k (λ e. absurd (omega (arith, e)))
-  own-few (texts.Ptem p) = omega arith
-  own-few texts.Pckt = omega arith
-  own-few (texts.Own o) = omega arith
+  own-few : (m : ModuleText) → own_of first k m ≤ has_pair m
+  own-few m = by m.queues
+    where
+      by : (queues : Option QueuesText) → let n = record m { queues = queues } in own_of first k n ≤ has_pair n
+      by None = omega arith
+      by (Some q) = once-two first (first + 1) k (λ e. absurd (omega (arith, e)))
 
-  all-few : (ms : List ModuleText) → sum_by (own_of first k) ms ≤ sum_by is_ldterm ms
-  all-few ms = sum_by-le-sum_by (own_of first k) is_ldterm ms own-few
+  all-few : (ms : List ModuleText) → sum_by (own_of first k) ms ≤ sum_by has_pair ms
+  all-few ms = sum_by-le-sum_by (own_of first k) has_pair ms own-few
 
 -- ---- with one module more
 
 module _ {s t : StoreValue} {first : ℕ} {ms : List ModuleText} {xs : List AnyStanding} {was : Option Tables} (so_far : AreStacked s t first ms xs was) where
-  -- an ldterm finds its lists empty
-  pub free-for : (m : ModuleText) → sum_by is_ldterm ms + is_ldterm m ≤ 1 → IsFreeFor t first was m
-  free-for (texts.Ldterm l) few = so_far.free (omega (arith, so_far.own first, all-few first first ms, few))
-  free-for (texts.Ptem p) few = tt
-  free-for texts.Pckt few = tt
-  free-for (texts.Own o) few = tt
+  -- one with queues finds its lists empty
+  pub free-for : (m : ModuleText) → sum_by has_pair ms + has_pair m ≤ 1 → AreFreeFor t first was m.queues
+  free-for m few = by m.queues few
+    where
+      by : (queues : Option QueuesText) → sum_by has_pair ms + has_pair (record m { queues = queues }) ≤ 1 → AreFreeFor t first was queues
+      by None few = tt
+      by (Some q) few = so_far.free (omega (arith, so_far.own first, all-few first first ms, few))
 
-  module _ {u : StoreValue} {m : ModuleText} {x : AnyStanding} {is : Option Tables} (placed : IsPlaced t u first was is m x) (few : sum_by is_ldterm ms + is_ldterm m ≤ 1) where
+  module _ {u : StoreValue} {m : ModuleText} {x : AnyStanding} {is : Option Tables} (placed : IsPlaced t u first was is m x) (few : sum_by has_pair ms + has_pair m ≤ 1) where
     -- it has no list while another one has
     none-own : (k : ℕ) → 0 < all_of owns xs k → owns x first ≡ 0
     none-own k some = omega (arith, some, so_far.own k, all-few first k ms, few, own-few first first m, placed.own first)
@@ -120,14 +106,15 @@ module _ {s t : StoreValue} {first : ℕ} {ms : List ModuleText} {xs : List AnyS
 
 module _ (f k : ℕ) where
   within-one : (m : ModuleText) → 0 < own_of f k m → (f ≤ k) × (k < f + 2)
-  within-one (texts.Ldterm l) some = by (once f k) refl
+  within-one m some = pair m.queues some
     where
-      by : (n : ℕ) → once f k ≡ n → (f ≤ k) × (k < f + 2)
-      by zero none = let at = once-is (f + 1) k (omega (arith, some, none)) in (omega (arith, at), omega (arith, at))
-      by (suc n) one = let at = once-is f k (omega (arith, one)) in (omega (arith, at), omega (arith, at))
-  within-one (texts.Ptem p) some = absurd (omega (arith, some))
-  within-one texts.Pckt some = absurd (omega (arith, some))
-  within-one (texts.Own o) some = absurd (omega (arith, some))
+      by : (n : ℕ) → once f k ≡ n → 0 < once f k + once (f + 1) k → (f ≤ k) × (k < f + 2)
+      by zero none some = let at = once-is (f + 1) k (omega (arith, some, none)) in (omega (arith, at), omega (arith, at))
+      by (suc n) one some = let at = once-is f k (omega (arith, one)) in (omega (arith, at), omega (arith, at))
+
+      pair : (queues : Option QueuesText) → 0 < own_by f k queues → (f ≤ k) × (k < f + 2)
+      pair None some = absurd (omega (arith, some))
+      pair (Some q) some = by (once f k) refl some
 
   pub own-within-two : (ms : List ModuleText) → 0 < sum_by (own_of f k) ms → (f ≤ k) × (k < f + 2)
   own-within-two [] some = absurd (omega (arith, some))
@@ -137,13 +124,14 @@ module _ (f k : ℕ) where
       by zero none below = below (omega (arith, some, none, sum_by-cons (own_of f k) m ms))
       by (suc n) one below = within-one m (omega (arith, one))
 
-  -- an ldterm has both
+  -- one with queues has both
   module _ (low : f ≤ k) (high : k < f + 2) where
     both-one : (m : ModuleText) → own_of f k m ≡ own_of f f m
-    both-one (texts.Ldterm l) = omega (arith, either-once f k low high, either-once f f (omega arith) (omega arith))
-    both-one (texts.Ptem p) = refl
-    both-one texts.Pckt = refl
-    both-one (texts.Own o) = refl
+    both-one m = pair m.queues
+      where
+        pair : (queues : Option QueuesText) → own_by f k queues ≡ own_by f f queues
+        pair None = refl
+        pair (Some q) = omega (arith, either-once f k low high, either-once f f (omega arith) (omega arith))
 
     pub own-both : (ms : List ModuleText) → sum_by (own_of f k) ms ≡ sum_by (own_of f f) ms
     own-both [] = refl
@@ -163,8 +151,8 @@ stacked-none s first shelf xs none reads writes there = subst (λ ys. AreStacked
 })
 
 module _ (ms : List ModuleText) (i : ℕ) (m : ModuleText) (at : m ≡ get_or ms i m) (within : i < length ms) where
-  pub few-next : EachOnce (names_now ms) → sum_by is_ldterm (take i ms) + is_ldterm m ≤ 1
-  few-next each = omega (arith, one-ldterm ms each, sum_by_more_le is_ldterm ms i m within, ap is_ldterm at)
+  pub few-next : EachOnce (names_now ms) → sum_by has_pair (take i ms) + has_pair m ≤ 1
+  few-next each = omega (arith, one-pair ms each, sum_by_more_le has_pair ms i m within, ap has_pair at)
 
   pub room-next : (s t : StoreValue) → HasRoom s (sum_by module_blocks ms) → Spent s t (sum_by module_blocks (take i ms)) → HasRoom t (module_blocks m)
   room-next s t room spent = record {
@@ -179,31 +167,44 @@ module _ (ms : List ModuleText) (i : ℕ) (m : ModuleText) (at : m ≡ get_or ms
       subst (λ zs. AreStacked s u first (take (i + 1) ms) zs is) (sym pushed)
       (subst (λ ns. AreStacked s u first ns (xs ++ x ∷ []) is) (sym more) (stacked-next so_far placed (few-next each)))
 
--- ---- a module without queues
+-- ---- queues, or none
 
-pub placed-bare : (s : StoreValue) (first : ℕ) (shelf : Option Tables) (t : ModuleText) (x : AnyStanding) → module_in s x ≡ module_now t → IsHeld s x → ((i : ℕ) → keeps x i ≡ 0) → ((k : ℕ) → owns x k ≡ own_of first k t) → module_blocks t ≡ 0
-    → IsPlaced s s first shelf shelf t x
-placed-bare s first shelf t x is held rests own none = record {
-  state = is;
-  held = held;
-  rests = rests;
-  own = own;
-  stays = λ e. (refl, refl);
+pub placed-none : (s : StoreValue) (first : ℕ) (shelf : Option Tables) → ArePlaced s s first shelf shelf None None
+placed-none s first shelf = record {
+  state = refl;
+  ready = tt;
+  has = refl;
+  own = λ k. refl;
+  stays = λ none. (refl, refl);
   fills = record { others = λ k a b. refl; hand = refl; mblks = refl; dblks = refl };
-  spent = record { mblks = omega (arith, none); dblks = omega (arith, none) };
+  spent = record { mblks = omega arith; dblks = omega arith };
 }
 
--- ---- an ldterm
-
-pub placed-ldterm : (s t : StoreValue) (first : ℕ) (was is : Option Tables) (text : ModuleText) (l : LdtermText) (x : Ldterm) (pair : QueuePair) → text ≡ texts.Ldterm l → own_in t x ≡ own_now l → pair_in t pair ≡ pair_now l
-    → HasInHand t x (Some pair) → IsPairReady t pair → ((i : ℕ) → keeps_itself x i ≡ 0) → ((k : ℕ) → queues_own (Some pair) k ≡ once first k + once (first + 1) k) → FillsTwo s t first → Spent s t (ldterm_blocks l)
-    → IsPlaced s t first was is text (standing (kinds.Ldterm x) (Some pair))
-placed-ldterm s t first was is text l x pair e own_is pair_is held ready rests own fills spent = subst (λ m. IsPlaced s t first was is m (standing (kinds.Ldterm x) (Some pair))) (sym e) (record {
-  state = ap (λ part. stood (OfLdterm part) (Some (pair_in t pair))) own_is ∙ ap (λ queues. stood (OfLdterm (own_now l)) (Some queues)) pair_is;
-  held = record { queues = ready; itself = held };
-  rests = rests;
+pub placed-pair : (s t : StoreValue) (first : ℕ) (was is : Option Tables) (text : QueuesText) (pair : QueuePair) → pair_in t pair ≡ pair_now text
+    → IsPairReady t pair → ((k : ℕ) → queues_own (Some pair) k ≡ once first k + once (first + 1) k) → FillsTwo s t first → Spent s t (pair_blocks text)
+    → ArePlaced s t first was is (Some text) (Some pair)
+placed-pair s t first was is text pair pair_is ready own fills spent = record {
+  state = ap Some pair_is;
+  ready = ready;
+  has = refl;
   own = own;
   stays = λ none. absurd (omega (arith, none, own first, once-self first));
   fills = fills;
   spent = spent;
-})
+}
+
+-- ---- a module with them
+
+pub placed-module : (s t : StoreValue) (first : ℕ) (was is : Option Tables) (text : ModuleText) (x : AnyModule) (queues : Option QueuePair)
+    → IsModuleText text → kind_in t x ≡ kind_now text.kind
+    → ((queues : Option QueuePair) → is_some queues ≡ have_queues (kind_name (kind_now text.kind)) → IsKindHeld t x queues)
+    → ((i : ℕ) → kind_keeps x i ≡ 0) → ArePlaced s t first was is text.queues queues → IsPlaced s t first was is text (standing x queues)
+placed-module s t first was is text x queues good kind fits rests placed = record {
+  state = ap (λ part. stood part (queues_in t queues)) kind ∙ ap (λ own. stood (kind_now text.kind) own) placed.state;
+  held = record { queues = placed.ready; itself = fits queues (placed.has ∙ good.has) };
+  rests = rests;
+  own = placed.own;
+  stays = placed.stays;
+  fills = placed.fills;
+  spent = placed.spent;
+}

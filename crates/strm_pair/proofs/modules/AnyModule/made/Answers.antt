@@ -4,13 +4,8 @@ use Rattle.strm_pair.specs.Prelude.{OfLdterm, OfOwn, OfPtem, StoreValue, QueuePa
 use Rattle.strm_types.specs.declared.names.ModuleName.TheVariants as names
 use Rattle.strm_types.specs.Owns.{Own}
 use Rattle.strm_laws.specs.Behaviours.{fresh_own}
-use Rattle.strm_ldterm.specs.declared.ldterm.Ldterm.{Ldterm}
-use Rattle.strm_pair.proofs.MadeModules.{none-are}
+use Rattle.strm_pair.proofs.MadeModules.{ldterm-fits, none-are}
 use Rattle.strm_pair.proofs.modules.AnyModule.made.Goals as goal
-
-ldterm-fits : (s : StoreValue) (x : Ldterm) (queues : Option QueuePair) → is_some queues ≡ true → ((pair : QueuePair) → HasInHand s x (Some pair)) → HasInHand s x queues
-ldterm-fits s x None has held = absurd (false≢true has)
-ldterm-fits s x (Some pair) has held = held pair
 
 pub returns-in-Ldterm : goal.returns-in-Ldterm
 returns-in-Ldterm g c = rw c.in-Ldterm.is (record {

@@ -1,5 +1,10 @@
-use Rattle.strm_pair.proofs.NotesDone.{noted-more}
+use Rattle.strm_pair.proofs.NotesDone.{noted-front, noted-more, noted-rest}
 use Rattle.strm_pair.proofs.streams.Streams.+note_each.Goals as goal
+
+pub note_one-requires : goal.note_one-requires
+note_one-requires t c =
+    let s = c.requires.few.0 in
+    record { few = (s, noted-front s c.args.side c.args.place c.args.at c.in-Some.first.now c.in-Some.rest.now c.args.notes.now c.args.self.now c.in-Some.ensures.cases.0 c.requires.few.1) }
 
 pub returns : goal.returns
 returns t c = λ s.

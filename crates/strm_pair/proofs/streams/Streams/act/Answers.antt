@@ -1,12 +1,13 @@
 -- What was made is told, and fits the books.
 use Rattle.strm_pair.proofs.Prelude.{◌<◌, ◌-◌, length, map, sym, ap, ◌∙◌, arith, slice_index_or, None, serve-names}
-use Rattle.strm_pair.specs.Prelude.{MasterToSlave, SlaveToMaster, tallied, places_of, plain, earlier_at, noted, module_name, called}
+use Rattle.strm_pair.specs.Prelude.{MasterToSlave, SlaveToMaster, tallied, places_of, plain, earlier_at, noted, module_name, called, stands_of}
 use Rattle.strm_laws.specs.State as state
 use Rattle.strm_pair.specs.declared.ends.StreamEnd.{StreamEnd}
 use Rattle.strm_pair.specs.declared.service_calls.Made.{Made}
 use Rattle.strm_pair.specs.declared.streams.Streams.{Streams}
 use Rattle.strm_pair.specs.ModuleServed.{between, call_of, stop_in, with_more}
 use Rattle.strm_pair.specs.Pairs.{end_at, state_in}
+use Rattle.strm_pair.proofs.Enabling.{noted-few, place-noted, stands-stack}
 use Rattle.strm_pair.proofs.NearestStays.{before-stays}
 use Rattle.strm_pair.proofs.ServeSteps.{acts-by, made-fits, master-between, slave-between, tells-by, within-any}
 use Rattle.strm_pair.proofs.Sides.{modules-are}
@@ -21,6 +22,27 @@ place_at-place-requires-clause-within g c = λ s.
     let same = ap length (modules-are s p here.side) in
     let there = ap (λ (e : StreamEnd). length (modules_in s e.stack)) c.end.ensures.end in
     omega (arith, low, same, there)
+
+-- what it says of its queues is there
+pub note-requires : goal.note-requires
+note-requires g c =
+    let K = g.M.Behaves.does in
+    let s = g.B.Blocks.value c.args.store.now in
+    let t = g.B.Blocks.value c.serve_at-served.new.store in
+    let p = c.args.self.now in
+    let y = c.serve_at-served.new.self in
+    let here = c.args.here in
+    let e = c.serve_at-served.ensures in
+    let notes = c.as_slice.result.now in
+    let names = ap (λ ls. map module_name ls) e.serves.state
+    ∙ serve-names K plain here 0 c.args.again (stop_in (call_of c.serve_at-served.result)) (here.at - 1) (modules_in s (end_at here.side p).stack) in
+    let same = ap (λ (z : Streams). stands_of (state_in t z)) e.streams
+    ∙ stands-stack s t p here.side (record (end_at here.side p) { stack = (end_at here.side y).stack }) names in
+    let place_is = c.place_at-place.ensures s ∙ ap (λ (on : state.Stream _). slice_index_or (places_of on.modules) (here.at - 1) None) (c.end.ensures.stream s) in
+    let fine = place-noted s p here.side c.place_at-place.result (here.at - 1) notes place_is in
+    record {
+      few = (t, noted-few s t p y here.side c.place_at-place.result here.at notes c.requires.may.enabled same (ap (λ (z : Streams). z.enabled) e.streams) fine);
+    }
 
 pub book_made-requires-clause-master : goal.book_made-requires-clause-master
 book_made-requires-clause-master g c =

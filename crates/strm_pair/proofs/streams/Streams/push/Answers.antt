@@ -1,10 +1,13 @@
 -- The head is told its mode, the module stands there, and what waits before it may come.
-use Rattle.strm_pair.proofs.Prelude.{ℕ, ◌≡◌, ◌∷◌, ap, sym, subst, ◌∙◌, Option, Some, IfSome}
-use Rattle.strm_pair.specs.Prelude.{Carried, tallied, may_stand, mode_put, named_by, with_modules, have_queues, State, stream}
+use Rattle.strm_pair.proofs.Prelude.{ℕ, ◌≡◌, ◌∷◌, ap, refl, sym, subst, ◌∙◌, Option, Some, IfSome}
+use Rattle.strm_pair.specs.Prelude.{Carried, driver_of, other, tallied, may_stand, mode_put, named_by, with_modules, have_queues, State, stream}
 use Rattle.strm_pair.specs.declared.streams.Streams.{Streams}
 use Rattle.std.specs.List.{AllByRecursion}
 use Rattle.strm_pair.specs.AnyModules.{HasAsNamed, all-have}
 use Rattle.strm_pair.specs.Pairs.{end_at, state_in, AreHeld}
+use Rattle.strm_frame.specs.MayEnable.{MayEnable}
+use Rattle.strm_pair.specs.Enabling.{AreFewEnabled}
+use Rattle.strm_pair.proofs.Enabling.{mode-few, one-room}
 use Rattle.strm_pair.proofs.Sides.{modules-are}
 use Rattle.strm_pair.proofs.ModulePushed.{made-named}
 use Rattle.strm_pair.proofs.Modes.{driver_comes, modules-stay, pushed-is}
@@ -18,6 +21,22 @@ put_on-requires-clause-may_stand g c =
     ap (λ ms. may_stand (named_by K (Some c.in-Some.name)) ms)
     (ap (λ (x : State ℕ). (stream c.args.side x).modules) c.put_mode.ensures.state ∙ modules-stay c.args.side c.mode_on_push.result s)
     ∙ named
+
+pub come_from_driver-requires : goal.come_from_driver-requires
+come_from_driver-requires g c =
+    let K = g.M.Behaves.does in
+    let s = state_in (g.B.Blocks.value c.args.store.now) c.args.self.now in
+    let t = g.B.Blocks.value c.put_mode.new.store in
+    let u = state_in t c.put_mode.new.self in
+    let may = ap (λ (o : Option _). may_stand (named_by K o) (stream c.args.side s).modules) (sym c.in-Some.is) ∙ c.requires.may_stand in
+    let new = made-named K c.in-Some.name (stream c.args.side s).modules may in
+    let stands : state_in t c.put_on.new.self ≡ with_modules c.args.side (new.0 ∷ (stream c.args.side u).modules) u =
+    subst (λ o. IfSome o (λ p. state_in t c.put_on.new.self ≡ with_modules c.args.side (p ∷ (stream c.args.side u).modules) u)) new.1 c.put_on.ensures.state in
+    let few = subst AreFewEnabled (sym c.put_mode.ensures.state) (mode-few s c.requires.rests.enabled c.args.side c.mode_on_push.result) in
+    record {
+      room = subst (λ names. MayEnable names (driver_of (other c.args.side))) (sym (ap (λ (x : State ℕ). x.enabled) stands))
+          (one-room u few (driver_of (other c.args.side)) refl);
+    }
 
 pub returns-clause-leads : goal.returns-clause-leads
 returns-clause-leads g c =

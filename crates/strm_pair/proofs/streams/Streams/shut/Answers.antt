@@ -1,10 +1,12 @@
 -- What goes from the queues, one after the other, and then the side is closed.
-use Rattle.strm_pair.proofs.Prelude.{sym, subst}
-use Rattle.strm_pair.specs.Prelude.{Master, Slave, EndClosed, Side, head_emptied, of_all}
+use Rattle.strm_pair.proofs.Prelude.{ℕ, ◌≡◌, refl, sym, subst}
+use Rattle.strm_pair.specs.Prelude.{Master, Slave, EndClosed, Side, State, stream, head_emptied, of_all}
 use Rattle.strm_laws.specs.Closes.{and_then, closed_at, driver_emptied, ended, hung_up_at, stream_emptied}
 use Rattle.strm_laws.specs.Pushes.{modules_emptied}
 use Rattle.strm_pair.specs.Pairs.{state_in}
 use Rattle.strm_pair.specs.Effects.{Leads}
+use Rattle.strm_pair.specs.Enabling.{AreFewEnabled}
+use Rattle.strm_pair.proofs.Enabling.{all-few, driver-few, emptied-few}
 use Rattle.strm_pair.proofs.Idle.{emptied-idle}
 use Rattle.strm_pair.proofs.Leading.{leads-becoming, leads-quietly, leads-then, rests-behind}
 use Rattle.strm_pair.proofs.streams.Streams.shut.Goals as goal
@@ -15,6 +17,26 @@ clear_modules-requires g c =
     let st = state_in s c.args.self.now in
     let emptied = head_emptied EndClosed of_all c.args.side st in
     rests-behind s (g.B.Blocks.value c.clear_head.new.store) c.clear_head.new.self c.args.told.now c.clear_head.new.told emptied.state emptied.gone c.clear_head.ensures (emptied-idle c.args.side st c.requires.idle)
+    (emptied-few st c.requires.enabled c.args.side)
+
+-- what is enabled behind what went is there
+modules-few : (side : Side) (st u v : State ℕ) → AreFewEnabled st → u ≡ (head_emptied EndClosed of_all side st).state
+    → v ≡ (modules_emptied EndClosed side u).state → AreFewEnabled v
+modules-few side st u v e head modules =
+    subst AreFewEnabled (sym modules)
+    (all-few EndClosed side (stream side u).modules u refl (subst AreFewEnabled (sym head) (emptied-few st e side)))
+
+pub clear_driver-requires-clause-enabled : goal.clear_driver-requires-clause-enabled
+clear_driver-requires-clause-enabled g c =
+    let s = g.B.Blocks.value c.args.store.now in
+    modules-few c.args.side (state_in s c.args.self.now) _ _ c.requires.enabled c.clear_head.ensures.state c.clear_modules.ensures.state
+
+pub clear_driver-requires-in-Master-clause-enabled : goal.clear_driver-requires-in-Master-clause-enabled
+clear_driver-requires-in-Master-clause-enabled g c =
+    let s = g.B.Blocks.value c.args.store.now in
+    let u = state_in (g.B.Blocks.value c.clear_modules.new.store) c.clear_modules.new.self in
+    let few = modules-few c.args.side (state_in s c.args.self.now) _ u c.requires.enabled c.clear_head.ensures.state c.clear_modules.ensures.state in
+    subst AreFewEnabled (sym c.clear_driver.ensures.state) (driver-few u few Master)
 
 pub returns-in-Master-clause-leads : goal.returns-in-Master-clause-leads
 returns-in-Master-clause-leads g c =
