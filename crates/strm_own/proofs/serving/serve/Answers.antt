@@ -1,0 +1,21 @@
+-- Nothing stands there, or the first message is taken and put at the module.
+use Rattle.std.proofs.Common.{sym, ◌∙◌}
+use Rattle.strm_types.specs.Cells.{plain}
+use Rattle.strm_blocks.specs.Blocks.{token}
+use Rattle.strm_frame.specs.Queued.{TakesFirst, TakesNone}
+use Rattle.strm_laws.specs.Behaviours.{own_by}
+use Rattle.strm_own.proofs.Serving.{serves-first, serves-none}
+use Rattle.strm_own.proofs.serving.serve.Goals as goal
+
+pub returns-in_default : goal.returns-in_default
+returns-in_default g c =
+    let s = g.B.Blocks.value c.args.store.now in
+    let t = g.B.Blocks.value c.take.new.store in
+    let pair = c.args.pair.now in
+    let none : TakesNone s t pair c.take.new.self c.args.here.way = rw c.in_default.is at c.take.ensures in
+    let u = c.unserved in
+    serves-none (own_by g.M.Behaves.does plain) s t c.args.own.now pair c.take.new.self c.args.here u.result c.args.told.now c.requires.has none
+    u.ensures.notes u.ensures.sent u.ensures.bytes u.ensures.stopped u.ensures.again
+
+pub returns : goal.returns
+returns g c = ?
