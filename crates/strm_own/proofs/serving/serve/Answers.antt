@@ -1,5 +1,5 @@
 -- Nothing stands there, or the first message is taken and put at the module.
-use Rattle.std.proofs.Common.{sym, ◌∙◌}
+use Rattle.std.proofs.Common.{false, refl}
 use Rattle.strm_types.specs.Cells.{plain}
 use Rattle.strm_blocks.specs.Blocks.{token}
 use Rattle.strm_frame.specs.Queued.{TakesFirst, TakesNone}
@@ -18,4 +18,17 @@ returns-in_default g c =
     u.ensures.notes u.ensures.sent u.ensures.bytes u.ensures.stopped u.ensures.again
 
 pub returns : goal.returns
-returns g c = ?
+returns g c =
+    let K = g.M.Behaves.does in
+    let s = g.B.Blocks.value c.args.store.now in
+    let t = g.B.Blocks.value c.take.new.store in
+    let u = g.B.Blocks.value c.put_alone-acts.new.store in
+    let pair = c.args.pair.now in
+    let i = token c.in-Some.message in
+    let first : TakesFirst s t pair c.take.new.self c.args.here.way i = rw c.in-Some.is at c.take.ensures in
+    let before = c.both_ask-before in
+    let a = c.put_alone-acts in
+    serves-first K s t u c.args.own.now a.new.own pair c.take.new.self c.args.here i a.result
+    (record { acts = c.wake.result; bytes = c.message_size-bytes.result; stopped = false; again = false }) c.args.told.now a.new.told c.audit.ensures
+    c.requires.has first a.ensures.notes a.ensures.did before.result.read before.result.write before.ensures.read before.ensures.write c.requires.room
+    c.wake.ensures.sent c.wake.ensures.notes c.message_size-bytes.ensures refl refl
