@@ -2,7 +2,7 @@
 use Rattle.strm_own.proofs.Prelude.{ℕ, ◌≡◌, ◌≤◌, Bool, false, true, List, [], ◌++◌, refl, sym, ap, subst, ◌∙◌, arith, Some}
 use Rattle.std.specs.Bool.{OnTrue}
 use Rattle.std.specs.Prelude.{sum_by}
-use Rattle.strm_own.specs.Prelude.{StoreValue, IsStore, QueuePair, Own, Fates, Acted, Message, Spot, Way, Up, Down, HasRoom, sent_of}
+use Rattle.strm_own.specs.Prelude.{StoreValue, IsInHand, IsStore, QueuePair, Own, Fates, Acted, Message, Spot, Way, Up, Down, HasRoom, sent_of}
 use Rattle.strm_own.specs.Prelude.{message_in, times_sent, parcels_in, AreChains}
 use Rattle.strm_types.specs.declared.spots.Asks.{Asks}
 use Rattle.strm_types.specs.Budgets.{cost_of, emits_at, most, next_at, own_at}
@@ -23,7 +23,7 @@ use Rattle.strm_frame.specs.Hands.{Handles}
 use Rattle.strm_frame.specs.Queued.{TakesFirst, TakesNone}
 use Rattle.strm_frame.specs.Serves.{later_cost}
 use Rattle.strm_frame.specs.Standings.{pair_in, queues_own}
-use Rattle.strm_frame.proofs.Handing.{no-parts, no-room, none-chains, none-hands, still-hands}
+use Rattle.strm_frame.proofs.Handing.{no-parts, no-room, none-chains, none-hands, once-self, still-hands}
 use Rattle.strm_frame.proofs.Letting.{own-on}
 use Rattle.strm_frame.proofs.WidePools.{frees-spends, room-left}
 use Rattle.strm_own.specs.OwnPuts.{OwnPuts}
@@ -43,6 +43,10 @@ emits-few here way shape = omega (arith, most-few (next_at here (way, shape)))
 
 never : (b : Bool) (P : Type 0) → b ≡ false → OnTrue b P
 never b P is = subst (λ v. OnTrue v P) (sym is) tt
+
+-- what was taken is in hand
+pub taken-in-hand : (s t : StoreValue) (pair pair' : QueuePair) (way : Way) (i : ℕ) → IsStore t → TakesFirst s t pair pair' way i → IsInHand t i
+taken-in-hand s t pair pair' way i st taken = let c = taken.hands.counts i in let o = once-self i in let few = st.apart i in omega arith
 
 -- nothing stands there, and nothing is done
 module _ (own : OwnActs ℕ) (s t : StoreValue) (x : Own) (pair pair' : QueuePair) (here : Spot) (served : Served) (f : Fates) where
