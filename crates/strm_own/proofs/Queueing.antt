@@ -9,11 +9,11 @@ use Rattle.strm_types.specs.Standings.{stood}
 use Rattle.strm_frame.specs.declared.modules.Acts.{Acts}
 use Rattle.strm_frame.specs.Queued.{PutsOn}
 use Rattle.strm_frame.specs.StandingLaws.{queues-ready, queues-same}
-use Rattle.strm_frame.specs.Standings.{IsPairReady, pair_in, queues_in}
+use Rattle.strm_frame.specs.Standings.{Fits, IsPairReady, pair_in, queues_in, standing}
 use Rattle.strm_frame.proofs.Handing.{no-parts, none-chains, none-hands}
 use Rattle.strm_frame.proofs.WidePools.{frees-spends}
 use Rattle.strm_own.specs.OwnPuts.{OwnPuts}
-use Rattle.strm_own.specs.Stands.{HasQueues, PutsThere}
+use Rattle.strm_own.specs.Stands.{HasQueues, IsHeld, PutsThere}
 
 pub note-few : (noted : Bool) (note : Note) → length (cond {A = List Note} noted (note ∷ []) []) ≤ 2
 note-few true note = omega arith
@@ -60,3 +60,10 @@ module _ (s t : StoreValue) (x y : Own) (queues : Option QueuePair) (i most : �
     blocks = λ holds. absurd (false≢true holds);
     pool = did.pool;
   }
+
+-- the queues that it has, and what holds of them
+pub held-pair : (s : StoreValue) (x : Own) (queues : Option QueuePair) (pair : QueuePair) → queues ≡ Some pair → Fits IsHeld s (standing x queues)
+    → IsPairReady s pair × HasQueues x (Some pair)
+held-pair s x queues pair is held =
+    let there = subst (λ q. Fits IsHeld s (standing x q)) is held in
+    (there.queues, there.itself)
