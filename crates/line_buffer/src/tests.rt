@@ -101,7 +101,7 @@ const ONE_MORE: [Step<'static>; 2] = [
         Event::Write { bytes: b"a" },
         Ok(Answer::Count(1)),
     ),
-    (Side::Master, READ, Ok(Answer::Bytes(128))),
+    (Side::Master, READ, Ok(Answer::Bytes(127))),
 ];
 
 const ASKS: [Step<'static>; 3] = [
@@ -160,7 +160,7 @@ const SCENES: [Scene<'static>; 6] = [
         then: &TYPED,
     },
     Scene {
-        title: "128 bytes need no line's end",
+        title: "where 128 bytes stand the first message needs no line's end",
         first: &MANY,
         then: &ONE_MORE,
     },

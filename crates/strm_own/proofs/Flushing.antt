@@ -1,5 +1,5 @@
 -- An M_FLUSH is obeyed, at the read queue and then at the write queue, and goes on.
-use Rattle.strm_own.proofs.Prelude.{ℕ, ◌≡◌, Bool, true, false, cond, List, [], ◌∷◌, ◌++◌, refl, sym, ap, subst, ◌∙◌, arith, false≢true, Some}
+use Rattle.strm_own.proofs.Prelude.{ℕ, ◌≡◌, ◌≤◌, Bool, true, false, cond, List, [], ◌∷◌, ◌++◌, refl, sym, ap, subst, ◌∙◌, arith, length, false≢true, Option, Some}
 use Rattle.strm_own.specs.Prelude.{StoreValue, QueuePair, Own, Fates, Acted, Message, Spot, Way, Up, Down, sent_of, message_in, message_of, onward, tallied}
 use Rattle.strm_own.specs.Prelude.{in_hand, times_in, times_sent}
 use Rattle.strm_types.specs.declared.flushing.FlushAsked.{FlushAsked}
@@ -9,18 +9,18 @@ use Rattle.strm_types.specs.declared.kinds.MsgKind.TheVariants as kinds
 use Rattle.strm_types.specs.declared.spots.Note.{Note}
 use Rattle.strm_types.specs.declared.spots.Note.TheVariants.{Room}
 use Rattle.strm_types.specs.Flush.{is_data_kind}
-use Rattle.strm_types.specs.Flushing.{asked_by, is_flush}
-use Rattle.strm_types.specs.OwnStands.{pair_flushed, way_flushed}
+use Rattle.strm_types.specs.Flushing.{is_flush}
+use Rattle.strm_types.specs.OwnStands.{way_flushed}
 use Rattle.strm_types.specs.Standings as plain
 use Rattle.strm_laws.specs.Behaviours.{passes_all}
 use Rattle.strm_frame.specs.declared.modules.Acts.{Acts}
 use Rattle.strm_frame.specs.Hands.{Hands}
-use Rattle.strm_frame.specs.Standings.{IsPairReady, pair_in}
+use Rattle.strm_frame.specs.Standings.{IsPairReady, pair_in, queues_own}
 use Rattle.strm_frame.proofs.Letting.{frees-on, hand-on, own-on}
 use Rattle.strm_frame.proofs.Turns.{tallied-append}
 use Rattle.strm_frame.proofs.WidePools.{frees-spends}
-use Rattle.strm_frame.specs.Standings.{queues_own}
-use Rattle.std.specs.Prelude.{Option}
+use Rattle.strm_msg.specs.Messages.{IsChain}
+use Rattle.strm_pty.specs.Beside.{MayPass}
 use Rattle.strm_own.specs.Flushed.{Flushes}
 use Rattle.strm_own.specs.OwnPuts.{OwnPuts}
 use Rattle.strm_own.specs.Stands.{HasQueues, PutsThere}
@@ -30,6 +30,25 @@ pub flush-plain : (kind : MsgKind) → is_flush kind ≡ true → is_data_kind k
 unfolding is_data_kind
 flush-plain kinds.Flush is = refl
 flush-plain _ is = absurd (cc)
+
+-- an M_FLUSH that asks for this
+abbrev pub flushed_by : FlushAsked → Spot → Message ℕ → Own → plain.QueuePair ℕ → Acted ℕ (plain.Standing Own ℕ)
+flushed_by flush here m o pair =
+    let above = way_flushed here flush.band flush.for_read Up pair in
+    let below = way_flushed here flush.band flush.for_write Down above.state in
+    record {
+      state = plain.stood o (Some below.state);
+      notes = above.notes ++ below.notes;
+      sent = onward here.way here m ∷ [];
+      gone = above.gone ++ below.gone;
+    }
+
+-- few queues have room again
+pub rooms-few : (up down : Bool) → length (cond {A = List Note} up (Room Up ∷ []) [] ++ cond {A = List Note} down (Room Down ∷ []) []) ≤ 2
+rooms-few true true = omega arith
+rooms-few true false = omega arith
+rooms-few false true = omega arith
+rooms-few false false = omega arith
 
 -- nothing was asked of the queue of a way
 pub flush-none : (s : StoreValue) (pair : QueuePair) (way : Way) (here : Spot) (band : Option Band) (f : Fates) → IsPairReady s pair
@@ -59,6 +78,14 @@ module _ (s t u : StoreValue) (x y z : QueuePair) (here : Spot) (band : Option B
 
   same-chain : (i : ℕ) → in_hand u i ≡ in_hand s i
   same-chain i = ap (λ h. in_hand (record s { hand = h }) i) same-hand
+
+  pub passes-may : (i : ℕ) → MayPass s i here → MayPass u i here
+  passes-may i may = record {
+    held = ap (times_in i) same-hand ∙ may.held;
+    chain = subst IsChain (sym (same-chain i)) may.chain;
+    inside = may.inside;
+    small = may.small;
+  }
 
   passes-hands : (i : ℕ) (sent : ℕ → ℕ) → Hands u u i (λ _. 0) (λ _. 0) sent → Hands s u i (λ _. 0) (λ _. 0) sent
   passes-hands i sent h = record {

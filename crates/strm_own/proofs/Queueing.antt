@@ -1,22 +1,25 @@
 -- A message waits on the queue of its way, and one goes on at once: what that is where the module stands.
-use Rattle.strm_own.proofs.Prelude.{ℕ, ◌≡◌, cond, List, [], ◌∷◌, refl, sym, ap, subst, ◌∙◌, arith, false≢true, IfSome, Option, Some}
+use Rattle.strm_own.proofs.Prelude.{ℕ, ◌≡◌, ◌≤◌, Bool, true, false, cond, List, [], ◌∷◌, length, refl, sym, ap, subst, ◌∙◌, arith, false≢true, IfSome, Option, Some}
 use Rattle.strm_own.specs.Prelude.{StoreValue, QueuePair, Own, Fates, Acted, Way, sent_of, message_in, list_at}
 use Rattle.strm_types.specs.declared.spots.Note.{Note}
 use Rattle.strm_types.specs.declared.spots.Note.TheVariants.{Enable}
 use Rattle.strm_types.specs.OwnStands.{own_queued}
 use Rattle.strm_types.specs.Service.{acts_alone}
 use Rattle.strm_types.specs.Standings.{stood}
-use Rattle.strm_blocks.specs.Blocks.{list_at}
 use Rattle.strm_frame.specs.declared.modules.Acts.{Acts}
 use Rattle.strm_frame.specs.Queued.{PutsOn}
 use Rattle.strm_frame.specs.StandingLaws.{queues-ready, queues-same}
-use Rattle.strm_frame.specs.Standings.{IsPairReady, pair_in, queues_in}
+use Rattle.strm_frame.specs.Standings.{Fits, IsPairReady, pair_in, queues_in, standing}
 use Rattle.strm_frame.proofs.Handing.{no-parts, none-chains, none-hands}
 use Rattle.strm_frame.proofs.WidePools.{frees-spends}
 use Rattle.strm_own.specs.OwnPuts.{OwnPuts}
-use Rattle.strm_own.specs.Stands.{HasQueues, PutsThere}
+use Rattle.strm_own.specs.Stands.{HasQueues, IsHeld, PutsThere}
 
-pub waits : (s t : StoreValue) (pair pair' : QueuePair) (way : Way) (i : ℕ) (enables : _) (acts : Acts) (o : Own) (f : Fates) (most : ℕ)
+pub note-few : (noted : Bool) (note : Note) → length (cond {A = List Note} noted (note ∷ []) []) ≤ 2
+note-few true note = omega arith
+note-few false note = omega arith
+
+pub waits : (s t : StoreValue) (pair pair' : QueuePair) (way : Way) (i : ℕ) (enables : Bool) (acts : Acts) (o : Own) (f : Fates) (most : ℕ)
     → HasQueues o (Some pair) → PutsOn s t pair pair' way i enables → sent_of acts.sent ≡ [] → acts.notes.items ≡ cond {A = List Note} enables (Enable way ∷ []) []
     → PutsThere s t o (Some pair) o (Some pair') i most acts f f (own_queued way (message_in s i) o (pair_in s pair))
 waits s t pair pair' way i enables acts o f most has put none noted = record {
@@ -57,3 +60,10 @@ module _ (s t : StoreValue) (x y : Own) (queues : Option QueuePair) (i most : �
     blocks = λ holds. absurd (false≢true holds);
     pool = did.pool;
   }
+
+-- the queues that it has, and what holds of them
+pub held-pair : (s : StoreValue) (x : Own) (queues : Option QueuePair) (pair : QueuePair) → queues ≡ Some pair → Fits IsHeld s (standing x queues)
+    → IsPairReady s pair × HasQueues x (Some pair)
+held-pair s x queues pair is held =
+    let there = subst (λ q. Fits IsHeld s (standing x q)) is held in
+    (there.queues, there.itself)

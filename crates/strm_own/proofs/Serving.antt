@@ -1,14 +1,14 @@
 -- The first message of a queue is taken, and the module does with it what it does with one that comes.
-use Rattle.strm_own.proofs.Prelude.{ℕ, ◌≡◌, ◌≤◌, Bool, false, true, List, [], ◌++◌, refl, sym, ap, subst, ◌∙◌, arith, Some}
+use Rattle.strm_own.proofs.Prelude.{ℕ, ◌≡◌, ◌≤◌, Bool, false, true, List, [], ◌++◌, refl, sym, ap, subst, ◌∙◌, arith, None, Some}
 use Rattle.std.specs.Bool.{OnTrue}
 use Rattle.std.specs.Prelude.{sum_by}
-use Rattle.strm_own.specs.Prelude.{StoreValue, IsStore, QueuePair, Own, Fates, Acted, Message, Spot, Way, Up, Down, HasRoom, sent_of}
+use Rattle.strm_own.specs.Prelude.{StoreValue, IsInHand, IsStore, QueuePair, Own, Fates, Acted, Message, Spot, Way, Up, Down, HasRoom, sent_of}
 use Rattle.strm_own.specs.Prelude.{message_in, times_sent, parcels_in, AreChains}
 use Rattle.strm_types.specs.declared.spots.Asks.{Asks}
 use Rattle.strm_types.specs.Budgets.{cost_of, emits_at, most, next_at, own_at}
 use Rattle.strm_types.specs.Cells.{plain}
 use Rattle.strm_types.specs.Message.{size_of}
-use Rattle.strm_types.specs.OwnStands.{OwnActs, own_asked, own_asks, own_served}
+use Rattle.strm_types.specs.OwnStands.{OwnActs, own_asked, own_asks, own_served, own_serves}
 use Rattle.strm_types.specs.Queue.{left_with}
 use Rattle.strm_types.specs.Service.{acts_alone}
 use Rattle.strm_types.specs.Shapes.{Asking, Shape, shape_of}
@@ -22,12 +22,12 @@ use Rattle.strm_frame.specs.declared.service.Served.{Served}
 use Rattle.strm_frame.specs.Hands.{Handles}
 use Rattle.strm_frame.specs.Queued.{TakesFirst, TakesNone}
 use Rattle.strm_frame.specs.Serves.{later_cost}
-use Rattle.strm_frame.specs.Standings.{pair_in, queues_own}
-use Rattle.strm_frame.proofs.Handing.{no-parts, no-room, none-chains, none-hands, still-hands}
+use Rattle.strm_frame.specs.Standings.{Fits, pair_in, queues_own, standing}
+use Rattle.strm_frame.proofs.Handing.{no-parts, no-room, none-chains, none-hands, once-self, still-hands}
 use Rattle.strm_frame.proofs.Letting.{own-on}
 use Rattle.strm_frame.proofs.WidePools.{frees-spends, room-left}
 use Rattle.strm_own.specs.OwnPuts.{OwnPuts}
-use Rattle.strm_own.specs.Stands.{HasQueues, PutsThere, ServesThere, turn_room}
+use Rattle.strm_own.specs.Stands.{HasQueues, IsHeld, PutsThere, ServesThere, turn_room}
 use Rattle.strm_own.proofs.Queueing.{puts-alone}
 use Rattle.strm_own.proofs.Waking.{notes-woken, notes_anew}
 
@@ -43,6 +43,10 @@ emits-few here way shape = omega (arith, most-few (next_at here (way, shape)))
 
 never : (b : Bool) (P : Type 0) → b ≡ false → OnTrue b P
 never b P is = subst (λ v. OnTrue v P) (sym is) tt
+
+-- what was taken is in hand
+pub taken-in-hand : (s t : StoreValue) (pair pair' : QueuePair) (way : Way) (i : ℕ) → IsStore t → TakesFirst s t pair pair' way i → IsInHand t i
+taken-in-hand s t pair pair' way i st taken = let c = taken.hands.counts i in let o = once-self i in let few = st.apart i in omega arith
 
 -- nothing stands there, and nothing is done
 module _ (own : OwnActs ℕ) (s t : StoreValue) (x : Own) (pair pair' : QueuePair) (here : Spot) (served : Served) (f : Fates) where
@@ -152,3 +156,27 @@ module _ (K : Behaviour) (s t u : StoreValue) (x y : Own) (pair pair' : QueuePai
             (subst (λ b. HasRoom u (later_cost b turn_room (parcels_in u (sent_of acts.sent)))) (sym again) (room-on room));
         pool = record { mblks = did.pool.mblks ∙ taken.pool.mblks; dblks = did.pool.dblks ∙ taken.pool.dblks };
       })
+
+-- without queues nothing is done
+pub serves-bare : (s : StoreValue) (x : Own) (here : Spot) (served : Served) (f : Fates) (own : OwnActs ℕ) → Fits IsHeld s (standing x None)
+    → served.acts.notes.items ≡ [] → sent_of served.acts.sent ≡ [] → served.bytes ≡ 0 → served.stopped ≡ false → served.again ≡ false
+    → ServesThere s s x None x None served f f (own_serves own here (stands.stood x None))
+serves-bare s x here served f own held notes sent bytes stopped again = record {
+  state = refl;
+  notes = notes;
+  sent = no-parts s (sent_of served.acts.sent) sent;
+  told = refl;
+  bytes = bytes;
+  again = again;
+  stopped = never served.stopped _ stopped;
+  stops = never served.stopped _ stopped;
+  some = never served.stopped _ stopped;
+  made = omega arith;
+  held = held;
+  own = record { lists = λ k none. refl; owns_same = λ k. refl };
+  chains = none-chains s (sent_of served.acts.sent) sent;
+  hands = none-hands s s (λ _. 0) (λ _. 0) (λ _. 0) (sent_of served.acts.sent) sent (still-hands s (λ _. 0));
+  room = subst (λ b. HasRoom s (later_cost b turn_room (parcels_in s (sent_of served.acts.sent)))) (sym again)
+      (no-room s turn_room (sent_of served.acts.sent) sent);
+  pool = record { mblks = refl; dblks = refl };
+}
