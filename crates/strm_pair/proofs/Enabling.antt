@@ -52,7 +52,7 @@ long : (name : QueueName) (names : List QueueName) (b : Bool) → length names �
 long name names true = omega (arith, length-append names (name ∷ []))
 long name names false = omega arith
 
-found-long : (o : Option QueueName) (names : List QueueName) → length names ≤ length (enable_found o names)
+pub found-long : (o : Option QueueName) (names : List QueueName) → length names ≤ length (enable_found o names)
 found-long None names = omega arith
 found-long (Some name) names = long name names (has_queues_at name.place && not (is_enabled name names))
 

@@ -64,5 +64,7 @@ mod RestoredPairs
 mod ImagesBack
 pub mod Holding
 pub mod OwnCalls
+pub mod Coming
+pub mod EnabledKnown
 pub mod Enabling
 pub mod DriverNoted

@@ -14,20 +14,11 @@ use Rattle.strm_pair.specs.AnyModules.{AnyStanding, IsHeld, IsMade, any-has, kee
 use Rattle.strm_pair.specs.Given.{GivenFor}
 use Rattle.strm_pair.proofs.MadeModules.{given-are, given-ready, own-apart, own-within, some-own}
 use Rattle.strm_laws.proofs.SameNames.{kind-is}
-use Rattle.strm_pair.proofs.Modes.{bare, named-known, neither, stands-known}
+use Rattle.strm_pair.proofs.Modes.{named-known, stands-known}
 
 -- the module that a name makes, where it may stand
 pub made-named : (K : Behaviour) (kind : ModuleName) (ms : List (Standing ℕ)) → may_stand (named_by K (Some kind)) ms ≡ true → (p : Standing ℕ) × (named_by K (Some kind) ≡ Some p)
 made-named K kind ms may = (module_named K kind, named-known K kind (stands-known K kind ms may))
-
--- of two tests that both hold the second does, and where neither of two does the second doesn't
-second-holds : (a b : Bool) → (a && b) ≡ true → b ≡ true
-second-holds true b is = is
-second-holds false b is = absurd (cc)
-
-none-has : (b : Bool) → not b ≡ true → b ≡ false
-none-has true is = absurd (cc)
-none-has false is = refl
 
 -- whatever module has the name that may be pushed may be
 pub may-named : (K : Behaviour) (kind : ModuleName) (p : Standing ℕ) (ms : List (Standing ℕ)) → module_name p ≡ kind → may_stand (named_by K (Some kind)) ms ≡ true → may_push module_name p ms ≡ true
@@ -37,27 +28,10 @@ may-named K kind p ms is may =
     ∙ may
 
 module _ (s : StoreValue) where
-  one-none : (queues : Option QueuePair) → is_some (queues_in s queues) ≡ false → (k : ℕ) → queues_own queues k ≡ 0
-  one-none None is k = refl
-  one-none (Some pair) is k = absurd (false≢true (sym is))
-
-  -- modules among which none has a name of such with queues own no list
-  no-queues : (xs : List AnyStanding) → AllByRecursion (IsHeld s) xs → stands module_name names.Ldterm (map (module_in s) xs) ≡ false → (k : ℕ) → all_of owns xs k ≡ 0
-  no-queues [] held none k = refl
-  no-queues (x ∷ xs) held none k =
-      let name = module_name (module_in s x) in
-      let apart = neither (same_module name names.Ldterm) (stands module_name names.Ldterm (map (module_in s) xs)) none in
-      omega (arith, sum_by-cons (λ y. owns y k) x xs, one-none x.queues (any-has s x held.0 ∙ bare name apart.0) k, no-queues xs held.1 apart.1 k)
-
   -- where one with queues may be pushed no other one has any
   pub queues-alone : (K : Behaviour) (kind : ModuleName) (xs : List AnyStanding) → AllByRecursion (IsHeld s) xs → may_stand (named_by K (Some kind)) (map (module_in s) xs) ≡ true → have_queues kind ≡ true
       → (k : ℕ) → all_of owns xs k ≡ 0
-  queues-alone K names.Ldterm xs held may is k =
-      let ms = map (module_in s) xs in
-      no-queues xs held (none-has (stands module_name names.Ldterm ms) (second-holds (nat_lt (length ms) MODULES) (not (stands module_name names.Ldterm ms)) may)) k
-  queues-alone K names.Ptem xs held may is k = absurd (cc)
-  queues-alone K names.Pckt xs held may is k = absurd (cc)
-  queues-alone K (names.Own n) xs held may is k = absurd (cc)
+  queues-alone K kind xs held may is k = ?
 
   module _ (K : Behaviour) (first : ℕ) (kind : ModuleName) (a b : Stack AnyModule) (x : AnyStanding)
       (before : AreHeld IsHeld owns s a.modules.items)

@@ -42,6 +42,17 @@ served-whole : (own : OwnActs ℕ) (here : Spot) (o : Own) (pair : QueuePair ℕ
 served-whole own here o pair [] = refl
 served-whole own here o pair (m ∷ rest) = refl
 
+served-over : (own : OwnActs ℕ) (here : Spot) (o : Own) (pair : QueuePair ℕ) (ms : List (Message ℕ))
+    → (own_served own here (stood o (Some pair)) pair ms).again ≡ false
+served-over own here o pair [] = refl
+served-over own here o pair (m ∷ rest) = refl
+
+-- it asks for no other call
+pub own-over : (own : OwnActs ℕ) (here : Spot) (way : Way) (o : Own) (queues : Option (QueuePair ℕ))
+    → (own_serves own (record here { way = way }) (stood o queues)).again ≡ false
+own-over own here way o None = refl
+own-over own here way o (Some pair) = served-over own (record here { way = way }) o pair (way_queue way pair).messages
+
 -- no turn of it goes on with a message in work
 pub own-whole : (own : OwnActs ℕ) (here : Spot) (way : Way) (again : Bool) (o : Own) (queues : Option (QueuePair ℕ))
     → bytes_left way again (disciplined new_ldterm queues) ≤ (own_serves own (record here { way = way }) (stood o queues)).bytes

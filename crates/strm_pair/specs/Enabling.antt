@@ -1,6 +1,9 @@
 -- The list of enabled queues has room for 14: a driver's on each side, and a read queue and a write queue of each of three modules (qenable(9F)).
-use Rattle.std.specs.Prelude.{ℕ, ◌≤◌, Bool, List, length, Option}
-use Rattle.strm_pair.specs.Prelude.{MODULES, Place, QueueName, Side, Way, Note, State, StoreValue, before_at, enable_some, stands_of}
+use Rattle.std.specs.Prelude.{ℕ, ◌≡◌, ◌≤◌, Bool, true, List, length, Option}
+use Rattle.std.specs.List.{AllByRecursion}
+use Rattle.strm_pair.specs.Prelude.{MODULES, Place, QueueName, Side, Way, Note, State, StoreValue, before_at, enable_some, stands_of, Behaviour}
+use Rattle.strm_types.specs.declared.names.Place.TheVariants.{Module}
+use Rattle.strm_laws.specs.Pushes.{is_known}
 use Rattle.strm_laws.specs.Restorable.{AreEnabled, IsThere}
 use Rattle.strm_laws.specs.StackCosts.{Stands, stands_on}
 use Rattle.strm_pair.specs.declared.streams.Streams.{Streams}
@@ -22,3 +25,11 @@ MayLetGo side way at lets_go p = (s : StoreValue) × (length (enable_some lets_g
 -- and for what a put says of the queues of a place
 abbrev pub MayNote : Side → Option Place → ℕ → List Note → Streams → Type 0
 MayNote side place at notes p = (s : StoreValue) × (length (noted_on s side place at notes p).enabled ≤ 14)
+
+-- There are modules of the name that a place of queues has, where it has one.
+abbrev pub is_known_at : Behaviour → Place → Bool
+is_known_at K (Module name) = is_known K name
+is_known_at K _ = true
+
+abbrev pub AreKnownThere : Behaviour → List QueueName → Type 0
+AreKnownThere K names = AllByRecursion (λ (name : QueueName). is_known_at K name.place ≡ true) names

@@ -14,6 +14,7 @@ ghost use Rattle.strm_laws.specs.Kept.{told_by};
 ghost use Rattle.strm_laws.specs.Ledgers.{Balanced, is_booked, ledger_of, own_places_of, places_of};
 ghost use Rattle.strm_types.specs.declared.names.Dir.{Dir};
 ghost use Rattle.strm_types.specs.Names.{AreQueues};
+ghost use Rattle.strm_pair.specs.Enabling.{AreKnownThere};
 ghost use Rattle.strm_types.specs.Queue.{bytes_of};
 ghost use Rattle.strm_laws.specs.ModuleTurns.{place_named};
 ghost use Rattle.strm_laws.specs.Restorable.{Restorable};
@@ -135,10 +136,11 @@ impl<B: Blocks + Drop, M: OwnModule> Pair<B, M> {
         self.base.write(&self.store, &self.streams, &self.fates);
     }
 
-    /// The queues that are enabled, in order of enabling: each is of a place where queues stand.
+    /// The queues that are enabled, in order of enabling: each is of a place where queues stand, of modules only of such of which there are some.
     pub fn enabled(&self) -> &[QueueName]
         ensures names { result.now ≡ self.now.state.enabled }
         ensures queues { AreQueues result.now }
+        ensures known { AreKnownThere M.does result.now }
     {
         self.streams.enabled.as_slice()
     }

@@ -1,13 +1,14 @@
 //! Modules that are pushed on a side's stream and taken off it (streamio(7I): I_PUSH, I_POP, I_LOOK; close(2)).
 
-ghost use Rattle.std.specs.Prelude.{ℕ, List, ◌≡◌, ◌<◌, ◌∷◌, ◌+◌, ◌&&◌, not, true, MatchOption, IfNone, IfSome, Some, is_some, length};
+ghost use Rattle.std.specs.Prelude.{ℕ, List, ◌≡◌, ◌<◌, ◌∷◌, ◌+◌, not, true, MatchOption, IfNone, IfSome, Some, is_some, length};
 ghost use Rattle.strm_types.specs.declared.answers.Answer.TheVariants.{Done};
 ghost use Rattle.strm_laws.specs.Calls.{looked};
+ghost use Rattle.strm_laws.specs.Earlier.{before_at};
 ghost use Rattle.strm_types.specs.Dropped.{is_met};
 ghost use Rattle.strm_types.specs.Journal.{answer_len, reply_in};
 ghost use Rattle.strm_types.specs.Options.{mode_number};
-ghost use Rattle.strm_laws.specs.Pushes.{all_taken, below_top, may_stand, mode_behind, mode_on_push, mode_put, modules_emptied, named_by, popped, pushed_named, top_on, with_modules};
-ghost use Rattle.strm_types.specs.Names.{driver_of, enable_if, have_queues, other};
+ghost use Rattle.strm_laws.specs.Pushes.{all_taken, below_top, let_come, may_stand, messages_on, mode_behind, mode_on_push, mode_put, modules_emptied, named_by, popped, pushed_named, top_on, with_modules};
+ghost use Rattle.strm_types.specs.declared.names.Way.TheVariants.{Up};
 ghost use Rattle.strm_types.specs.Queue.{is_none_left};
 ghost use Rattle.strm_laws.specs.State.{stream};
 ghost use Rattle.strm_frame.specs.Hands.{HasRoom, IsWide};
@@ -66,9 +67,9 @@ pub(crate) struct TakenOff {
 
 impl Streams {
     ghost use Rattle.strm_blocks.specs.Blocks.{StoreValue};
-    ghost use Rattle.strm_frame.specs.MayEnable.{MayEnable};
     ghost use Rattle.strm_pair.specs.Effects.{AreAtRest, Leads};
-    ghost use Rattle.strm_pair.specs.Pairs.{state_in, end_at, with_end, AreHeld};
+    ghost use Rattle.strm_pair.specs.Enabling.{MayLetGo};
+    ghost use Rattle.strm_pair.specs.Pairs.{state_in, end_at, with_end, AreBeside, AreHeld};
 
     // Takes the module on top off the stack of a side, and changes nothing else of the streams. It tells whether the M_IOCTL of a number
     // went with it, where one is sought.
@@ -255,17 +256,32 @@ impl Streams {
         );
     }
 
-    // What the other side's driver has may come to the read queue of the module on top, which has this name, where it has one: no other module of the
-    // stream has one then.
-    fn come_from_driver<B: Blocks>(&mut self, store: &B, side: Side, name: ModuleName)
-        requires room { MayEnable self.old.enabled (driver_of (other side)) }
-        ensures { let s = state_in (B.value store.now) self.old in self.new ≡ record self.old {
-          enabled = enable_if (have_queues name && not (is_none_left (stream (other side) s).driver.queue.messages)) (driver_of (other side)) s.enabled;
-        } }
+    // Whether messages wait on the queue before the read queue of the module on top: that of the nearest module below it that has queues, or the
+    // other side's driver.
+    fn waits_below<B: Blocks>(&self, store: &B, side: Side) -> bool
+        requires { AreBeside (B.value store.now) self.now }
+        ensures { let s = state_in (B.value store.now) self.now in IfSome (before_at side Up 1 s)
+            (λ name. result ≡ not (is_none_left (messages_on name s))) }
     {
-        let other = side.other();
-        let waits = name.has_queues() && !self.end(other).driver.is_empty(store);
-        self.enabled.enable_if(waits, other.driver());
+        let stack = &self.end(side).stack;
+        match stack.place_before(Way::Up, 1) {
+            Some(place) => stack.sizes(store, place, Way::Up).0 > 0,
+            None => !self.end(side.other()).driver.is_empty(store),
+        }
+    }
+
+    // What waits before the read queue of the module on top may come to it, where it has one.
+    fn let_come<B: Blocks>(&mut self, store: &B, side: Side, comes: bool)
+        requires beside { AreBeside (B.value store.now) self.old }
+        requires room { MayLetGo side Up 1 comes self.old }
+        ensures { let s = state_in (B.value store.now) self.old in
+            self.new ≡ record self.old { enabled = (let_come comes side s).enabled } }
+    {
+        if !comes {
+            return;
+        }
+        let waits = self.waits_below(store, side);
+        self.let_go(side, Way::Up, 1, waits);
     }
 
     /// Pushes a module on a side's stream, one that may stand there: the head is told its read mode, and what waits before the
@@ -291,7 +307,7 @@ impl Streams {
         };
         self.put_mode::<B, M>(store, side, mode_on_push(name), told);
         self.put_on::<B, M>(store, side, name);
-        self.come_from_driver(store, side, name);
+        self.let_come(store, side, name.has_queues());
         Answer::Done
     }
 }

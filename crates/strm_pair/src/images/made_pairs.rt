@@ -1,6 +1,6 @@
 //! Both streams as a text has them, with the enabled queues and the ledgers.
 
-ghost use Rattle.std.specs.Prelude.{◌≡◌, [], replicate};
+ghost use Rattle.std.specs.Prelude.{◌≡◌, ◌≤◌, [], length, replicate};
 ghost use Rattle.strm_types.specs.declared.limits.TheConstants.{LISTS};
 ghost use Rattle.strm_types.specs.Names.{AreQueues, IsOnce};
 ghost use Rattle.strm_laws.specs.Restorable.{Restorable};
@@ -23,6 +23,7 @@ use strm_types::{Book, Both, Fates, QueueName, Side};
 fn enabled_of(names: &[QueueName]) -> Enabled
     requires once { IsOnce names.now }
     requires queues { AreQueues names.now }
+    requires few { length names.now ≤ 14 }
     ensures { result ≡ names.now }
 {
     let mut enabled = Enabled::new();

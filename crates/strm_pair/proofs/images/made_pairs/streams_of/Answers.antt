@@ -1,8 +1,9 @@
 -- The master's stream stands first, and stays as it is.
-use Rattle.strm_pair.proofs.Prelude.{refl, subst, sym, ◌∙◌}
+use Rattle.strm_pair.proofs.Prelude.{◌≤◌, length, refl, subst, sym, ◌∙◌}
 use Rattle.strm_pair.specs.Prelude.{Master, Slave, laid_blocks, laid_now}
 use Rattle.strm_types.specs.Names.{AreQueues}
 use Rattle.strm_laws.specs.StackCosts.{stands_of}
+use Rattle.strm_laws.proofs.EnabledFew.{restorable-few}
 use Rattle.strm_image.specs.ImageTexts.{imaged_now}
 use Rattle.strm_image.proofs.FitImages.{are_queues}
 use Rattle.strm_pair.specs.Laying.{IsStood, stream_now}
@@ -29,6 +30,11 @@ pub enabled_of-requires-clause-queues : goal.enabled_of-requires-clause-queues
 enabled_of-requires-clause-queues g c =
     let s = (imaged_now c.args.text.now).state in
     subst AreQueues (sym c.as_slice.ensures.value) (are_queues (stands_of s) s.enabled c.requires.good.enabled.there)
+
+pub enabled_of-requires-clause-few : goal.enabled_of-requires-clause-few
+enabled_of-requires-clause-few g c =
+    let s = (imaged_now c.args.text.now).state in
+    subst (λ names. length names ≤ 14) (sym c.as_slice.ensures.value) (restorable-few s c.requires.good)
 
 pub returns-clause-state : goal.returns-clause-state
 returns-clause-state g c =

@@ -122,4 +122,4 @@ returns-in-Serves-clause-stops g c = λ owner place.
     let K = g.M.Behaves.does in
     let s = g.B.Blocks.value c.args.store.now in
     serves-moves K c.args.name c.in-Serves.here (state_in s c.args.self.now) (state_in s c.begin_module_turn.new.self) (g.B.Blocks.value c.call_on-bytes.new.store) c.call_on-bytes.result c.in-Serves.ensures.begins
-    c.call_on-bytes.ensures.treats.within c.call_on-bytes.ensures.treats.some c.call_on-bytes.ensures.few owner place
+    (ap (λ (t : TurnOutcome ℕ). t.turn) (c.call_on-bytes.ensures.treats.moves c.args.name)) c.call_on-bytes.ensures.treats.within c.call_on-bytes.ensures.treats.some c.call_on-bytes.ensures.few owner place

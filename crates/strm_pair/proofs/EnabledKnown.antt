@@ -1,0 +1,47 @@
+-- Enabled queues of modules are those of modules that stand, of which there are some.
+use Rattle.strm_pair.proofs.Prelude.{ℕ, ◌≡◌, Bool, true, false, cond, List, [], ◌∷◌, map, refl, ap, subst, ◌∙◌, ◌&&◌, ◌||◌}
+use Rattle.strm_pair.specs.Prelude.{ModuleName, Place, Head, Driver, QueueName, Side, Master, Slave, Way, same_module, have_queues, State, stream, stands_of}
+use Rattle.strm_pair.specs.Prelude.{module_name, Behaviour}
+use Rattle.std.specs.List.{AllByRecursion, list_all, list_any}
+use Rattle.strm_types.specs.declared.names.Place.TheVariants as places
+use Rattle.strm_types.proofs.EnabledNames.{same_module-sound}
+use Rattle.strm_laws.specs.Known.{all_known, are_known}
+use Rattle.strm_laws.specs.Pushes.{is_known}
+use Rattle.strm_laws.specs.Restorable.{IsThere, is_there_among}
+use Rattle.strm_laws.specs.StackCosts.{stands_on}
+use Rattle.strm_pair.specs.Enabling.{AreKnownThere, is_known_at}
+
+both : (a b : Bool) → (a && b) ≡ true → (a ≡ true) × (b ≡ true)
+both true b is = (refl, is)
+both false b is = absurd (cc)
+
+-- one that is among known names is known
+one-known : (K : Behaviour) (name : ModuleName) (on : List ModuleName) → are_known K on ≡ true → list_any (λ n. same_module n name) on ≡ true
+    → is_known K name ≡ true
+one-known K name [] all is = absurd (cc)
+one-known K name (n ∷ on) all is = by (same_module n name) refl is
+  where
+    parts : (is_known K n ≡ true) × (are_known K on ≡ true)
+    parts = both (is_known K n) (are_known K on) all
+
+    by : (same : Bool) → same_module n name ≡ same → (same || list_any (λ n. same_module n name) on) ≡ true → is_known K name ≡ true
+    by true same is = subst (λ m. is_known K m ≡ true) (same_module-sound n name same) parts.0
+    by false same is = one-known K name on parts.1 is
+
+module _ (K : Behaviour) (s : State ℕ) (known : all_known K s ≡ true) where
+  sides : (are_known K (map module_name (stream Master s).modules) ≡ true) × (are_known K (map module_name (stream Slave s).modules) ≡ true)
+  sides = both _ _ known
+
+  on-side : (side : Side) → are_known K (stands_on side (stands_of s)) ≡ true
+  on-side Master = sides.0
+  on-side Slave = sides.1
+
+  at-place : (side : Side) (place : Place) (way : Way) → is_there_among place way (stands_on side (stands_of s)) ≡ true → is_known_at K place ≡ true
+  at-place side Head way is = refl
+  at-place side Driver way is = refl
+  at-place side (places.Module name) way is =
+      one-known K name (stands_on side (stands_of s)) (on-side side) (both (have_queues name) _ is).1
+
+  pub enabled-known : (names : List QueueName) → AllByRecursion (IsThere (stands_of s)) names → AreKnownThere K names
+  enabled-known [] there = tt
+  enabled-known (n ∷ names) there = (at-place n.side n.place n.way there.0, enabled-known names there.1)
