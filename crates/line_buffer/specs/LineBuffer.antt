@@ -1,6 +1,6 @@
 -- A line buffer: what is written waits on its write queue until a line is whole, 128 bytes stand there, or an M_IOCTL waits behind it (setvbuf(3C):
 -- line buffered; STREAMS Programming Guide, "Message Queues", "Service Procedures").
-use Rattle.std.proofs.Common.{ℕ, ◌≡◌, ◌<◌, Bool, true, false, List, [], ◌∷◌, refl, arith}
+use Rattle.std.proofs.Common.{ℕ, ◌≡◌, Bool, true, false, List, [], refl, arith}
 use Rattle.std.proofs.lemmas.Bool.Decides.{nat_tests}
 use Rattle.std.specs.List.{list_any}
 use Rattle.std.specs.Prelude.{◌==◌, ◌&&◌, ◌||◌, nat_le}

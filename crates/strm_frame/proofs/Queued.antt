@@ -5,7 +5,6 @@ use Rattle.strm_frame.specs.Prelude.{Way, Up, Down, StoreValue, IsStore, IsInHan
 use Rattle.strm_frame.specs.Prelude.{FreesNone, queue_in, token}
 use Rattle.strm_blocks.specs.declared.in_hand.InHand.{InHand}
 use Rattle.strm_types.specs.Queue.{put_enables, put_on}
-use Rattle.strm_blocks.specs.Blocks.{held}
 use Rattle.strm_msg.proofs.Hands.{stays-chain}
 use Rattle.strm_queue.specs.Stored.{NoneTaken}
 use Rattle.strm_frame.specs.declared.queue_pair.QueuePair.{QueuePair}

@@ -22,7 +22,7 @@ module _ (own : OwnActs ℕ) (way : Way) (o : Own) (s : StoreValue) (k : ℕ) (p
   -- of high priority
   pub asks-high : is_high_priority peek.kind ≡ true → asked.Free ≡ own_asked own way o (messages_on s k)
   asks-high high =
-      let ms = message_of p.message ∷ map message_of p.rest in
+      let ms : List (Message ℕ) = message_of p.message ∷ map message_of p.rest in
       sym (
       ap (own_asked own way o) stand
       ∙ ap (λ h. cond h asked.Free (cond (own.goes way ms o) (asked.Room (record { 0 = (message_of p.message).band })) asked.Held)) (kind ∙ high)
@@ -35,7 +35,7 @@ module _ (own : OwnActs ℕ) (way : Way) (o : Own) (s : StoreValue) (k : ℕ) (p
   pub asks-low : is_high_priority peek.kind ≡ false
       → cond {A = Asks} (own.goes way (messages_on s k) o) (asked.Room peek.band) asked.Held ≡ own_asked own way o (messages_on s k)
   asks-low low =
-      let ms = message_of p.message ∷ map message_of p.rest in
+      let ms : List (Message ℕ) = message_of p.message ∷ map message_of p.rest in
       sym (
       ap (own_asked own way o) stand
       ∙ ap (λ h. cond h asked.Free (cond (own.goes way ms o) (asked.Room (record { 0 = (message_of p.message).band })) asked.Held)) (kind ∙ low)

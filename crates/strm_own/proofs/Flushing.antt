@@ -14,7 +14,7 @@ use Rattle.strm_types.specs.OwnStands.{way_flushed}
 use Rattle.strm_types.specs.Standings as plain
 use Rattle.strm_laws.specs.Behaviours.{passes_all}
 use Rattle.strm_frame.specs.declared.modules.Acts.{Acts}
-use Rattle.strm_frame.specs.Hands.{Hands}
+use Rattle.strm_frame.specs.Hands.{Hands, SamePool}
 use Rattle.strm_frame.specs.Standings.{IsPairReady, pair_in, queues_own}
 use Rattle.strm_frame.proofs.Letting.{frees-on, hand-on, own-on}
 use Rattle.strm_frame.proofs.Turns.{tallied-append}
@@ -105,7 +105,7 @@ module _ (s t u : StoreValue) (x y z : QueuePair) (here : Spot) (band : Option B
   flush-passes i most o acts has passed noted =
       let frees = frees-on s t u first.frees second.frees in
       let hand = hand-on s t u first.hand second.hand in
-      let pool = record { mblks = hand.mblks; dblks = hand.dblks } in
+      let pool : SamePool s u = record { mblks = hand.mblks; dblks = hand.dblks } in
       record {
         state = ap (λ p. plain.stood o (Some p)) (second.state ∙ ap (λ p. (below p).state) first.state);
         notes = noted ∙ ap (λ ns. ns ++ cond {A = List Note} down (Room Down ∷ []) []) first.notes

@@ -1,5 +1,5 @@
 -- Beside what was done, queues are enabled whose first message goes anew.
-use Rattle.strm_own.proofs.Prelude.{ℕ, ◌≡◌, cond, List, [], ◌∷◌, ◌++◌, refl, sym, ap, subst, ◌∙◌, Some}
+use Rattle.strm_own.proofs.Prelude.{ℕ, ◌≡◌, cond, List, [], ◌∷◌, ◌++◌, sym, ap, subst, ◌∙◌, Some}
 use Rattle.strm_own.specs.Prelude.{StoreValue, QueuePair, Own, Fates, Acted, Up, Down, sent_of, times_sent, parcels_in, AreChains, Hands}
 use Rattle.strm_types.specs.declared.spots.Asks.{Asks}
 use Rattle.strm_types.specs.declared.spots.Note.{Note}

@@ -1,5 +1,5 @@
 -- What a flush took from a queue of a pair (flushq(9F); STREAMS Programming Guide, "Flush Handling").
-use Rattle.std.specs.Prelude.{ℕ, ◌≡◌, Bool, if◌then◌else◌, List, [], ◌∷◌, Some}
+use Rattle.std.specs.Prelude.{ℕ, ◌≡◌, Bool, if◌then◌else◌, [], ◌∷◌, Some}
 use Rattle.strm_own.specs.Prelude.{StoreValue, QueuePair, Fates, Acted, tallied}
 use Rattle.strm_types.specs.declared.names.Way.{Way}
 use Rattle.strm_types.specs.declared.spots.Note.TheVariants.{Room}

@@ -1,6 +1,6 @@
 -- A module of a user's own where it stands on a stream, beside a store: what it stands for with its queues, and what a put and a call of its service
 -- procedure did (put(9E), srv(9E)).
-use Rattle.std.specs.Prelude.{ℕ, ◌≡◌, false, List, [], ◌∷◌, Option, Some, is_some}
+use Rattle.std.specs.Prelude.{ℕ, ◌≡◌, false, List, [], ◌∷◌, Option, is_some}
 use Rattle.strm_own.specs.Prelude.{StoreValue, QueuePair, Message, is_high_priority, Own, Fates, Acted}
 use Rattle.strm_types.specs.declared.names.ModuleName.TheVariants as names
 use Rattle.strm_types.specs.Names.{have_queues}

@@ -1,7 +1,6 @@
 //! What a put at a module of a user's own does, which has queues (put(9E), putq(9F); STREAMS Programming Guide, "Put Procedures", "Flush Handling").
 
-ghost use Rattle.std.specs.Prelude.{ℕ, ◌≡◌, ◌<◌, ◌≤◌, ◌&&◌, [], ◌∷◌, true, length, Some};
-ghost use Rattle.strm_types.specs.declared.limits.TheConstants.{MODULES};
+ghost use Rattle.std.specs.Prelude.{ℕ, ◌≡◌, ◌≤◌, [], true, length, Some};
 ghost use Rattle.strm_types.specs.declared.rules.Fates.{Fates};
 ghost use Rattle.strm_types.specs.Budgets.{own_at};
 ghost use Rattle.strm_types.specs.Cells.{plain};

@@ -6,6 +6,7 @@ ghost use Rattle.strm_blocks.specs.Blocks.{in_hand, empty_store, free_d, free_m,
 ghost use Rattle.strm_msg.specs.Messages.{IsChain};
 ghost use Rattle.strm_tests.specs.Rigs.{is_end, AreTwo, AtRest};
 
+use super::enable;
 use super::stock::Stock;
 use arrayvec::ArrayVec;
 use strm_blocks::{Blocks, InHand};
@@ -79,15 +80,6 @@ impl Rig {
         })
     }
 
-    // Enables a queue, if there is one. One module has a name on the list, so there is room for its two queues.
-    fn enable(&mut self, name: Option<QueueName>)
-        ensures { self.new.modules ≡ self.old.modules }
-    {
-        if self.enabled.as_slice().len() < 14 {
-            self.enabled.enable_found(name);
-        }
-    }
-
     // Enables what a note says of the module at a place.
     fn note(&mut self, at: usize, note: Note)
         ensures { self.new.modules ≡ self.old.modules }
@@ -99,7 +91,9 @@ impl Rig {
                 None => None,
             },
         };
-        self.enable(name);
+        if let Some(name) = name {
+            enable(&mut self.enabled, name);
+        }
     }
 
     // The same where a condition holds.

@@ -1,9 +1,8 @@
 -- By what becomes of the message.
-use Rattle.std.proofs.Common.{◌≡◌, ◌≤◌, Bool, true, false, cond, length, refl, sym, ap, subst, ◌∙◌, arith}
+use Rattle.std.proofs.Common.{◌≤◌, cond, length, sym, ap, subst, ◌∙◌, arith}
 use Rattle.std.specs.Prelude.{Some}
 use Rattle.strm_types.specs.Budgets.{own_at}
 use Rattle.strm_types.specs.Cells.{plain}
-use Rattle.strm_types.specs.Deliver.{Acted}
 use Rattle.strm_types.specs.Flushing.{is_flush}
 use Rattle.strm_types.specs.OwnStands.{own_holds, own_queued, pair_flushed}
 use Rattle.strm_types.specs.Service.{acts_alone}

@@ -3,7 +3,7 @@ use Rattle.std.proofs.Common.{List, [], ◌∷◌, cond, sym, ap, subst}
 use Rattle.strm_types.specs.declared.spots.Note.{Note}
 use Rattle.strm_types.specs.declared.spots.Note.TheVariants.{Room}
 use Rattle.strm_types.specs.OwnStands.{way_flushed}
-use Rattle.strm_frame.specs.Standings.{pair_in}
+use Rattle.strm_frame.specs.Standings.{IsPairReady, pair_in}
 use Rattle.strm_own.specs.Flushed.{Flushes}
 use Rattle.strm_own.proofs.Flushing.{flush-none}
 use Rattle.strm_own.proofs.putting.flush_way.Goals as goal
@@ -28,7 +28,7 @@ returns-then-takes g c =
 pub returns-else-takes : goal.returns-else-takes
 returns-else-takes g c =
     let s = g.B.Blocks.value c.args.store.now in
-    let ready = record { read = c.requires.read; write = c.requires.write; apart = c.requires.apart } in
+    let ready : IsPairReady s c.args.pair.now = record { read = c.requires.read; write = c.requires.write; apart = c.requires.apart } in
     subst (λ takes. Flushes s s c.args.pair.now c.args.pair.now c.args.way takes c.args.told.now c.args.told.now
         (way_flushed c.args.here c.args.band takes c.args.way (pair_in s c.args.pair.now))) (sym c.if-takes.false)
     (flush-none s c.args.pair.now c.args.way c.args.here c.args.band c.args.told.now ready)

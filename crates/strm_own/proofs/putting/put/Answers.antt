@@ -5,6 +5,9 @@ use Rattle.strm_laws.specs.Behaviours.{own_by}
 use Rattle.strm_own.proofs.Waking.{puts-woken}
 use Rattle.strm_own.proofs.putting.put.Goals as goal
 
+pub wake-requires-clause-ready : goal.wake-requires-clause-ready
+wake-requires-clause-ready g c = c.act-acts.ensures.did.held.queues
+
 pub returns : goal.returns
 returns g c =
     let s = g.B.Blocks.value c.args.store.now in

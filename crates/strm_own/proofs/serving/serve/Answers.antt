@@ -1,8 +1,9 @@
 -- Nothing stands there, or the first message is taken and put at the module.
-use Rattle.std.proofs.Common.{false, refl}
+use Rattle.std.proofs.Common.{◌≤◌, ap, arith, false, length, refl, subst, sym}
 use Rattle.strm_types.specs.Cells.{plain}
-use Rattle.strm_blocks.specs.Blocks.{token}
+use Rattle.strm_blocks.specs.Blocks.{list_at, token}
 use Rattle.strm_frame.specs.Queued.{TakesFirst, TakesNone}
+use Rattle.strm_frame.specs.StandingLaws.{pair-ready}
 use Rattle.strm_laws.specs.Behaviours.{own_by}
 use Rattle.strm_frame.proofs.WidePools.{wide-on}
 use Rattle.strm_own.proofs.Serving.{serves-first, serves-none, taken-in-hand}
@@ -46,6 +47,18 @@ put_alone-acts-requires-clause-wide g c =
     let i = token c.in-Some.message in
     let first : TakesFirst s t c.args.pair.now c.take.new.self c.args.here.way i = rw c.in-Some.is at c.take.ensures in
     wide-on g.M.OwnModule.wide s t first.pool.mblks first.pool.dblks c.requires.wide
+
+pub wake-requires-clause-ready : goal.wake-requires-clause-ready
+wake-requires-clause-ready g c =
+    let s = g.B.Blocks.value c.args.store.now in
+    let t = g.B.Blocks.value c.take.new.store in
+    let i = token c.in-Some.message in
+    let first : TakesFirst s t c.args.pair.now c.take.new.self c.args.here.way i = rw c.in-Some.is at c.take.ensures in
+    pair-ready t (g.B.Blocks.value c.put_alone-acts.new.store) c.take.new.self
+    (λ k own. ap (λ l. list_at (record t { lists = l }) k) c.put_alone-acts.ensures.did.lists) first.ready
+
+pub wake-requires-clause-few : goal.wake-requires-clause-few
+wake-requires-clause-few g c = subst (λ ns. length ns ≤ 2) (sym c.put_alone-acts.ensures.notes) (omega arith)
 
 pub returns : goal.returns
 returns g c =

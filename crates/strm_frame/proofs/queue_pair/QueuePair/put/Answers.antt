@@ -1,6 +1,6 @@
 -- The message stands on the queue of the way, and the other one stays.
 use Rattle.std.proofs.Common.{sym, subst}
-use Rattle.strm_frame.specs.Prelude.{Way, token}
+use Rattle.strm_frame.specs.Prelude.{token}
 use Rattle.strm_frame.specs.Queued.{PutsOn}
 use Rattle.strm_frame.proofs.Queued.{puts-down, puts-up}
 use Rattle.strm_frame.proofs.queue_pair.QueuePair.put.Goals as goal

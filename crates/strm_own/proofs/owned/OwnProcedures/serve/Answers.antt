@@ -1,6 +1,6 @@
 -- With queues or without.
 use Rattle.std.proofs.Common.{arith, subst, sym}
-use Rattle.std.specs.Prelude.{None, Option, Some}
+use Rattle.std.specs.Prelude.{Option, Some}
 use Rattle.strm_types.specs.Cells.{plain}
 use Rattle.strm_types.specs.OwnStands.{own_serves}
 use Rattle.strm_types.specs.Standings.{stood}
