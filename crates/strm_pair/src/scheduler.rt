@@ -23,8 +23,8 @@ pub struct Ran {
 impl<B: Blocks + Drop, M: OwnModule> Pair<B, M> {
     /// Makes turns, each of the queue that was enabled first, until none is enabled or the next one is refused: JournalFull, ENOSR or ERANGE
     /// ([`Pair::turn`]). The journal gains an entry a turn, so it ends: two `ldterm`s that echo each other's echo go on till the journal
-    /// is full. Where one stands there at most, with no `pckt` below it, no queue is enabled in the end, if the journal had an entry for each
-    /// move of a message, and 32 blocks of each kind and room in the books are left. No memory is taken.
+    /// is full. Where one stands there at most, with no `pckt` below it, and no module of a user's own has queues, no queue is enabled in the end, if
+    /// the journal had an entry for each move of a message, and 32 blocks of each kind and room in the books are left. No memory is taken.
     pub fn runqueues(&mut self) -> Ran
         ensures ran { RanTurns M.does result.turns self.old self.new }
         ensures entries { length self.new.journal ≡ length self.old.journal + result.turns }
