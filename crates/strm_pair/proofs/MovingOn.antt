@@ -18,7 +18,7 @@ use Rattle.strm_types.specs.Ldterms as ldterms
 use Rattle.strm_types.specs.declared.names.ModuleName.TheVariants as names
 use Rattle.strm_types.specs.Owns.{Own}
 use Rattle.strm_laws.specs.Behaviours.{own_by}
-use Rattle.strm_laws.specs.ModuleTurns.{Calls, calls, made_below, whole_module}
+use Rattle.strm_laws.specs.ModuleTurns.{Calls, again_at, bytes_at, calls, made_below, whole_module}
 use Rattle.strm_laws.specs.Stacked.{kind_name}
 use Rattle.strm_laws.specs.Turns.{whole_at}
 use Rattle.strm_types.proofs.EnabledNames.{same_module-sound}
@@ -115,7 +115,7 @@ found-name owner (suc n) from (p ∷ ps) at is =
     behind : Option ℕ
     behind = named_from (places.Module owner) (suc from) (places_of (take n ps))
 
-    abbrev Found : Type 0
+    Found : Type 0
     Found = (from ≤ at) × (module_name (slice_index_or (p ∷ ps) (at - from) none_there) ≡ owner)
 
     later : (suc from ≤ at) × (module_name (slice_index_or ps (at - suc from) none_there) ≡ owner) → Found
@@ -145,10 +145,15 @@ own-once K here way made again left p o is =
     (sym is) (own-over (own_by K plain) here way o p.queues, own-whole (own_by K plain) here way again o p.queues)
 
 -- so a turn of it is over behind one call, and as far as it goes
-bytes_of_turn : Turn → ℕ
+abbrev bytes_of_turn : Turn → ℕ
 bytes_of_turn (Moved n) = n
 bytes_of_turn Blocked = 0
 bytes_of_turn Idle = 0
+
+one-over : (again : Bool) (one another : Calls ℕ) (n : ℕ) → again ≡ false → another.ended ≡ true → n ≤ another.bytes
+    → let t = cond again one another in (t.ended ≡ true) × (n ≤ t.bytes)
+one-over true one another n over ended few = absurd (cc)
+one-over false one another n over ended few = (ended, few)
 
 module _ (K : Behaviour) (name : QueueName) (here : Spot) (s : State ℕ) (o : Own) (low : here.at - 1 < length (stream here.side s).modules) (own : (module_at here s).part ≡ OfOwn o) where
   one-call : (more bytes : ℕ) → let t = calls K plain here (suc more) false bytes s in (t.ended ≡ true) × (bytes_left here.way false (discipline_of (module_at here s)) ≤ t.bytes)
@@ -159,8 +164,8 @@ module _ (K : Behaviour) (name : QueueName) (here : Spot) (s : State ℕ) (o : O
       let once = own-once K here here.way made false bytes (module_at here s) o own in
       let over = index-map none_there (λ p. (module_serves K plain here made false (Some bytes) p).again) false i ps low ∙ once.0 in
       let long = index-map none_there (λ p. (module_serves K plain here made false (Some bytes) p).bytes) 0 i ps low in
-      subst (λ (t : Calls ℕ). (t.ended ≡ true) × (bytes_left here.way false (discipline_of (module_at here s)) ≤ t.bytes))
-      (sym (ap (λ again. cond again _ _) over)) (refl, omega (arith, once.1, long))
+      let few : bytes_left here.way false (discipline_of (module_at here s)) ≤ bytes_at K plain here made false bytes ps = omega (arith, once.1, long) in
+      one-over (again_at K plain here made false bytes ps) _ _ _ over refl few
 
   own-all : (bytes : ℕ) → (moved_on K plain here name bytes s).turn ≡ Moved bytes → bytes_left here.way false (discipline_of (module_at here s)) ≤ bytes
   own-all bytes moved =
