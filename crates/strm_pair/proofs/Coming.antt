@@ -125,7 +125,10 @@ low n = grind (arith, nat_tests)
 before-more : (side : Side) (x : Option Place) (xs : List (Option Place)) (o : Option ℕ)
     → before_by side Up 1 (x ∷ xs) (option_map (λ n. suc n) (option_map (λ n. suc n) o)) ≡ before_by side Up 0 xs (option_map (λ n. suc n) o)
 before-more side x xs None = ap (λ b. cond b (Some (driver_of (other side))) None) (low (length xs))
-before-more side x xs (Some i) = refl
+before-more side x xs (Some i) =
+    let above : suc (suc i) - 1 ≡ suc i = omega arith in
+    let there : suc i - 1 ≡ i = omega arith in
+    ap (λ k. queue_named side Up (slice_index_or (x ∷ xs) k None)) above ∙ ap (λ k. queue_named side Up (slice_index_or xs k None)) (sym there)
 
 before-top : (side : Side) (p : Standing ℕ) (ps : List (Standing ℕ)) → before_among side Up 1 (p ∷ ps) ≡ before_among side Up 0 ps
 before-top side p ps =
