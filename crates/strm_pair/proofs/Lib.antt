@@ -11,6 +11,9 @@ pub mod ModuleTaken
 pub mod Takings
 pub mod Dropping
 pub mod Puttings
+pub mod StackTops
+pub mod ShelfSteps
+pub mod CallsStand
 pub mod ModulePushed
 pub mod Modes
 pub mod PlaceCosts
@@ -29,6 +32,7 @@ pub mod ReadSteps
 pub mod GetSteps
 pub mod PutBooks
 pub mod FreeBlocks
+pub mod ModuleSums
 pub mod Steps
 pub mod Shown
 pub mod DataLemmas

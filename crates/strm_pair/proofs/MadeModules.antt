@@ -5,7 +5,7 @@ use Rattle.strm_pair.specs.Prelude.{ModuleName, queues_named, StoreValue, list_a
 use Rattle.strm_ldterm.specs.declared.ldterm.Ldterm.{Ldterm}
 use Rattle.strm_types.specs.Standings.{new_pair}
 use Rattle.strm_pair.specs.Given.{GivenFor}
-use Rattle.strm_pair.proofs.ModuleTaken.{once-is}
+use Rattle.strm_pair.specs.ModuleLists.{once-is}
 
 -- two names are never one
 pub once-two : (a b k : ℕ) → a ≢ b → once a k + once b k ≤ 1

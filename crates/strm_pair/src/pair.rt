@@ -35,6 +35,7 @@ use crate::ledgers::sum;
 use strm_own::{NoModule, OwnModule};
 use crate::past::Past;
 use crate::refusals::or_else;
+use crate::shelves::Shelf;
 use crate::streams::{Streams, queue_tables};
 use std::alloc::Global;
 use std::marker::{Model, PhantomData};
@@ -51,6 +52,7 @@ use strm_types::{
 pub struct Pair<B: Blocks + Drop, M: OwnModule = NoModule> {
     store: B,
     streams: Streams,
+    shelf: Shelf,
     journal: Journal,
     base: Base,
     limits: Config,
@@ -76,7 +78,7 @@ impl<B: Blocks + Drop, M: OwnModule> Model for Pair<B, M> {
 
     ghost view = { λ p. pair_of (B.value p.store) p.streams p.journal (start_in p.base) p.limits p.fates };
 
-    ghost invariant = { λ p. IsWhole M.does M.wide (B.value p.store) p.streams p.journal p.base p.limits p.fates };
+    ghost invariant = { λ p. IsWhole M.does M.wide M.queued (B.value p.store) p.streams p.shelf p.journal p.base p.limits p.fates };
 }
 
 impl<B: Blocks + Drop, M: OwnModule> Pair<B, M> {
@@ -93,7 +95,7 @@ impl<B: Blocks + Drop, M: OwnModule> Pair<B, M> {
             (λ p. p ≡ new_pair (sizes_over (B.value store) sizes))
             (λ e. B.value e.1 ≡ B.value store) }
     {
-        let Ok(tables) = queue_tables(alloc) else {
+        let Ok(tables) = queue_tables::<M>(alloc) else {
             return Err((NoMemory, store));
         };
         let Ok(journal) = Journal::new(alloc, sizes.journal_events, sizes.journal_bytes) else {
@@ -104,7 +106,7 @@ impl<B: Blocks + Drop, M: OwnModule> Pair<B, M> {
         let Ok(memory) = Vec::with_capacity(alloc, IMAGE_FIXED + IMAGE_BLOCK * mblks) else {
             return Err((NoMemory, store));
         };
-        let streams = Streams::new(tables);
+        let streams = Streams::new(tables.ends);
         let fates = Fates::none();
         let base = Base::at(&store, &streams, &fates, memory);
         let limits = Config {
@@ -115,6 +117,7 @@ impl<B: Blocks + Drop, M: OwnModule> Pair<B, M> {
         Ok(Pair {
             store,
             streams,
+            shelf: tables.shelf,
             journal,
             base,
             limits,
@@ -129,7 +132,7 @@ impl<B: Blocks + Drop, M: OwnModule> Pair<B, M> {
         ensures { self.new ≡ new_pair self.old.limits }
     {
         self.store.reset();
-        self.streams.renew();
+        self.streams.renew(&mut self.shelf);
         self.journal.clear();
         self.fates = Fates::none();
         self.base.past = Past::none();

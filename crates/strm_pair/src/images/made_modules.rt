@@ -1,6 +1,6 @@
 //! Modules of any kind as a text has them.
 
-ghost use Rattle.std.specs.Prelude.{ℕ, ◌≡◌, ◌≤◌, Option, is_some};
+ghost use Rattle.std.specs.Prelude.{ℕ, ◌≡◌, ◌<◌, Option, is_some};
 ghost use Rattle.strm_types.specs.Names.{have_queues};
 ghost use Rattle.strm_laws.specs.Stacked.{kind_name};
 ghost use Rattle.strm_blocks.specs.Blocks.{StoreValue};
@@ -8,12 +8,13 @@ ghost use Rattle.strm_frame.specs.Hands.{HasRoom};
 ghost use Rattle.strm_frame.specs.declared.queue_pair.QueuePair as pairs;
 ghost use Rattle.strm_image.specs.ModuleTexts.{kind_now};
 ghost use Rattle.strm_pair.specs.AnyModules.{IsKindHeld, kind_in, kind_keeps};
-ghost use Rattle.strm_pair.specs.Placing.{ArePlaced, AreFreeFor, IsKindText, IsModuleText, IsPlaced, module_blocks, queues_blocks};
+ghost use Rattle.strm_pair.specs.Placing.{ArePlaced, IsFreeFor, IsKindText, IsModuleText, IsPlaced, module_blocks, queues_blocks, queues_pair, text_pair};
 
 use crate::images::made_kinds::{ldterm_of, pair_of};
 use crate::modules::AnyModule;
+use crate::shelves::Shelf;
 use strm_blocks::Blocks;
-use strm_frame::{QueuePair, Standing, Tables};
+use strm_frame::{QueuePair, Standing};
 use strm_image::{KindText, ModuleText, QueuesText};
 use strm_own::Own;
 use strm_pty::{Pckt, Ptem};
@@ -42,32 +43,27 @@ fn kind_of(text: &KindText<'_>) -> AnyModule
 fn queues_of<B: Blocks>(
     store: &mut B,
     first: usize,
-    shelf: &mut Option<Tables>,
+    shelf: &mut Shelf,
     text: &Option<QueuesText<'_>>,
 ) -> Option<QueuePair>
-    requires first { first ≤ 6 }
-    requires free { AreFreeFor (B.value store.old) first shelf.old text.now }
+    requires free { 0 < queues_pair text.now → IsFreeFor (B.value store.old) first shelf.old }
     requires room { HasRoom (B.value store.old) (queues_blocks text.now) }
     ensures { ArePlaced (B.value store.old) (B.value store.new) first shelf.old shelf.new text.now result }
 {
     let Some(found) = text else {
         return None;
     };
-    let Some(tables) = shelf.take() else {
-        unreachable!()
-    };
-    Some(pair_of(store, first, tables, found))
+    Some(pair_of(store, first, shelf.take(), found))
 }
 
 /// Makes a module of a text, with its queues where it has any.
 pub(crate) fn module_of<B: Blocks>(
     store: &mut B,
     first: usize,
-    shelf: &mut Option<Tables>,
+    shelf: &mut Shelf,
     text: &ModuleText<'_>,
 ) -> Standing<AnyModule>
-    requires first { first ≤ 6 }
-    requires free { AreFreeFor (B.value store.old) first shelf.old text.now.queues }
+    requires free { 0 < text_pair text.now → IsFreeFor (B.value store.old) first shelf.old }
     requires good { IsModuleText text.now }
     requires room { HasRoom (B.value store.old) (module_blocks text.now) }
     ensures { IsPlaced (B.value store.old) (B.value store.new) first shelf.old shelf.new text.now result }
