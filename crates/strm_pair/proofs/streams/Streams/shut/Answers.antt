@@ -18,8 +18,8 @@ clear_modules-requires-clause-rests g c =
     let s = g.B.Blocks.value c.args.store.now in
     let st = state_in s c.args.self.now in
     let emptied = head_emptied EndClosed of_all c.args.side st in
-    rests-behind s (g.B.Blocks.value c.clear_head.new.store) c.clear_head.new.self c.args.told.now c.clear_head.new.told emptied.state emptied.gone c.clear_head.ensures (emptied-idle c.args.side st c.requires.idle)
-    (emptied-few st c.requires.enabled c.args.side)
+    rests-behind s (g.B.Blocks.value c.clear_head.new.store) c.clear_head.new.self c.args.told.now c.clear_head.new.told emptied.state emptied.gone c.clear_head.ensures (emptied-idle c.args.side st c.requires.rests.idle)
+    (emptied-few st c.requires.rests.enabled c.args.side)
 
 -- what is enabled behind what went is there
 modules-few : (side : Side) (st u v : State ℕ) → AreFewEnabled st → u ≡ (head_emptied EndClosed of_all side st).state
@@ -31,13 +31,13 @@ modules-few side st u v e head modules =
 pub clear_driver-requires-clause-enabled : goal.clear_driver-requires-clause-enabled
 clear_driver-requires-clause-enabled g c =
     let s = g.B.Blocks.value c.args.store.now in
-    modules-few c.args.side (state_in s c.args.self.now) _ _ c.requires.enabled c.clear_head.ensures.state c.clear_modules.ensures.state
+    modules-few c.args.side (state_in s c.args.self.now) _ _ c.requires.rests.enabled c.clear_head.ensures.state c.clear_modules.ensures.leads.state
 
 pub clear_driver-requires-in-Master-clause-enabled : goal.clear_driver-requires-in-Master-clause-enabled
 clear_driver-requires-in-Master-clause-enabled g c =
     let s = g.B.Blocks.value c.args.store.now in
     let u = state_in (g.B.Blocks.value c.clear_modules.new.store) c.clear_modules.new.self in
-    let few = modules-few c.args.side (state_in s c.args.self.now) _ u c.requires.enabled c.clear_head.ensures.state c.clear_modules.ensures.state in
+    let few = modules-few c.args.side (state_in s c.args.self.now) _ u c.requires.rests.enabled c.clear_head.ensures.state c.clear_modules.ensures.leads.state in
     subst AreFewEnabled (sym c.clear_driver.ensures.state) (driver-few u few Master)
 
 pub returns-in-Master-clause-leads : goal.returns-in-Master-clause-leads
