@@ -9,6 +9,8 @@ use Rattle.strm_types.specs.declared.names.Way.{Way}
 use Rattle.strm_types.specs.declared.names.Way.TheVariants.{Up, Down}
 use Rattle.strm_types.specs.Commands.{is_ioctl}
 use Rattle.strm_types.specs.Input.{is_data}
+use Rattle.strm_types.specs.declared.names.ModuleName.TheVariants as modules
+use Rattle.strm_types.specs.Names.{have_queues}
 use Rattle.strm_types.specs.Message.{Message}
 use Rattle.strm_types.specs.Queue.{bytes_of}
 use Rattle.strm_laws.specs.Behaviours.{Behaviour, GoodOwn, passes_all}
@@ -30,6 +32,10 @@ may_go ms = has_byte LINE_END ms || (nat_le MOST (bytes_of ms) || list_any (λ m
 
 pub buffer-good : (n : ℕ) → (n == LINE_BUFFER) ≡ true → GoodOwn (record { number = n; settings = [] })
 buffer-good n is = let e : n ≡ LINE_BUFFER = grind (arith, nat_tests) in record { number = omega (arith, e); few = omega arith; bytes = tt }
+
+-- and it has queues
+pub buffer-queues : (n : ℕ) → (n == LINE_BUFFER) ≡ true → have_queues (modules.Own n) ≡ true → true ≡ true
+buffer-queues n is has = refl
 
 -- its number is 128; M_DATA and M_IOCTL on their way down wait, and all passes as it is
 abbrev pub line_buffer : Behaviour

@@ -44,9 +44,18 @@ fn waits(kind: MsgKind) -> bool
 }
 
 impl OwnModule for LineBuffer {
-    ghost use Rattle.std.specs.Prelude.{false};
+    ghost use Rattle.std.specs.Prelude.{false, true};
+    ghost use Rattle.line_buffer.specs.LineBuffer.{buffer-queues};
 
     ghost wide = { false };
+
+    ghost queued = { true };
+
+    ghost queues = { buffer-queues };
+
+    fn queued() -> bool {
+        true
+    }
 
     fn made(number: u8) -> Option<Own> {
         if number == LINE_BUFFER {
