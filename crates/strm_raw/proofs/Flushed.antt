@@ -4,6 +4,7 @@ use Rattle.std.specs.Prelude.{◌⊎◌, Option, None, Some, option_map, not, Ma
 use Rattle.std.proofs.lemmas.Bool.Decides.{nat_tests}
 use Rattle.std.proofs.lemmas.List.{append-nil, append_assoc, length-append, map-append, set-set, set-get_or}
 use Rattle.std.proofs.lemmas.List.Sums.{sum_by-cons}
+use Rattle.strm_types.specs.declared.limits.TheConstants.{LISTS}
 use denote.RawPtr.{Ptr}
 use Rattle.strm_types.specs.Flush.{is_flushed}
 use Rattle.strm_blocks.specs.declared.asked.FlushWhat.{FlushWhat}
@@ -140,7 +141,7 @@ module _ (s0 : StoreValue) (k : ℕ) (what : FlushWhat) where
       }
 
       -- one that a flush takes
-      pub walk-takes : {v' : Nodes} {ends' : List Ends} {b' : Roster} → k < 8 → takes_row what (row_at (msg_number v.mat l) v.rows) ≡ true → Unseats v v' ends ends' b b' k l
+      pub walk-takes : {v' : Nodes} {ends' : List Ends} {b' : Roster} → k < LISTS → takes_row what (row_at (msg_number v.mat l) v.rows) ≡ true → Unseats v v' ends ends' b b' k l
           → (taken : Option InHand) → Taken taken s0 (placed s0 k []) (placed (value_of v b) k []) → Loose v' ends' b' first_m first_d spare_m spare_d next (left - 1) taken (msg_number v.mat l)
       walk-takes {v' = v'} {ends' = ends'} {b' = b'} within goes u taken t =
           let done = taken-off w.raw w.listed k within l w.front m ys shape first.1.1.1 u in

@@ -2,6 +2,7 @@
 use Rattle.std.proofs.Common.{ℕ, ◌≡◌, ◌≤◌, ◌<◌, List, ◌++◌, length, map, refl, sym, ap, ◌∙◌, subst, arith}
 use Rattle.std.proofs.Math.ListN.{set}
 use Rattle.std.specs.Prelude.{Option, None, option_map, unwrap_or}
+use Rattle.strm_types.specs.declared.limits.TheConstants.{LISTS}
 use Rattle.strm_types.specs.Ranked as ranked
 use Rattle.strm_blocks.specs.Blocks.{Block, rank_of, list_at, in_hand, dropped, placed}
 use Rattle.strm_raw.specs.Numbered.{Nodes, msg_number, IsMsgOrNone}
@@ -37,7 +38,7 @@ number-of f On x y = refl
 number-of f Back x y = refl
 
 module _ {v v' : Nodes} {ends ends' : List Ends} {b b' : Roster} {first_m : Option MsgLink} {first_d : Option DataLink} {spare_m spare_d : ℕ} (is : IsRaw v first_m first_d spare_m spare_d b) (listed : AreListed v ends b)
-    (k : ℕ) (within : k < 8) (l : MsgLink) (here : IsHere v b l) (r : ℕ) (rank_is : r ≡ rank_at v.rows (msg_number v.mat l)) (before after : Option MsgLink)
+    (k : ℕ) (within : k < LISTS) (l : MsgLink) (here : IsHere v b l) (r : ℕ) (rank_is : r ≡ rank_at v.rows (msg_number v.mat l)) (before after : Option MsgLink)
     (e : Ends) (seats : Seats v.mat v.rows v'.rows (ends_at k ends) e (option_map (msg_number v.mat) before) (msg_number v.mat l) (option_map (msg_number v.mat) after))
     (first : IsMsgOrNone v.mat (length v.rows) e.first) (last : IsMsgOrNone v.mat (length v.rows) e.last) (nodes : v' ≡ record v { rows = v'.rows }) (ends_are : ends' ≡ set ends k e)
     (n : ℕ) (n_is : n ≡ msg_number v.mat l) (roster_is : b' ≡ seated k n (unwrap_or after l) b) where

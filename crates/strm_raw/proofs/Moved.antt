@@ -6,6 +6,7 @@ use Rattle.std.proofs.lemmas.Bool.{cases_eq}
 use Rattle.std.proofs.lemmas.Bool.Decides.{nat_tests}
 use Rattle.std.proofs.lemmas.List.{get_or-set_same, get_or-set_other}
 use Rattle.std.proofs.lemmas.List.Sums.{sum_by-cons, sum_by-set}
+use Rattle.strm_types.specs.declared.limits.TheConstants.{LISTS}
 use Rattle.strm_types.specs.Ranked as ranked
 use Rattle.strm_blocks.specs.Blocks.{Block, rank_of}
 use Rattle.strm_raw.specs.Numbered.{Nodes, Row, row_at, msg_number, IsMsgOrNone}
@@ -64,7 +65,7 @@ queue-value v (q ∷ lists) (suc k) = queue-value v lists k
 
 -- one list and the hand change, and of the nodes their places on lists
 module _ {v : Nodes} {ends : List Ends} {b : Roster} {first_m : Option MsgLink} {first_d : Option DataLink} {spare_m spare_d : ℕ} (is : IsRaw v first_m first_d spare_m spare_d b) (listed : AreListed v ends b)
-    (k : ℕ) (within : k < 8) (rows : List Row) (len : length rows ≡ length v.rows) (same : (i : ℕ) → plain (row_at i rows) ≡ plain (row_at i v.rows)) (q hand : List Msg)
+    (k : ℕ) (within : k < LISTS) (rows : List Row) (len : length rows ≡ length v.rows) (same : (i : ℕ) → plain (row_at i rows) ≡ plain (row_at i v.rows)) (q hand : List Msg)
     (all : (f : Msg → ℕ) → sum_by f q + sum_by f hand ≡ sum_by f (queue_at k b.lists) + sum_by f b.hand) where
   abbrev pub moved_nodes : Nodes
   moved_nodes = record v { rows = rows }

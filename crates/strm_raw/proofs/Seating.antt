@@ -6,6 +6,7 @@ use Rattle.std.specs.List.{AllByRecursion}
 use Rattle.std.proofs.lemmas.Bool.Decides.{nat_tests}
 use Rattle.std.proofs.lemmas.List.{append_assoc, length-append, map-append, get_or-set_same}
 use Rattle.std.proofs.lemmas.List.Sums.{sum_by-cons, sum_by-append}
+use Rattle.strm_types.specs.declared.limits.TheConstants.{LISTS}
 use Rattle.strm_types.specs.Ranked as ranked
 use Rattle.strm_blocks.specs.Blocks.{Block, rank_of, list_at, held, dropped, placed, IsFreshName}
 use Rattle.strm_raw.specs.Numbered.{Nodes, Row, row_at, msg_number, IsMsgOrNone}
@@ -58,7 +59,7 @@ seat-before x y (m ∷ xs) ys z =
     ap (λ t. cond t (x ∷ m ∷ (xs ++ y ∷ ys)) (m ∷ seat_in y.head x (xs ++ y ∷ ys))) no ∙ ap (λ r. m ∷ r) (seat-before x y xs ys (omega arith))
 
 module _ {v : Nodes} {ends : List Ends} {b : Roster} {first_m : Option MsgLink} {first_d : Option DataLink} {spare_m spare_d : ℕ} (is : IsRaw v first_m first_d spare_m spare_d b) (listed : AreListed v ends b)
-    (k : ℕ) (within : k < 8) where
+    (k : ℕ) (within : k < LISTS) where
   -- one that is on the list is taken off it
   module _ (xs : List Msg) (m : Msg) (ys : List Msg) (shape : queue_at k b.lists ≡ xs ++ m ∷ ys)
       (rows : List Row) (e : Ends) (ties : Ties v.mat v.rows rows (ends_at k ends) e (behind_of v.rows m.head) (ahead_of v.rows m.head))
@@ -245,7 +246,7 @@ pub record TakenOff (v v' : Nodes) (ends' : List Ends) (b b' : Roster) (first_m 
   pub chains : chain_of v' ≡ chain_of v
 
 pub taken-off : {v v' : Nodes} {ends ends' : List Ends} {b b' : Roster} {first_m : Option MsgLink} {first_d : Option DataLink} {spare_m spare_d : ℕ} (is : IsRaw v first_m first_d spare_m spare_d b) (listed : AreListed v ends b)
-    (k : ℕ) (within : k < 8) (l : MsgLink) (xs : List Msg) (m : Msg) (ys : List Msg) → queue_at k b.lists ≡ xs ++ m ∷ ys → m.head ≡ msg_number v.mat l → Unseats v v' ends ends' b b' k l
+    (k : ℕ) (within : k < LISTS) (l : MsgLink) (xs : List Msg) (m : Msg) (ys : List Msg) → queue_at k b.lists ≡ xs ++ m ∷ ys → m.head ≡ msg_number v.mat l → Unseats v v' ends ends' b b' k l
     → TakenOff v v' ends' b b' first_m first_d spare_m spare_d k (msg_number v.mat l) xs m ys
 taken-off {v = v} {v' = v'} {ends = ends} is listed k within l xs m ys shape name u =
     let ties = subst (λ n. Ties v.mat v.rows v'.rows (ends_at k ends) u.after (behind_of v.rows n) (ahead_of v.rows n)) (sym name) u.tied in
@@ -281,7 +282,7 @@ seat-is i x xs (y ∷ ys) once off =
 
 -- what a call leaves that puts a message on a list
 module _ {v v' : Nodes} {ends ends' : List Ends} {b b' : Roster} {first_m : Option MsgLink} {first_d : Option DataLink} {spare_m spare_d : ℕ} (is : IsRaw v first_m first_d spare_m spare_d b) (listed : AreListed v ends b)
-    (k : ℕ) (within : k < 8) (l : MsgLink) (here : IsHere v b l) (xs ys : List Msg) (shape : queue_at k b.lists ≡ xs ++ ys) where
+    (k : ℕ) (within : k < LISTS) (l : MsgLink) (here : IsHere v b l) (xs ys : List Msg) (shape : queue_at k b.lists ≡ xs ++ ys) where
   pub put-on : (e : Ends) (before after : Option ℕ) → before ≡ end_of None xs → after ≡ begin_of ys → Seats v.mat v.rows v'.rows (ends_at k ends) e before (msg_number v.mat l) after
       → IsMsgOrNone v.mat (length v.rows) e.first → IsMsgOrNone v.mat (length v.rows) e.last → v' ≡ record v { rows = v'.rows } → ends' ≡ set ends k e
       → (o : Option MsgLink) → option_map (msg_number v.mat) o ≡ after → (n : ℕ) → n ≡ msg_number v.mat l → b' ≡ seated k n (unwrap_or o l) b

@@ -1,5 +1,6 @@
 -- The lists of a raw store: how a list leads through its messages, on and back.
 use Rattle.std.specs.Prelude.{ℕ, ◌≡◌, ◌≢◌, ◌≤◌, ◌+◌, ◌-◌, ◌==◌, if◌then◌else◌, List, [], ◌∷◌, length, sum_by, slice_index_or, slice_set, Option, None, Some, option_map}
+use Rattle.strm_types.specs.declared.limits.TheConstants.{LISTS}
 use denote.RawPtr.{Ptr}
 use Rattle.strm_types.specs.Ranked as ranked
 use Rattle.strm_blocks.specs.Blocks.{StoreValue, rank_of, list_at}
@@ -81,7 +82,7 @@ pub record AreWhole (rows : List Row) (q : List Msg) : Type 0 where
 -- The ends of each list lead to nodes, the links of each list are its messages, its count says how many they are, and each list is in order of
 -- rank.
 pub record AreListed (v : Nodes) (ends : List Ends) (b : Roster) : Type 0 where
-  pub eight : length ends ≡ 8
+  pub eight : length ends ≡ LISTS
   pub first : (k : ℕ) → IsMsgOrNone v.mat (length v.rows) (ends_at k ends).first
   pub last : (k : ℕ) → IsMsgOrNone v.mat (length v.rows) (ends_at k ends).last
   pub tied : (k : ℕ) → IsList v (ends_at k ends) (queue_at k b.lists)

@@ -14,11 +14,12 @@ use crate::ranks::{rank_of, ranked};
 use crate::raw::RawStore;
 use std::ptr::null_mut;
 use strm_blocks::{Blocks, InHand};
+use strm_types::LISTS;
 
 /// Takes a message off the list on which it stands.
 pub(crate) fn unseat(
     memory: &mut Memory,
-    ends: &mut [Ends; 8],
+    ends: &mut [Ends; LISTS],
     ledger: &mut Ledger,
     list: usize,
     at: MsgLink,
@@ -41,7 +42,7 @@ impl RawStore {
     // Puts a message on a list with nothing on it.
     #[inline(always)]
     fn begin(&mut self, list: usize, message: InHand)
-        requires list { list < 8 }
+        requires list { list < LISTS }
         requires none { list_at self.old list ≡ [] }
         requires in_hand { IsInHand self.old (token message) }
         ensures { let s = self.old in
@@ -56,7 +57,7 @@ impl RawStore {
     /// Puts a message on a list, at the place of its rank to which a walk in a course comes.
     #[inline(always)]
     pub(crate) fn insert(&mut self, list: usize, message: InHand, course: Course)
-        requires list { list < 8 }
+        requires list { list < LISTS }
         requires in_hand { IsInHand self.old (token message) }
         ensures { let s = self.old in
             self.new ≡ placed (dropped s (token message)) list (put_by course rank_of (in_hand s (token message)) (list_at s list)) }
@@ -82,7 +83,7 @@ impl RawStore {
     /// Takes the message off a list, if there is one, that stands where the list begins in a course.
     #[inline(always)]
     pub(crate) fn take_end(&mut self, list: usize, course: Course) -> Option<InHand>
-        requires { list < 8 }
+        requires { list < LISTS }
         ensures { MatchOption result (Unpopped self.old self.new list) (λ m. PoppedBy course self.old self.new list (token m)) }
     {
         let Some(at) = beside(&self.memory, self.ends[list], course, None) else {

@@ -11,7 +11,7 @@ use crate::tails::hang;
 use crate::visiting::{tell_list, tell_message};
 use std::alloc::{AllocError, Global};
 use strm_blocks::{Blocks, FlushWhat, InHand, NoBlocks, Peek, Reserve, Summary, Visitor};
-use strm_types::{Band, MsgKind};
+use strm_types::{Band, LISTS, MsgKind};
 
 impl Blocks for RawStore {
     ghost value = { λ s. s };
@@ -261,7 +261,7 @@ impl Blocks for RawStore {
         self.memory.clear();
         let (message, datum) = self.memory.begins();
         self.ledger.note(message.at, datum.at, 0, 0);
-        self.ends = [NO_ENDS; 8];
+        self.ends = [NO_ENDS; LISTS];
         self.free_msg = None;
         self.free_data = None;
         (self.spare_m, self.spare_d) = self.memory.room();

@@ -10,7 +10,7 @@ use crate::names::Place;
 pub const BLOCK_SIZE: usize = 256;
 
 /// How many lists of messages a store has.
-pub const LISTS: usize = 8;
+pub const LISTS: usize = 16;
 
 /// How many bands a queue has: 0 for ordinary messages, up to 255.
 pub const BANDS: usize = 256;
