@@ -2,6 +2,7 @@
 //! (qinit(9S); srv(9E), getq(9F), canput(9F); streamio(7I): I_POP).
 
 ghost use Rattle.std.specs.Prelude.{ℕ, ◌≡◌, ◌<◌, ◌+◌, not, [], length, Some};
+ghost use Rattle.strm_types.specs.declared.limits.TheConstants.{LISTS};
 ghost use Rattle.strm_types.specs.Dropped.{is_met};
 ghost use Rattle.strm_types.specs.Emptied.{of_all, cells_gone, queue_behind, writer_goes};
 ghost use Rattle.strm_types.specs.ModuleQueues.{with_waiting};
@@ -61,8 +62,8 @@ impl QueuePair {
     /// Two queues as a module that is pushed is given them, on these lists, on which nothing stands. The read queue's comes first, so that
     /// who sees a store's lists knows which is which.
     pub fn new(read_list: usize, write_list: usize, tables: Tables) -> QueuePair
-        requires read { read_list < 8 }
-        requires write { write_list < 8 }
+        requires read { read_list < LISTS }
+        requires write { write_list < LISTS }
         requires apart { read_list < write_list }
         ensures state { (s : StoreValue) → list_at s read_list ≡ [] → list_at s write_list ≡ [] → pair_in s result ≡ new_pair }
         ensures ready { (s : StoreValue) → list_at s read_list ≡ [] → list_at s write_list ≡ [] → IsPairReady s result }
