@@ -31,6 +31,7 @@ pub mod ReadSteps
 pub mod GetSteps
 pub mod PutBooks
 pub mod FreeBlocks
+pub mod ModuleSums
 pub mod Steps
 pub mod Shown
 pub mod DataLemmas

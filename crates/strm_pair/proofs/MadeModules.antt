@@ -4,7 +4,7 @@ use Rattle.strm_pair.proofs.Prelude.{Option, None, Some, IfSome, is_some, ◌==�
 use Rattle.strm_pair.specs.Prelude.{ModuleName, queues_named, StoreValue, list_at, QueuePair, once, IsPairReady, queues_in, queues_own}
 use Rattle.strm_types.specs.Standings.{new_pair}
 use Rattle.strm_pair.specs.Given.{GivenFor}
-use Rattle.strm_pair.proofs.ModuleTaken.{once-is}
+use Rattle.strm_pair.specs.ModuleLists.{once-is}
 
 -- two names are never one
 pub once-two : (a b k : ℕ) → a ≢ b → once a k + once b k ≤ 1

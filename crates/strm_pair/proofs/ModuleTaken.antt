@@ -12,6 +12,7 @@ use Rattle.strm_types.specs.Standings.{messages_on}
 use Rattle.strm_pair.specs.declared.modules.AnyModule.{AnyModule}
 use Rattle.strm_pair.specs.AnyModules.{AnyStanding, IsHeld, keeps, module_in}
 use Rattle.strm_pair.specs.declared.stacks.Taken.{Taken}
+use Rattle.strm_pair.specs.ModuleLists.{closed-below, held-below, once-is}
 use Rattle.strm_pair.specs.Taken.{TookTop, let_go_of}
 
 -- nothing is left on a queue from which all went
@@ -25,15 +26,6 @@ none-behind q = by (none_goes of_all q)
 no-chain : (l : List (List Block)) → map message_of l ≡ [] → l ≡ []
 no-chain [] none = refl
 no-chain (chain ∷ l) none = absurd (cc)
-
--- the name that a list is of
-pub once-is : (l k : ℕ) → 0 < once l k → l ≡ k
-unfolding once
-once-is l k some = by (l == k) refl some
-  where
-    by : (b : Bool) → (l == k) ≡ b → 0 < cond {A = ℕ} b 1 0 → l ≡ k
-    by true same some = grind (arith, nat_tests)
-    by false other some = absurd (omega (arith, some))
 
 abbrev rest_of : {A : Type 0} → List A → List A
 rest_of [] = []
@@ -108,9 +100,10 @@ module _ (s t : StoreValue) (side : Side) (rule : Rule) where
           notes = notes ∙ ap (λ ps. (act ps).notes) was;
           tells = tells ∙ ap (λ ps. tallied (act ps).gone told) was;
           stays = ap rest_of all;
-          held = record { each = both.each.1; apart = λ k. omega (arith, both.apart k, sum_by-cons (λ z. owns z k) y c.modules.items) };
+          held = held-below t 0 y c.modules.items both;
           rests = λ i. omega (arith, rests i, ap (λ zs. all_of keeps zs i) behind, sum_by-cons (λ z. keeps z i) y c.modules.items);
           owns = λ k. omega (arith, owned k);
+          closed = λ j k le one some. closed-below t 0 y c.modules.items both j k le (omega (arith, one, owned j, sum_by-cons (λ z. owns z j) y c.modules.items)) some;
           others = own.lists;
           emptied = λ k some none. cleared-list x y k (ap (first_or (module_in t y)) all) (omega (arith, owned k, some, none));
           hand = hand;

@@ -22,6 +22,7 @@ pub mod Pairs
 pub mod PairViews
 pub mod Running
 pub mod StandWide
+pub mod Shelves
 pub mod Shows
 pub mod Pool
 pub mod Parts

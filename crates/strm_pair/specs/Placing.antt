@@ -1,12 +1,16 @@
 -- Modules of a text in a store.
-use Rattle.std.specs.Prelude.{ℕ, ◌≡◌, ◌≤◌, ◌+◌, true, List, [], Option, is_some, length, map, sum_by}
+use Rattle.std.specs.Prelude.{ℕ, ◌≡◌, ◌≤◌, ◌<◌, ◌+◌, List, [], length, map, sum_by}
 use Rattle.std.specs.List.{AllByRecursion}
 use Rattle.strm_pair.specs.Prelude.{MODULES, EachOnce, StoreValue, list_at, once, all_of, AreHeld, ModuleText, module_now, modules_now, names_now}
-use Rattle.strm_pair.specs.Prelude.{Tables, owns}
+use Rattle.strm_pair.specs.Prelude.{LISTS, owns}
 use Rattle.strm_types.specs.declared.limits.TheConstants.{SETTINGS_MAX}
 use Rattle.strm_image.specs.declared.modules.ModuleText.TheVariants as texts
 use Rattle.strm_pair.specs.AnyModules.{AnyStanding, IsHeld, keeps, module_in}
 use Rattle.strm_pair.specs.Runs.{Spent}
+use Rattle.strm_pair.specs.declared.shelves.Shelf.{Shelf}
+use Rattle.strm_pair.specs.Shelves.{Restocks, tables_on}
+use Rattle.strm_pair.specs.Shows.{one_pair}
+use Rattle.strm_pair.specs.Streams.{AreFor}
 use Rattle.strm_pair.specs.Standing.{FillsTwo, IsLdtermText, ldterm_blocks}
 
 -- how many blocks the messages of a module take
@@ -23,27 +27,30 @@ IsModuleText (texts.Ptem p) = Unit {0}
 IsModuleText texts.Pckt = Unit {0}
 IsModuleText (texts.Own o) = length o.settings.now ≤ SETTINGS_MAX
 
--- 1 for each list that is a module's own, of two from a number on: an ldterm has both
-abbrev pub own_of : ℕ → ℕ → ModuleText → ℕ
-own_of first k (texts.Ldterm l) = once first k + once (first + 1) k
-own_of first k (texts.Ptem p) = 0
-own_of first k texts.Pckt = 0
-own_of first k (texts.Own o) = 0
+-- 1 for one that has queues: an ldterm
+abbrev pub pair_of : ModuleText → ℕ
+pair_of (texts.Ldterm l) = 1
+pair_of (texts.Ptem p) = 0
+pair_of texts.Pckt = 0
+pair_of (texts.Own o) = 0
 
--- an ldterm finds nothing on its lists, and its tables on the shelf
-abbrev pub IsFreeFor : StoreValue → ℕ → Option Tables → ModuleText → Type 0
-IsFreeFor s first shelf (texts.Ldterm l) = (list_at s first ≡ []) × ((list_at s (first + 1) ≡ []) × (is_some shelf ≡ true))
-IsFreeFor s first shelf (texts.Ptem p) = Unit {0}
-IsFreeFor s first shelf texts.Pckt = Unit {0}
-IsFreeFor s first shelf (texts.Own o) = Unit {0}
+-- One that has queues finds nothing on its lists, which are two from a number on, and tables on the shelf.
+pub record IsFreeFor (s : StoreValue) (first : ℕ) (shelf : Shelf) : Type 0 where
+  pub list : first + 1 < LISTS
+  pub reads : list_at s first ≡ []
+  pub writes : list_at s (first + 1) ≡ []
+  pub tables : 0 < tables_on shelf
 
--- A module stands as a text has it. It keeps nothing in hand. Where it has no list of its own, the store and the shelf are as they were.
-pub record IsPlaced (old new : StoreValue) (first : ℕ) (was is : Option Tables) (text : ModuleText) (x : AnyStanding) : Type 0 where
+-- A module stands as a text has it. It keeps nothing in hand. Its queues stand on the two lists, and no other list changed; where it has none the store and
+-- the shelf are as they were.
+pub record IsPlaced (old new : StoreValue) (first : ℕ) (was is : Shelf) (text : ModuleText) (x : AnyStanding) : Type 0 where
   pub state : module_in new x ≡ module_now text
   pub held : IsHeld new x
   pub rests : (i : ℕ) → keeps x i ≡ 0
-  pub own : (k : ℕ) → owns x k ≡ own_of first k text
-  pub stays : owns x first ≡ 0 → (new ≡ old) × (is ≡ was)
+  pub pairs : one_pair x.queues ≡ pair_of text
+  pub own : 0 < pair_of text → (k : ℕ) → owns x k ≡ once first k + once (first + 1) k
+  pub stays : pair_of text ≡ 0 → new ≡ old
+  pub shelf : Restocks was is 0 (pair_of text)
   pub fills : FillsTwo old new first
   pub spent : Spent old new (module_blocks text)
 
@@ -53,13 +60,15 @@ pub record AreModuleTexts (ms : List ModuleText) : Type 0 where
   pub each : AllByRecursion IsModuleText ms
   pub names : EachOnce (names_now ms)
 
--- Modules stand as a text has them, the one on top first. While none has queues, the lists for these are empty, and their tables are on the shelf.
-pub record AreStacked (old new : StoreValue) (first : ℕ) (ms : List ModuleText) (xs : List AnyStanding)
-    (shelf : Option Tables) : Type 0 where
+-- Modules stand as a text has them, the one on top first, on six lists of a store from a number on, and no other list changed.
+pub record AreStacked (old new : StoreValue) (first : ℕ) (was is : Shelf) (ms : List ModuleText) (xs : List AnyStanding) : Type 0 where
   pub state : map (module_in new) xs ≡ modules_now ms
   pub held : AreHeld IsHeld owns new xs
   pub rests : (i : ℕ) → all_of keeps xs i ≡ 0
-  pub own : (k : ℕ) → all_of owns xs k ≡ sum_by (own_of first k) ms
-  pub free : all_of owns xs first ≡ 0 → (list_at new first ≡ []) × ((list_at new (first + 1) ≡ []) × (is_some shelf ≡ true))
-  pub fills : FillsTwo old new first
+  pub lists : AreFor new first (all_of owns xs)
+  pub shelf : Restocks was is 0 (sum_by pair_of ms)
+  pub others : (k : ℕ) → (first ≤ k → first + 6 ≤ k) → list_at new k ≡ list_at old k
+  pub hand : new.hand ≡ old.hand
+  pub mblks : new.mblks ≡ old.mblks
+  pub dblks : new.dblks ≡ old.dblks
   pub spent : Spent old new (sum_by module_blocks ms)

@@ -29,6 +29,7 @@ pub mod restore_laws;
 mod room;
 mod scheduler;
 mod service_calls;
+mod shelves;
 mod stacks;
 mod stations;
 mod streams;

@@ -8,7 +8,9 @@ ghost use Rattle.strm_types.specs.Flush.{is_data_kind};
 ghost use Rattle.strm_types.specs.Typing.{bare};
 ghost use Rattle.strm_types.specs.Tables.{own_does};
 ghost use Rattle.strm_types.specs.declared.rules.Fates.{Fates};
+ghost use Rattle.strm_types.specs.declared.names.ModuleName.TheVariants.{Own as NamedOwn};
 ghost use Rattle.strm_types.specs.declared.names.Way.TheVariants.{Up};
+ghost use Rattle.strm_types.specs.Names.{have_queues};
 ghost use Rattle.strm_types.specs.declared.limits.TheConstants.{MODULES, SETTINGS_MAX};
 ghost use Rattle.strm_types.specs.Owns.{Own};
 ghost use Rattle.strm_laws.specs.Behaviours.{fresh_own, passes_all};
@@ -98,6 +100,14 @@ pub trait OwnModule: Behaves {
     /// Whether a put may take blocks anew for those that it frees.
     ghost wide: { Bool };
 
+    /// Whether any of them have queues.
+    ghost queued: { Bool };
+
+    /// Whether any of them have queues, which those of the numbers from `OWN_QUEUED` on have. Where none has, a pair reserves the memory of the queues of
+    /// one module for each side's stream, and else that of three.
+    fn queued() -> bool
+        ensures { result ≡ queued };
+
     /// One of a number, as it is pushed. `None` where there are none of the number (streamio(7I): I_PUSH).
     fn made(number: u8) -> Option<Own>
         ensures { MatchOption result (Self.does.knows number ≡ false)
@@ -118,6 +128,9 @@ pub trait OwnModule: Behaves {
         ensures { let s = B.value store.old in let m = message_in s (token message) in
             OwnPuts s (B.value store.new) own.new (token message) (own_at own_does here m) result told.old told.new
             (Self.does.puts plain here m own.old) };
+
+    /// Where there are some of a number, and these have queues, some have.
+    ghost queues: { (n : ℕ) → Self.does.knows n ≡ true → have_queues (NamedOwn n) ≡ true → queued ≡ true };
 }
 
 /// Hands a message on, as a module does that leaves it as it is (STREAMS Programming Guide, "Put Procedures").
@@ -180,6 +193,14 @@ impl Behaves for NoModule {
 
 impl OwnModule for NoModule {
     ghost wide = { false };
+
+    ghost queued = { false };
+
+    ghost queues = { λ n known has. Prim.cc };
+
+    fn queued() -> bool {
+        false
+    }
 
     fn made(_number: u8) -> Option<Own> {
         None

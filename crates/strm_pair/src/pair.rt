@@ -34,6 +34,7 @@ use crate::ledgers::sum;
 use crate::own::{NoModule, OwnModule};
 use crate::past::Past;
 use crate::refusals::or_else;
+use crate::shelves::Shelf;
 use crate::streams::{Streams, queue_tables};
 use std::alloc::Global;
 use std::marker::{Model, PhantomData};
@@ -50,6 +51,7 @@ use strm_types::{
 pub struct Pair<B: Blocks + Drop, M: OwnModule = NoModule> {
     store: B,
     streams: Streams,
+    shelf: Shelf,
     journal: Journal,
     base: Base,
     limits: Config,
@@ -75,7 +77,7 @@ impl<B: Blocks + Drop, M: OwnModule> Model for Pair<B, M> {
 
     ghost view = { λ p. pair_of (B.value p.store) p.streams p.journal (start_in p.base) p.limits p.fates };
 
-    ghost invariant = { λ p. IsWhole M.does M.wide (B.value p.store) p.streams p.journal p.base p.limits p.fates };
+    ghost invariant = { λ p. IsWhole M.does M.wide M.queued (B.value p.store) p.streams p.shelf p.journal p.base p.limits p.fates };
 }
 
 impl<B: Blocks + Drop, M: OwnModule> Pair<B, M> {
@@ -92,7 +94,7 @@ impl<B: Blocks + Drop, M: OwnModule> Pair<B, M> {
             (λ p. p ≡ new_pair (sizes_over (B.value store) sizes))
             (λ e. B.value e.1 ≡ B.value store) }
     {
-        let Ok(tables) = queue_tables(alloc) else {
+        let Ok(tables) = queue_tables::<M>(alloc) else {
             return Err((NoMemory, store));
         };
         let Ok(journal) = Journal::new(alloc, sizes.journal_events, sizes.journal_bytes) else {
@@ -103,7 +105,7 @@ impl<B: Blocks + Drop, M: OwnModule> Pair<B, M> {
         let Ok(memory) = Vec::with_capacity(alloc, IMAGE_FIXED + IMAGE_BLOCK * mblks) else {
             return Err((NoMemory, store));
         };
-        let streams = Streams::new(tables);
+        let streams = Streams::new(tables.ends);
         let fates = Fates::none();
         let base = Base::at(&store, &streams, &fates, memory);
         let limits = Config {
@@ -114,6 +116,7 @@ impl<B: Blocks + Drop, M: OwnModule> Pair<B, M> {
         Ok(Pair {
             store,
             streams,
+            shelf: tables.shelf,
             journal,
             base,
             limits,
@@ -128,7 +131,7 @@ impl<B: Blocks + Drop, M: OwnModule> Pair<B, M> {
         ensures { self.new ≡ new_pair self.old.limits }
     {
         self.store.reset();
-        self.streams.renew();
+        self.streams.renew(&mut self.shelf);
         self.journal.clear();
         self.fates = Fates::none();
         self.base.past = Past::none();

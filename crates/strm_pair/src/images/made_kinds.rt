@@ -2,6 +2,7 @@
 
 ghost use Rattle.std.specs.Prelude.{◌≡◌, ◌≤◌, ◌<◌, ◌+◌, ℕ, [], length, Some};
 ghost use Rattle.strm_types.specs.declared.keys.TheConstants.{LINE_MAX};
+ghost use Rattle.strm_types.specs.declared.limits.TheConstants.{LISTS};
 ghost use Rattle.strm_blocks.specs.Blocks.{StoreValue, list_at};
 ghost use Rattle.strm_frame.specs.declared.queue_pair.QueuePair as pairs;
 ghost use Rattle.strm_frame.specs.Hands.{HasRoom, once};
@@ -36,7 +37,7 @@ pub(crate) fn pair_of<B: Blocks>(
     tables: Tables,
     text: &LdtermText<'_>,
 ) -> QueuePair
-    requires first { first ≤ 6 }
+    requires first { first + 1 < LISTS }
     requires reads { list_at (B.value store.old) first ≡ [] }
     requires writes { list_at (B.value store.old) (first + 1) ≡ [] }
     requires room { HasRoom (B.value store.old) (ldterm_blocks text.now) }

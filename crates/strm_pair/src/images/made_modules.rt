@@ -1,14 +1,15 @@
 //! Modules of any kind as a text has them.
 
-ghost use Rattle.std.specs.Prelude.{◌≤◌};
+ghost use Rattle.std.specs.Prelude.{◌<◌};
 ghost use Rattle.strm_frame.specs.Hands.{HasRoom};
-ghost use Rattle.strm_pair.specs.Placing.{IsFreeFor, IsModuleText, IsPlaced, module_blocks};
+ghost use Rattle.strm_pair.specs.Placing.{IsFreeFor, IsModuleText, IsPlaced, module_blocks, pair_of};
 
 use crate::images::made_kinds::{ldterm_of, pair_of};
 use crate::modules::AnyModule;
 use crate::own::Own;
+use crate::shelves::Shelf;
 use strm_blocks::Blocks;
-use strm_frame::{Standing, Tables};
+use strm_frame::Standing;
 use strm_image::ModuleText;
 use strm_pty::{Pckt, Ptem};
 
@@ -17,23 +18,19 @@ use strm_pty::{Pckt, Ptem};
 pub(crate) fn module_of<B: Blocks>(
     store: &mut B,
     first: usize,
-    shelf: &mut Option<Tables>,
+    shelf: &mut Shelf,
     text: &ModuleText<'_>,
 ) -> Standing<AnyModule>
-    requires first { first ≤ 6 }
-    requires free { IsFreeFor (B.value store.old) first shelf.old text.now }
+    requires free { 0 < pair_of text.now → IsFreeFor (B.value store.old) first shelf.old }
     requires good { IsModuleText text.now }
     requires room { HasRoom (B.value store.old) (module_blocks text.now) }
     ensures { IsPlaced (B.value store.old) (B.value store.new) first shelf.old shelf.new text.now result }
 {
     match text {
         ModuleText::Ldterm(found) => {
-            let Some(tables) = shelf.take() else {
-                unreachable!()
-            };
             Standing {
                 module: AnyModule::Ldterm(ldterm_of(found)),
-                queues: Some(pair_of(store, first, tables, found)),
+                queues: Some(pair_of(store, first, shelf.take(), found)),
             }
         }
         ModuleText::Ptem(found) => Standing {

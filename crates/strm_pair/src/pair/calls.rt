@@ -47,7 +47,7 @@ impl<B: Blocks + Drop, M: OwnModule> Pair<B, M> {
         let told = &mut self.fates;
         let answer = self
             .streams
-            .carry_out::<B, M>(&mut self.store, caller, event, out, told);
+            .carry_out::<B, M>(&mut self.shelf, &mut self.store, caller, event, out, told);
         self.journal.add_call(caller, event, answer, out.as_slice());
         answer
     }

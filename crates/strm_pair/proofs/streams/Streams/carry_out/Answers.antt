@@ -90,9 +90,7 @@ returns-in-OpenMaster-clause-leads g c =
         driver = is.driver;
         stack = is.stack;
         once = is.once;
-        owned = is.owned;
-        spare = is.spare;
-        shelf = is.shelf;
+        lists = is.lists;
       });
       pool = record { mblks = refl; dblks = refl };
     })
