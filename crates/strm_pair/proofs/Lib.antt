@@ -13,6 +13,9 @@ pub mod ModuleTaken
 pub mod Takings
 pub mod Dropping
 pub mod Puttings
+pub mod StackTops
+pub mod ShelfSteps
+pub mod CallsStand
 pub mod ModulePushed
 pub mod Modes
 pub mod PlaceCosts

@@ -1,15 +1,19 @@
 -- Both streams of a text, one after the other, in a store that holds nothing.
-use Rattle.strm_pair.proofs.Prelude.{ℕ, ◌≡◌, ◌≤◌, ◌<◌, ◌+◌, List, [], refl, ap, ◌∙◌, arith, replicate, slice_index_or, each-side}
-use Rattle.strm_pair.specs.Prelude.{LISTS, Stream, Block, StoreValue, list_at, HasRoom}
+use Rattle.strm_pair.proofs.Prelude.{ℕ, ◌≡◌, ◌≤◌, ◌<◌, ◌+◌, List, [], refl, ap, ◌∙◌, arith, map, sum_by, sym, replicate, slice_index_or, each-side}
+use Rattle.strm_pair.specs.Prelude.{LISTS, Openness, Side, Stream, Block, StoreValue, StreamText, list_at, HasRoom, GoodStream, module_name}
 use Rattle.strm_pair.specs.declared.ends.StreamEnd.{StreamEnd}
 use Rattle.strm_pair.specs.Framing.{still}
-use Rattle.strm_pair.specs.Laying.{IsStood}
+use Rattle.strm_pair.specs.Laying.{IsStood, stream_now}
 use Rattle.strm_pair.specs.Lists.{first_list}
 use Rattle.strm_pair.specs.Pairs.{Stays}
+use Rattle.strm_pair.specs.Placing.{text_pair}
 use Rattle.strm_pair.specs.Runs.{Spent}
+use Rattle.strm_pair.specs.Shelves.{pairs_named}
 use Rattle.strm_pair.specs.Stacks.{stack_keeps}
 use Rattle.strm_pair.specs.Streams.{IsBlank, IsSide, AreSides, stream_in}
+use Rattle.strm_pair.proofs.ShelfSteps.{good-named}
 use Rattle.strm_pair.proofs.Sides.{no-list, side-stays, stream-stays}
+use Rattle.strm_pair.proofs.StacksMade.{text-pairs}
 
 -- each list of such a store is empty
 module _ (s : StoreValue) (lists : s.lists ≡ replicate LISTS []) where
@@ -56,3 +60,8 @@ module _ {s t : StoreValue} {p : Stream ℕ} {m : ℕ} {e : StreamEnd} (master :
     mblks = omega (arith, room.mblks, master.spent.mblks);
     dblks = omega (arith, room.dblks, master.spent.dblks);
   }
+
+-- how many modules of a text have queues
+pub text-named : (side : Side) (opened : Openness) (text : StreamText) → GoodStream side (stream_now opened text)
+    → sum_by text_pair text.modules.items ≡ pairs_named (map module_name (stream_now opened text).modules)
+text-named side opened text good = sym (text-pairs text.modules.items) ∙ good-named (stream_now opened text).modules good.modules.each

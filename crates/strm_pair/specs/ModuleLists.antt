@@ -48,6 +48,29 @@ second-is r w k less some = by (once r k) refl
     by zero none = once-is w k (omega (arith, some, none))
     by (suc n) one = let at = once-is r k (omega (arith, one)) in absurd (omega (arith, at, less))
 
+-- one that is either of two that follow one another, and those that are
+pub either-once : (a k : ℕ) → a ≤ k → k < a + 2 → once a k + once (a + 1) k ≡ 1
+unfolding once
+either-once a k low high = at (a == k) refl
+  where
+    at : (v : Bool) → (a == k) ≡ v → cond {A = ℕ} v 1 0 + cond {A = ℕ} (a + 1 == k) 1 0 ≡ 1
+    at true is = let no : (a + 1 == k) ≡ false = grind (arith, nat_tests) in rw no refl
+    at false is = let yes : (a + 1 == k) ≡ true = grind (arith, nat_tests) in rw yes refl
+
+pub either-within : (a k : ℕ) → 0 < once a k + once (a + 1) k → (a ≤ k) × (k < a + 2)
+either-within a k some = by (once a k) refl
+  where
+    by : (n : ℕ) → once a k ≡ n → (a ≤ k) × (k < a + 2)
+    by zero none = let at = once-is (a + 1) k (omega (arith, some, none)) in (omega (arith, at), omega (arith, at))
+    by (suc n) one = let at = once-is a k (omega (arith, one)) in (omega (arith, at), omega (arith, at))
+
+pub either-few : (a k : ℕ) → once a k + once (a + 1) k ≤ 1
+either-few a k = by (once a k + once (a + 1) k) refl
+  where
+    by : (n : ℕ) → once a k + once (a + 1) k ≡ n → once a k + once (a + 1) k ≤ 1
+    by zero none = omega (arith, none)
+    by (suc n) some = let at = either-within a k (omega (arith, some)) in omega (arith, either-once a k at.0 at.1)
+
 module _ (s : StoreValue) where
   one-same : (queues : Option QueuePair) → one_pair (queues_in s queues) ≡ one_pair queues
   one-same None = refl

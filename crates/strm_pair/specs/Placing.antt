@@ -28,11 +28,11 @@ IsModuleText texts.Pckt = Unit {0}
 IsModuleText (texts.Own o) = length o.settings.now ≤ SETTINGS_MAX
 
 -- 1 for one that has queues: an ldterm
-abbrev pub pair_of : ModuleText → ℕ
-pair_of (texts.Ldterm l) = 1
-pair_of (texts.Ptem p) = 0
-pair_of texts.Pckt = 0
-pair_of (texts.Own o) = 0
+abbrev pub text_pair : ModuleText → ℕ
+text_pair (texts.Ldterm l) = 1
+text_pair (texts.Ptem p) = 0
+text_pair texts.Pckt = 0
+text_pair (texts.Own o) = 0
 
 -- One that has queues finds nothing on its lists, which are two from a number on, and tables on the shelf.
 pub record IsFreeFor (s : StoreValue) (first : ℕ) (shelf : Shelf) : Type 0 where
@@ -47,10 +47,10 @@ pub record IsPlaced (old new : StoreValue) (first : ℕ) (was is : Shelf) (text 
   pub state : module_in new x ≡ module_now text
   pub held : IsHeld new x
   pub rests : (i : ℕ) → keeps x i ≡ 0
-  pub pairs : one_pair x.queues ≡ pair_of text
-  pub own : 0 < pair_of text → (k : ℕ) → owns x k ≡ once first k + once (first + 1) k
-  pub stays : pair_of text ≡ 0 → new ≡ old
-  pub shelf : Restocks was is 0 (pair_of text)
+  pub pairs : one_pair x.queues ≡ text_pair text
+  pub own : 0 < text_pair text → (k : ℕ) → owns x k ≡ once first k + once (first + 1) k
+  pub stays : text_pair text ≡ 0 → new ≡ old
+  pub shelf : Restocks was is 0 (text_pair text)
   pub fills : FillsTwo old new first
   pub spent : Spent old new (module_blocks text)
 
@@ -66,7 +66,7 @@ pub record AreStacked (old new : StoreValue) (first : ℕ) (was is : Shelf) (ms 
   pub held : AreHeld IsHeld owns new xs
   pub rests : (i : ℕ) → all_of keeps xs i ≡ 0
   pub lists : AreFor new first (all_of owns xs)
-  pub shelf : Restocks was is 0 (sum_by pair_of ms)
+  pub shelf : Restocks was is 0 (sum_by text_pair ms)
   pub others : (k : ℕ) → (first ≤ k → first + 6 ≤ k) → list_at new k ≡ list_at old k
   pub hand : new.hand ≡ old.hand
   pub mblks : new.mblks ≡ old.mblks

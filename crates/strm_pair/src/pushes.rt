@@ -93,8 +93,8 @@ impl Streams {
         ensures met { IfSome result
             (λ taken. taken.met ≡ is_met seeking (below_top (stream side (state_in (B.value store.old) self.old)).modules)) }
     {
-        let stack = &mut self.ends.get_mut(side).stack;
-        take_top(stack, shelf, store, side, rule, seeking, told)
+        let end = self.ends.get_mut(side);
+        take_top(&mut end.stack, shelf, store, side, rule, seeking, told)
     }
 
     /// Takes the module off that is on top of a side's stream, and tells its name, where one stands there: what stands on its

@@ -176,9 +176,9 @@ pub(crate) fn push_named<B: Blocks, M: OwnModule>(
     let Some(module) = AnyModule::made::<M>(name) else {
         unreachable!()
     };
-    let list = first + 2 + 2 * pairs_among(stack.modules.as_slice());
+    let pairs = pairs_among(stack.modules.as_slice());
     let _ = stack.push(Standing {
         module,
-        queues: queues_for(name, list, shelf),
+        queues: queues_for(name, first + 2 + 2 * pairs, shelf),
     });
 }

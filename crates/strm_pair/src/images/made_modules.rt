@@ -2,7 +2,7 @@
 
 ghost use Rattle.std.specs.Prelude.{◌<◌};
 ghost use Rattle.strm_frame.specs.Hands.{HasRoom};
-ghost use Rattle.strm_pair.specs.Placing.{IsFreeFor, IsModuleText, IsPlaced, module_blocks, pair_of};
+ghost use Rattle.strm_pair.specs.Placing.{IsFreeFor, IsModuleText, IsPlaced, module_blocks, text_pair};
 
 use crate::images::made_kinds::{ldterm_of, pair_of};
 use crate::modules::AnyModule;
@@ -21,7 +21,7 @@ pub(crate) fn module_of<B: Blocks>(
     shelf: &mut Shelf,
     text: &ModuleText<'_>,
 ) -> Standing<AnyModule>
-    requires free { 0 < pair_of text.now → IsFreeFor (B.value store.old) first shelf.old }
+    requires free { 0 < text_pair text.now → IsFreeFor (B.value store.old) first shelf.old }
     requires good { IsModuleText text.now }
     requires room { HasRoom (B.value store.old) (module_blocks text.now) }
     ensures { IsPlaced (B.value store.old) (B.value store.new) first shelf.old shelf.new text.now result }

@@ -3,7 +3,7 @@
 ghost use Rattle.std.specs.Prelude.{ℕ, ◌≡◌, ◌≤◌, ◌<◌, ◌+◌, [], sum_by};
 ghost use Rattle.strm_blocks.specs.Blocks.{list_at};
 ghost use Rattle.strm_frame.specs.Hands.{HasRoom};
-ghost use Rattle.strm_pair.specs.Placing.{AreModuleTexts, AreStacked, module_blocks, pair_of};
+ghost use Rattle.strm_pair.specs.Placing.{AreModuleTexts, AreStacked, module_blocks, text_pair};
 ghost use Rattle.strm_pair.specs.Shelves.{tables_on};
 
 use crate::images::made_modules::module_of;
@@ -22,7 +22,7 @@ pub(crate) fn stack_of<B: Blocks>(
 ) -> Stack
     requires first { first ≤ 10 }
     requires empty { (k : ℕ) → first ≤ k → k < first + 6 → list_at (B.value store.old) k ≡ [] }
-    requires shelf { sum_by pair_of texts.now ≤ tables_on shelf.old }
+    requires shelf { sum_by text_pair texts.now ≤ tables_on shelf.old }
     requires good { AreModuleTexts texts.now }
     requires room { HasRoom (B.value store.old) (sum_by module_blocks texts.now) }
     ensures { AreStacked (B.value store.old) (B.value store.new) first shelf.old shelf.new texts.now result.modules.items }
@@ -31,8 +31,8 @@ pub(crate) fn stack_of<B: Blocks>(
         return Stack::new();
     };
     let mut stack = stack_of(store, first, shelf, rest);
-    let list = first + 2 * pairs_among(stack.modules.as_slice());
-    let module = module_of(store, list, shelf, text);
+    let pairs = pairs_among(stack.modules.as_slice());
+    let module = module_of(store, first + 2 * pairs, shelf, text);
     stack.modules.insert(0, module);
     stack
 }

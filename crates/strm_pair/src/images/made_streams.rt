@@ -5,7 +5,7 @@ ghost use Rattle.strm_frame.specs.Hands.{HasRoom};
 ghost use Rattle.strm_image.specs.Counts.{laid_blocks};
 ghost use Rattle.strm_image.specs.StreamTexts.{laid_now};
 ghost use Rattle.strm_pair.specs.Laying.{IsStood, IsStreamText, stream_now};
-ghost use Rattle.strm_pair.specs.Placing.{pair_of};
+ghost use Rattle.strm_pair.specs.Placing.{text_pair};
 ghost use Rattle.strm_pair.specs.Shelves.{Restocks, tables_on};
 ghost use Rattle.strm_pair.specs.Streams.{IsBlank};
 
@@ -30,12 +30,12 @@ pub(crate) fn end_of<B: Blocks>(
     text: &StreamText<'_>,
 ) -> StreamEnd
     requires first { first ≤ 8 }
-    requires shelf { sum_by pair_of text.now.modules.items ≤ tables_on shelf.old }
+    requires shelf { sum_by text_pair text.now.modules.items ≤ tables_on shelf.old }
     requires blank { IsBlank (B.value store.old) first }
     requires good { IsStreamText text.now }
     requires room { HasRoom (B.value store.old) (laid_blocks (laid_now text.now)) }
     ensures stood { IsStood (B.value store.old) (B.value store.new) first (stream_now opened text.now) (laid_blocks (laid_now text.now)) result }
-    ensures shelf { Restocks shelf.old shelf.new 0 (sum_by pair_of text.now.modules.items) }
+    ensures shelf { Restocks shelf.old shelf.new 0 (sum_by text_pair text.now.modules.items) }
 {
     let queue = queue_of(store, first, tables.head, &text.head);
     let driver = queue_of(store, first + 1, tables.driver, &text.driver);

@@ -16,3 +16,9 @@ returns-in-Some-queues_of-clause-rest c = λ x xs is.
       | in-Some w ↦ rw w.stack-is (rw c.as_mut_slice.ensures.value (rw is (take-append_seam xs _)))
       | in_default w ↦ rw w.stack-is (rw c.as_mut_slice.ensures.value (rw is (take-append_seam xs _)))
     ]
+
+pub put-requires : goal.put-requires
+put-requires c = ?
+
+pub returns-clause-shelf : goal.returns-clause-shelf
+returns-clause-shelf c = ?

@@ -1,10 +1,12 @@
 -- The head is told its mode, the module stands there, and what waits before it may come.
 use Rattle.strm_pair.proofs.Prelude.{ℕ, ◌≡◌, ◌∷◌, ap, sym, subst, ◌∙◌, Option, Some, IfSome}
-use Rattle.strm_pair.specs.Prelude.{Carried, tallied, may_stand, mode_put, named_by, with_modules, have_queues, State, stream}
+use Rattle.strm_pair.specs.Prelude.{Carried, tallied, may_stand, mode_put, named_by, with_modules, have_queues, stands_of, State, stream}
 use Rattle.strm_pair.specs.declared.streams.Streams.{Streams}
 use Rattle.std.specs.List.{AllByRecursion}
 use Rattle.strm_pair.specs.AnyModules.{HasAsNamed, all-have}
 use Rattle.strm_pair.specs.Pairs.{end_at, state_in, AreHeld}
+use Rattle.strm_pair.proofs.CallsStand.{put-mode-stands}
+use Rattle.strm_pair.proofs.ShelfSteps.{push-left, stocked-moved, stocked-same}
 use Rattle.strm_pair.proofs.Sides.{modules-are}
 use Rattle.strm_pair.proofs.ModulePushed.{made-named}
 use Rattle.strm_pair.proofs.Modes.{driver_comes, modules-stay, pushed-is}
@@ -50,3 +52,26 @@ returns-clause-leads g c =
       held = subst (λ (p : Streams). AreHeld t p) (sym c.come_from_driver.ensures) (record { hand = held.hand; beside = held.beside });
       pool = told.pool;
     })
+
+pub put_on-requires-clause-shelf : goal.put_on-requires-clause-shelf
+put_on-requires-clause-shelf g c =
+    let K = g.M.Behaves.does in
+    let now = g.B.Blocks.value c.args.store.now in
+    let s = state_in now c.args.self.now in
+    let may = ap (λ (o : Option _). may_stand (named_by K o) (stream c.args.side s).modules) (sym c.in-Some.is) ∙ c.requires.may_stand in
+    push-left K g.M.OwnModule.queued g.met.M.OwnModule.queues c.args.shelf.now now c.args.self.now c.args.side c.in-Some.name c.requires.rests.held.beside c.requires.known c.requires.stocked may
+
+pub returns-in_default-clause-stocked : goal.returns-in_default-clause-stocked
+returns-in_default-clause-stocked g c = c.requires.stocked
+
+pub returns-clause-stocked : goal.returns-clause-stocked
+returns-clause-stocked g c =
+    let q = g.M.OwnModule.queued in
+    let now = g.B.Blocks.value c.args.store.now in
+    let t = g.B.Blocks.value c.put_mode.new.store in
+    let s = state_in now c.args.self.now in
+    let u = state_in t c.put_mode.new.self in
+    let v = state_in t c.put_on.new.self in
+    let first = stocked-same q c.args.shelf.now (stands_of s) (stands_of u) (ap (λ (x : State ℕ). stands_of x) c.put_mode.ensures.state ∙ put-mode-stands c.args.side c.mode_on_push.result s) c.requires.stocked in
+    let second = stocked-moved q c.args.shelf.now c.put_on.new.shelf t t c.put_mode.new.self c.put_on.new.self c.put_mode.ensures.held.beside c.put_on.ensures.held.beside c.put_on.ensures.shelf first in
+    stocked-same q c.put_on.new.shelf (stands_of v) (stands_of (state_in t c.come_from_driver.new.self)) (ap (λ (p : Streams). stands_of (state_in t p)) c.come_from_driver.ensures) second

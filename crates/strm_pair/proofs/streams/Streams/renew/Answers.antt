@@ -1,5 +1,5 @@
 -- Streams over a store with nothing in it.
-use Rattle.strm_pair.proofs.Prelude.{refl, each-side}
+use Rattle.strm_pair.proofs.Prelude.{arith, refl, each-side}
 use Rattle.strm_pair.specs.Prelude.{empty_store, Master, Slave, Both}
 use Rattle.strm_pair.specs.declared.ends.StreamEnd.{StreamEnd}
 use Rattle.strm_pair.specs.Lists.{first_list}
@@ -22,3 +22,15 @@ returns-clause-held c = λ s mblks dblks beside.
       hand = refl;
       beside = each-side (λ side e. IsSide t (first_list side) e) ends (c.renew.ensures.side s t 0 (beside Master) b.0) (c.renew-2.ensures.side s t 8 (beside Slave) b.1);
     }
+
+pub renew-requires : goal.renew-requires
+renew-requires c = omega (arith, c.requires)
+
+pub renew-2-requires : goal.renew-2-requires
+renew-2-requires c = omega (arith, c.requires, c.renew.ensures.shelf.tables, c.renew.ensures.shelf.room)
+
+pub returns-clause-shelf : goal.returns-clause-shelf
+returns-clause-shelf c = record {
+  tables = omega (arith, c.renew.ensures.shelf.tables, c.renew-2.ensures.shelf.tables);
+  room = omega (arith, c.renew.ensures.shelf.room, c.renew-2.ensures.shelf.room);
+}

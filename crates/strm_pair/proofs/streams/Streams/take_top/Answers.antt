@@ -11,7 +11,7 @@ pub returns-in_default-clause-taken : goal.returns-in_default-clause-taken
 returns-in_default-clause-taken g c =
     let e = c.take_off.ensures in
     none-went c.args.side c.args.rule (g.B.Blocks.value c.args.store.now) (g.B.Blocks.value c.take_off.new.store) c.args.self.now c.take_off.new.self c.args.told.now c.take_off.new.told
-    c.requires.held (rw c.in_default.is at e.none) (rw c.in_default.is at e.took)
+    c.requires.rests.held (rw c.in_default.is at e.none) (rw c.in_default.is at e.took)
 
 pub returns-clause-taken : goal.returns-clause-taken
 returns-clause-taken g c =
@@ -21,10 +21,16 @@ returns-clause-taken g c =
     let e = c.take_off.ensures in
     let taken = c.in-Some.taken in
     let took = rw c.in-Some.is at e.took in
-    top-went c.args.side c.args.rule s p c.requires.held c.args.told.now (g.B.Blocks.value c.take_off.new.store) c.take_off.new.self c.take_off.new.told taken c.forget.new.self e.streams e.shelf took
+    top-went c.args.side c.args.rule s p c.requires.rests.held c.args.told.now (g.B.Blocks.value c.take_off.new.store) c.take_off.new.self c.take_off.new.told taken c.forget.new.self e.streams took
     (c.forget.ensures ∙ ap (without_module c.args.side taken.name)
     (c.note.ensures
     ∙ noted-same c.args.side c.place-place.result (earlier_of c.earlier-earlier.result) (earlier_at c.args.side 1 st) (λ way. c.earlier-earlier.ensures s way) c.as_slice.result.now c.take_off.new.self.enabled
     ∙ ap (λ ns. noted c.args.side c.place-place.result (earlier_at c.args.side 1 st) ns c.take_off.new.self.enabled) c.as_slice.ensures.value
     ∙ ap (λ pl. noted c.args.side pl (earlier_at c.args.side 1 st) taken.notes.items c.take_off.new.self.enabled) c.place-place.ensures
     ∙ ap (λ names. noted c.args.side (place_of taken.name) (earlier_at c.args.side 1 st) taken.notes.items names) (ap (λ (r : Streams). r.enabled) e.streams)))
+
+pub returns-in_default-clause-shelf : goal.returns-in_default-clause-shelf
+returns-in_default-clause-shelf g c = c.take_off.ensures.shelf
+
+pub returns-clause-shelf : goal.returns-clause-shelf
+returns-clause-shelf g c = c.take_off.ensures.shelf
