@@ -76,8 +76,17 @@ impl Behaves for ByteCounter {
 
 impl OwnModule for ByteCounter {
     ghost use Rattle.std.specs.Prelude.{false};
+    ghost use Rattle.byte_counter.specs.ByteCounterLaws.{byte_counter-queues};
 
     ghost wide = { false };
+
+    ghost queued = { false };
+
+    ghost queues = { byte_counter-queues };
+
+    fn queued() -> bool {
+        false
+    }
 
     fn made(number: u8) -> Option<Own> {
         if number == NUMBER {

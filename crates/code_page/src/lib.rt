@@ -40,9 +40,18 @@ impl Behaves for CodePage {
 }
 
 impl OwnModule for CodePage {
-    ghost use Rattle.std.specs.Prelude.{true};
+    ghost use Rattle.std.specs.Prelude.{true, false};
+    ghost use Rattle.code_page.specs.PageLaws.{page-queues};
 
     ghost wide = { true };
+
+    ghost queued = { false };
+
+    ghost queues = { page-queues };
+
+    fn queued() -> bool {
+        false
+    }
 
     fn made(number: u8) -> Option<Own> {
         if number == CODE_PAGE {
