@@ -270,13 +270,7 @@ impl Streams {
         ensures shelf { Restocks shelf.old shelf.new (pairs_in self.old) (pairs_in self.new) }
     {
         let end = self.ends.get_mut(side);
-        push_named::<B, M>(
-            &mut end.stack,
-            shelf,
-            store,
-            name,
-            first_list(side),
-        );
+        push_named::<B, M>(&mut end.stack, shelf, store, name, first_list(side));
     }
 
     // What the other side's driver has may come to the read queue of the module on top, which has this name, where it has one: it comes to no other

@@ -34,8 +34,8 @@ use strm_frame::Enabled;
 use strm_head::Head;
 use strm_queue::{HEAD_HIGH, HEAD_LOW, OTHER_HIGH, OTHER_LOW, Queue, Table};
 use strm_types::{
-    Answer, Book, Both, Caller, Content, Event, Fates, MODULES, Mode, Openness, Place, QueueName, READ_MAX,
-    Side, Turn, Way,
+    Answer, Book, Both, Caller, Content, Event, Fates, MODULES, Mode, Openness, Place, QueueName,
+    READ_MAX, Side, Turn, Way,
 };
 
 /// The streams of a pair, whether its slave is locked, the queues that are enabled, the number that the next ioctl gets,
