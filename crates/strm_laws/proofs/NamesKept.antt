@@ -135,7 +135,7 @@ module _ {C : Type 0} (all : Stands) (P : List QueueName → Type 0) (keeps : Ke
         at false = tt
     over-notes _ = tt
 
-    pub driver-notes : (here : Spot) → DriverNotes (driver_put side across here m q)
+    driver-notes : (here : Spot) → DriverNotes (driver_put side across here m q)
     driver-notes here = at (has_parts m) here.way
       where
         by : Way → Acted C (Queue C)

@@ -119,12 +119,15 @@ first-next k (p ∷ ps) = by (has_queues p)
     by true = refl
     by false = first-next (suc k) ps
 
-low : (n : ℕ) → nat_le 1 (min MODULES (suc n)) ≡ nat_le 0 (min MODULES n)
+low : (n : ℕ) → nat_le 1 (min MODULES (suc n)) ≡ true
 low n = grind (arith, nat_tests)
+
+from-none : (n : ℕ) → nat_le 0 n ≡ true
+from-none n = grind (arith, nat_tests)
 
 before-more : (side : Side) (x : Option Place) (xs : List (Option Place)) (o : Option ℕ)
     → before_by side Up 1 (x ∷ xs) (option_map (λ n. suc n) (option_map (λ n. suc n) o)) ≡ before_by side Up 0 xs (option_map (λ n. suc n) o)
-before-more side x xs None = ap (λ b. cond b (Some (driver_of (other side))) None) (low (length xs))
+before-more side x xs None = ap (λ b. cond b (Some (driver_of (other side))) None) (low (length xs) ∙ sym (from-none (min MODULES (length xs))))
 before-more side x xs (Some i) =
     let above : suc (suc i) - 1 ≡ suc i = omega arith in
     let there : suc i - 1 ≡ i = omega arith in

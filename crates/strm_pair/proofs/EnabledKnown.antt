@@ -4,11 +4,12 @@ use Rattle.strm_pair.specs.Prelude.{ModuleName, Place, Head, Driver, QueueName, 
 use Rattle.strm_pair.specs.Prelude.{module_name, Behaviour}
 use Rattle.std.specs.List.{AllByRecursion, list_all, list_any}
 use Rattle.strm_types.specs.declared.names.Place.TheVariants as places
+use Rattle.strm_types.specs.Names.{AreQueues, has_queues_at}
 use Rattle.strm_types.proofs.EnabledNames.{same_module-sound}
 use Rattle.strm_laws.specs.Known.{all_known, are_known}
 use Rattle.strm_laws.specs.Pushes.{is_known}
 use Rattle.strm_laws.specs.Restorable.{IsThere, is_there_among}
-use Rattle.strm_laws.specs.StackCosts.{stands_on}
+use Rattle.strm_laws.specs.StackCosts.{Stands, stands_on}
 use Rattle.strm_pair.specs.Enabling.{AreKnownThere, is_known_at}
 
 both : (a b : Bool) → (a && b) ≡ true → (a ≡ true) × (b ≡ true)
@@ -45,3 +46,13 @@ module _ (K : Behaviour) (s : State ℕ) (known : all_known K s ≡ true) where
   pub enabled-known : (names : List QueueName) → AllByRecursion (IsThere (stands_of s)) names → AreKnownThere K names
   enabled-known [] there = tt
   enabled-known (n ∷ names) there = (at-place n.side n.place n.way there.0, enabled-known names there.1)
+
+-- and each is of a place where queues stand
+there-queues-at : (place : Place) (way : Way) (on : List ModuleName) → is_there_among place way on ≡ true → has_queues_at place ≡ true
+there-queues-at Head way on is = refl
+there-queues-at Driver way on is = refl
+there-queues-at (places.Module name) way on is = (both (have_queues name) _ is).0
+
+pub there-queues : (all : Stands) (names : List QueueName) → AllByRecursion (IsThere all) names → AreQueues names
+there-queues all [] there = tt
+there-queues all (n ∷ names) there = (there-queues-at n.place n.way (stands_on n.side all) there.0, there-queues all names there.1)

@@ -1,7 +1,7 @@
 -- A turn that moved something treated its message whole, or a byte of it at least.
 use Rattle.strm_pair.proofs.Prelude.{ℕ, zero, suc, ◌≡◌, ◌≤◌, ◌<◌, ◌-◌, Bool, true, false, cond, List, [], ◌∷◌, length, map, take, inl, inr, refl, sym}
 use Rattle.strm_pair.proofs.Prelude.{ap}
-use Rattle.strm_pair.proofs.Prelude.{◌+◌, ◌*◌, ◌==◌, unwrap_or}
+use Rattle.strm_pair.proofs.Prelude.{◌+◌, ◌*◌, ◌==◌}
 use Rattle.strm_pair.proofs.Prelude.{subst, ◌∙◌, arith, ◌&&◌, nat_le, nat_lt, not, slice_index_or, Some, Option, None, nat_tests, FullFirst}
 use Rattle.strm_pair.proofs.Prelude.{kept-ahead, kind-is}
 use Rattle.strm_pair.specs.Prelude.{Turn, Moved, Blocked, Idle, MsgKind, STOP_BLOCKS, Data, Place, Driver, ModuleName, QueueName, Way, Spot, plain}
@@ -12,6 +12,7 @@ use Rattle.strm_pair.specs.Prelude.{module_serves, module_turn_ended, moved_on, 
 use Rattle.strm_pair.specs.Prelude.{none_there, ldterm_of, TurnOutcome, stayed_put, driver_serves, driver_turned, is_stopped_across, moved_across}
 use Rattle.strm_pair.specs.Prelude.{Block, StoreValue, free_d, free_m, list_at, message_of, least_free, QueuePair, queues_in, Behaviour}
 use Rattle.std.specs.List.{AllByRecursion}
+use Rattle.std.specs.Prelude.{unwrap_or}
 use Rattle.std.proofs.Math.Nat.{le-min}
 use Rattle.strm_types.specs.declared.names.Place.TheVariants as places
 use Rattle.strm_types.specs.Ldterms as ldterms

@@ -5,9 +5,9 @@ use Rattle.strm_types.specs.Names.{AreQueues}
 use Rattle.strm_laws.specs.StackCosts.{stands_of}
 use Rattle.strm_laws.proofs.EnabledFew.{restorable-few}
 use Rattle.strm_image.specs.ImageTexts.{imaged_now}
-use Rattle.strm_image.proofs.FitImages.{are_queues}
 use Rattle.strm_pair.specs.Laying.{IsStood, stream_now}
 use Rattle.strm_pair.specs.Streams.{IsBlank}
+use Rattle.strm_pair.proofs.EnabledKnown.{there-queues}
 use Rattle.strm_pair.proofs.PairsMade.{blank-behind, blank-last, both-sides, master-stream, text-named}
 use Rattle.strm_pair.proofs.TextsTold.{stream-told}
 use Rattle.strm_pair.proofs.images.made_pairs.streams_of.Goals as goal
@@ -29,7 +29,7 @@ end_of-slave-requires-clause-blank g c =
 pub enabled_of-requires-clause-queues : goal.enabled_of-requires-clause-queues
 enabled_of-requires-clause-queues g c =
     let s = (imaged_now c.args.text.now).state in
-    subst AreQueues (sym c.as_slice.ensures.value) (are_queues (stands_of s) s.enabled c.requires.good.enabled.there)
+    subst AreQueues (sym c.as_slice.ensures.value) (there-queues (stands_of s) s.enabled c.requires.good.enabled.there)
 
 pub enabled_of-requires-clause-few : goal.enabled_of-requires-clause-few
 enabled_of-requires-clause-few g c =

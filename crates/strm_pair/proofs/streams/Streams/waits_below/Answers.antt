@@ -1,5 +1,5 @@
 -- The nearest module below has its messages on its own queue alone, and before all modules comes the other side's driver.
-use Rattle.strm_pair.proofs.Prelude.{ℕ, ◌≡◌, arith, refl, sym, ap, subst, ◌∙◌, [], length, length-map, nat_lt, not, min, Some, None, Option, IfSome, slice_index_or}
+use Rattle.strm_pair.proofs.Prelude.{ℕ, ◌≡◌, ◌≤◌, ◌-◌, arith, refl, sym, ap, subst, ◌∙◌, [], length, length-map, nat_lt, not, min, Some, None, Option, IfSome, slice_index_or}
 use Rattle.strm_pair.specs.Prelude.{MODULES, Up, QueueName, Stream, stream, Standing, other, is_none_left, at_place, messages_at, before_by, places_of}
 use Rattle.strm_types.specs.ModuleQueues.{place_before}
 use Rattle.strm_laws.specs.Earlier.{before_modules, queue_named}
