@@ -11,7 +11,7 @@ use Rattle.strm_types.specs.Message.{Message, map_message, part}
 use Rattle.strm_types.specs.Origins.{map_acted}
 use Rattle.strm_types.specs.Owns.{Own}
 use Rattle.strm_laws.specs.Behaviours.{GoodOwn, OwnPut, passes_all}
-use Rattle.strm_pair.proofs.OwnPassing.{sets-put}
+use Rattle.strm_own.proofs.OwnPassing.{sets-put}
 use Rattle.byte_counter.specs.ByteCounter.{byte_counter_number, byte_counter_puts, counted_on, data_length, none_counted}
 
 -- bytes of a number are below 256

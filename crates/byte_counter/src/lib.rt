@@ -14,7 +14,8 @@ use strm_frame::Outbox;
 use strm_laws::Behaves;
 use strm_msg::msgdsize;
 use strm_pair::{Own, OwnModule, pass_on};
-use strm_types::{Fates, Spot};
+use strm_queue::Queue;
+use strm_types::{Fates, Spot, Way};
 
 /// The number by which the module is pushed, as `ModuleName::Own(NUMBER)`.
 pub const NUMBER: u8 = 2;
@@ -96,5 +97,13 @@ impl OwnModule for ByteCounter {
     ) -> Outbox {
         count_on(own, data_length(store, &message));
         pass_on(here, message)
+    }
+
+    fn holds<B: Blocks>(_own: &Own, _store: &B, _here: Spot, _message: &InHand) -> bool {
+        false
+    }
+
+    fn goes<B: Blocks>(_own: &Own, _store: &B, _way: Way, _queue: &Queue) -> bool {
+        true
     }
 }

@@ -4,6 +4,7 @@ pub mod Hands
 pub mod Serves
 pub mod Standings
 pub mod Stacks
+pub mod Queued
 pub mod StandingLaws
 pub mod StackLaws
 pub mod Does

@@ -1,10 +1,9 @@
 //! A module where it stands on a stream, with the queues that the stream gives it, where it has queues (STREAMS Programming Guide,
 //! "Modules"). What is asked of its queues, and done with them, is said here once for all modules.
 
-ghost use Rattle.std.specs.Prelude.{ℕ, ◌≡◌, ◌<◌, ◌≤◌, ◌++◌, if◌then◌else◌, true, List, [], ◌∷◌, length, IfSome};
+ghost use Rattle.std.specs.Prelude.{ℕ, ◌≡◌, ◌<◌, ◌≤◌, true, List, length, IfSome};
 ghost use Rattle.strm_types.specs.declared.limits.TheConstants.{MODULES};
 ghost use Rattle.strm_types.specs.declared.names.Way.TheVariants.{Up, Down};
-ghost use Rattle.strm_types.specs.declared.spots.Note.TheVariants.{Room};
 ghost use Rattle.strm_types.specs.Budgets.{own_at};
 ghost use Rattle.strm_types.specs.Deliver.{tallied};
 ghost use Rattle.strm_types.specs.ModuleQueues.{full_at, waits};
@@ -21,13 +20,13 @@ ghost use Rattle.strm_frame.specs.Serves.{stop_of};
 ghost use Rattle.strm_frame.specs.Standings.{Fits, IsPairReady, keeps_of, owns, standing_in};
 
 use crate::modules::{Acts, LetGo, Module, Procedures};
+use crate::notes::rooms;
 use crate::queue_pair::{QueuePair, direction_at};
 use crate::queues::Emptied;
 use crate::service::{Served, TurnEnd};
-use arrayvec::ArrayVec;
 use strm_blocks::{Blocks, InHand};
 use strm_queue::{lengths, standing};
-use strm_types::{Asks, Band, Fates, Note, Rule, Side, Spot, Way};
+use strm_types::{Asks, Band, Fates, Rule, Side, Spot, Way};
 
 /// A module and its queues.
 #[derive(Drop)]
@@ -48,20 +47,6 @@ impl<M: Module + Default> Default for Standing<M> {
             queues: None,
         }
     }
-}
-
-// Which queues have room again, for those before them.
-fn rooms(up: bool, down: bool) -> ArrayVec<Note, 4>
-    ensures { result.items ≡ (if up then Room Up ∷ [] else []) ++ (if down then Room Down ∷ [] else []) }
-{
-    let mut notes = ArrayVec::new();
-    if up {
-        notes.push(Note::Room(Way::Up));
-    }
-    if down {
-        notes.push(Note::Room(Way::Down));
-    }
-    notes
 }
 
 // The cells of an unfinished line go by a rule. They came up; where there are none, nothing is told.

@@ -18,7 +18,7 @@ ghost use Rattle.strm_ldterm.specs.Stands.{ldterm_in, keeps, IsGathered, IsHeld,
 ghost use Rattle.strm_ldterm.specs.Does.{Proceeds};
 ghost use Rattle.strm_ldterm.specs.Quiet.{is_quiet, is_dropped};
 
-use crate::flushes::direction_at;
+use strm_frame::direction_at;
 use crate::grown_messages::{begin, grow};
 use crate::ldterm::Ldterm;
 use bitflags::Flags;

@@ -3,8 +3,6 @@ pub mod Peeked
 pub mod Idle
 pub mod Leading
 pub mod InHand
-pub mod Replies
-pub mod OwnPassing
 pub mod Sides
 pub mod Becoming
 pub mod KindsDo

@@ -1,7 +1,6 @@
 pub mod Prelude
 pub mod Alone
 pub mod AnyModules
-pub mod OwnPuts
 pub mod Given
 pub mod Stacks
 pub mod PutBy

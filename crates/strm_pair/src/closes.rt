@@ -9,7 +9,7 @@ ghost use Rattle.strm_types.specs.Emptied.{of_all};
 ghost use Rattle.strm_laws.specs.Puts.{flushed_on};
 ghost use Rattle.strm_frame.specs.Hands.{IsWide};
 
-use crate::own::OwnModule;
+use strm_own::OwnModule;
 use crate::streams::Streams;
 use strm_blocks::Blocks;
 use strm_frame::clear_queue;

@@ -14,7 +14,7 @@ ghost use Rattle.strm_queue.specs.Stored.{messages_on, queue_in, IsReady};
 ghost use Rattle.strm_pty.specs.Does.{OnlyQueue};
 ghost use Rattle.strm_pair.specs.Took.{settled, settling_relieves, TookFirst, MovesAcross};
 
-use crate::own::OwnModule;
+use strm_own::OwnModule;
 use crate::streams::Streams;
 use strm_blocks::{Blocks, InHand};
 use strm_frame::TurnEnd;

@@ -18,8 +18,6 @@ mod messages;
 mod module_turns;
 mod modules;
 mod named_queues;
-mod own;
-mod owned;
 mod pair;
 mod past;
 mod pushes;
@@ -35,7 +33,7 @@ mod streams;
 mod writes;
 mod zeros;
 
-pub use own::{NoModule, Own, OwnModule, pass_on, reply};
 pub use pair::{Pair, Recorded};
 pub use readiness::Ready;
 pub use scheduler::Ran;
+pub use strm_own::{NoModule, Own, OwnModule, has_byte, has_ioctl, pass_on, reply};

@@ -14,7 +14,7 @@ ghost use Rattle.strm_laws.specs.State.{with_book};
 ghost use Rattle.strm_frame.specs.Hands.{IsWide};
 ghost use Rattle.strm_pair.specs.Parts.{longest_part};
 
-use crate::own::OwnModule;
+use strm_own::OwnModule;
 use crate::streams::Streams;
 use crate::writes::with_written;
 use strm_blocks::Blocks;

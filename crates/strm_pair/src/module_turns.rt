@@ -18,7 +18,7 @@ ghost use Rattle.strm_pair.specs.declared.module_turns.Begun.TheVariants.{Over};
 ghost use Rattle.strm_pair.specs.ModuleTurned.{BeginsAs};
 
 use crate::named_queues::place_named;
-use crate::own::OwnModule;
+use strm_own::OwnModule;
 use crate::streams::Streams;
 use strm_blocks::Blocks;
 use strm_frame::TurnEnd;

@@ -8,7 +8,7 @@ ghost use Rattle.strm_laws.specs.Stacked.{OfPtem, without_kind_line};
 ghost use Rattle.strm_blocks.specs.Blocks.{StoreValue};
 ghost use Rattle.strm_pair.specs.AnyModules.{IsBare, IsMade, kind_in};
 
-use crate::own::{Own, OwnModule};
+use strm_own::{Own, OwnModule};
 use strm_blocks::{Blocks, InHand};
 use strm_frame::{Acts, Module, PutProcedure, QueuePair, Served};
 use strm_ldterm::Ldterm;

@@ -31,7 +31,7 @@ use crate::answers::own;
 use crate::base::Base;
 use crate::journal::Journal;
 use crate::ledgers::sum;
-use crate::own::{NoModule, OwnModule};
+use strm_own::{NoModule, OwnModule};
 use crate::past::Past;
 use crate::refusals::or_else;
 use crate::streams::{Streams, queue_tables};

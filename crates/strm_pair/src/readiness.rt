@@ -3,7 +3,7 @@
 ghost use Rattle.std.specs.Prelude.{◌≡◌};
 ghost use Rattle.strm_pair.specs.Readiness.{is_answered, is_eagain, readiness};
 
-use crate::own::OwnModule;
+use strm_own::OwnModule;
 use crate::streams::Streams;
 use strm_blocks::Blocks;
 use strm_types::{Band, Refusal, Side, Slot, Wanted};

@@ -14,7 +14,7 @@ ghost use Rattle.strm_types.specs.Names.{is_never, is_open};
 ghost use Rattle.strm_laws.specs.State.{stream};
 
 use crate::ends::StreamEnd;
-use crate::own::{OwnModule, is_known};
+use strm_own::{OwnModule, is_known};
 use crate::stacks::module_count;
 use crate::streams::Streams;
 use strm_blocks::Blocks;

@@ -8,7 +8,7 @@ ghost use Rattle.strm_laws.specs.Refusals.{enough, in_range};
 ghost use Rattle.strm_laws.specs.Rest.{EchoesOnce, work};
 ghost use Rattle.strm_laws.specs.StackCosts.{stands_of};
 
-use crate::own::OwnModule;
+use strm_own::OwnModule;
 use crate::pair::Pair;
 use strm_blocks::Blocks;
 use strm_types::Refusal;

@@ -10,7 +10,7 @@ ghost use Rattle.strm_frame.specs.Hands.{IsWide};
 ghost use Rattle.strm_frame.specs.Outboxes.{sent_of};
 ghost use Rattle.strm_pair.specs.ModuleServed.{ActsAs, BookTakes, CallsAs, IsKeptAll, MayBook, MayCall, StackServes, StopsFew, TreatsAs, between, call_of, with_more};
 
-use crate::own::OwnModule;
+use strm_own::OwnModule;
 use crate::stacks::place_at;
 use crate::streams::Streams;
 use strm_blocks::Blocks;

@@ -15,7 +15,7 @@ ghost use Rattle.strm_pair.specs.Taken.{TookNone, TookTop};
 
 use crate::ends::StreamEnd;
 use crate::modules::AnyModule;
-use crate::own::OwnModule;
+use strm_own::OwnModule;
 use arrayvec::ArrayVec;
 use strm_blocks::Blocks;
 use strm_frame::{Module, QueuePair, Standing, Tables};

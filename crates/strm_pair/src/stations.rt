@@ -29,7 +29,7 @@ ghost use Rattle.strm_pair.specs.Effects.{MayPut};
 ghost use Rattle.strm_pair.specs.PutBy.{PutBy, CameBy, StackTakes};
 ghost use Rattle.strm_pair.specs.Staying.{KeepsBlocks};
 
-use crate::own::OwnModule;
+use strm_own::OwnModule;
 use crate::service_calls::Made;
 use crate::stacks::place_at;
 use crate::streams::Streams;

@@ -22,7 +22,7 @@ ghost use Rattle.strm_pair.specs.Streams.{IsBlank, IsSide, stream_in};
 ghost use Rattle.strm_pair.specs.Parts.{longest_part};
 
 use crate::ends::{StreamEnd, first_list};
-use crate::own::OwnModule;
+use strm_own::OwnModule;
 use crate::stacks::Stack;
 use std::alloc::{AllocError, Global};
 use strm_blocks::Blocks;

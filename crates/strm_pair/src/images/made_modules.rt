@@ -6,7 +6,7 @@ ghost use Rattle.strm_pair.specs.Placing.{IsFreeFor, IsModuleText, IsPlaced, mod
 
 use crate::images::made_kinds::{ldterm_of, pair_of};
 use crate::modules::AnyModule;
-use crate::own::Own;
+use strm_own::Own;
 use strm_blocks::Blocks;
 use strm_frame::{Standing, Tables};
 use strm_image::ModuleText;

@@ -17,7 +17,7 @@ ghost use Rattle.strm_pair.specs.Stacks.{IsStackHeld, modules_in};
 
 use crate::images::queues::put_queue;
 use crate::modules::AnyModule;
-use crate::own::Own;
+use strm_own::Own;
 use crate::stacks::Stack;
 use strm_blocks::Blocks;
 use strm_frame::{QueuePair, Standing};

@@ -9,7 +9,7 @@ ghost use Rattle.strm_types.specs.Journal.{answer_len, reply_in};
 ghost use Rattle.strm_laws.specs.Pair.{AddsEntry, call_refused, call_verdict};
 ghost use Rattle.strm_pair.specs.Parts.{longest_part};
 
-use crate::own::OwnModule;
+use strm_own::OwnModule;
 use crate::pair::Pair;
 use strm_blocks::Blocks;
 use strm_types::{Answer, Caller, Content, Event, Refusal, StopSignal, Verdict};

@@ -4,7 +4,7 @@ ghost use Rattle.std.specs.Prelude.{◌≡◌, ◌+◌, length};
 ghost use Rattle.strm_types.specs.Journal.{room_used};
 ghost use Rattle.strm_pair.specs.Readiness.{readiness};
 
-use crate::own::OwnModule;
+use strm_own::OwnModule;
 use crate::pair::Pair;
 use crate::readiness::Ready;
 use strm_blocks::Blocks;

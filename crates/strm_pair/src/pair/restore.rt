@@ -18,7 +18,7 @@ use crate::base::Base;
 use crate::images::known::all_known;
 use crate::images::made_pairs::{fates_of, streams_of};
 use crate::journal::Journal;
-use crate::own::OwnModule;
+use strm_own::OwnModule;
 use crate::pair::Pair;
 use crate::streams::{SideTables, queue_tables};
 use std::alloc::{AllocError, Global};
