@@ -1,5 +1,5 @@
 -- A state that has what an image asks has one.
-use Rattle.strm_image.proofs.Prelude.{◌≡◌, ℕ, ◌<◌, ◌≤◌, Bool, true, false, not, List, [], ◌∷◌, length, map, refl, sym, ap, subst, ◌∙◌, arith, ◌^◌}
+use Rattle.strm_image.proofs.Prelude.{◌≡◌, ℕ, ◌<◌, Bool, true, false, not, List, [], ◌∷◌, length, map, refl, sym, ap, subst, ◌∙◌, arith, ◌^◌}
 use Rattle.strm_image.proofs.Prelude.{and_from, and_parts, eq-eqb}
 use Rattle.strm_image.proofs.Prelude.{lt-ltb}
 use Rattle.strm_image.specs.Prelude.{Book, BANDS, Dir, MasterToSlave, SlaveToMaster, ModuleName, Openness, Never, Open, Closed, Place, QueueName}
