@@ -41,8 +41,8 @@ pub record IsFreeFor (s : StoreValue) (first : ℕ) (shelf : Shelf) : Type 0 whe
   pub writes : list_at s (first + 1) ≡ []
   pub tables : 0 < tables_on shelf
 
--- A module stands as a text has it. It keeps nothing in hand. Its queues stand on the two lists, and no other list changed; where it has none the store and
--- the shelf are as they were.
+-- A module stands as a text has it. It keeps nothing in hand. Its queues stand on the two lists, and no other list changed; where it has none the
+-- store and the shelf are as they were.
 pub record IsPlaced (old new : StoreValue) (first : ℕ) (was is : Shelf) (text : ModuleText) (x : AnyStanding) : Type 0 where
   pub state : module_in new x ≡ module_now text
   pub held : IsHeld new x
