@@ -107,8 +107,8 @@ pub trait OwnModule: Behaves {
     /// Whether any of them have queues.
     ghost queued: { Bool };
 
-    /// Whether any of them have queues, which those of the numbers from `OWN_QUEUED` on have. Where none has, a pair reserves the memory of the queues of
-    /// one module for each side's stream, and else that of three.
+    /// Whether any of them have queues, which those of the numbers from `OWN_QUEUED` on have. Where none has, a pair reserves the memory of the
+    /// queues of one module for each side's stream, and else that of three.
     fn queued() -> bool
         ensures { result ≡ queued };
 

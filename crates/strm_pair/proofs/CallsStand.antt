@@ -1,7 +1,7 @@
 -- Calls that push no module, pop none and close no side leave each stream its modules, by their names.
 use Rattle.strm_pair.proofs.Prelude.{ℕ, ◌≡◌, Bool, true, false, cond, List, refl, ◌∙◌, Option, None, Some}
 use Rattle.strm_pair.specs.Prelude.{Behaviour, Message, Prio, Side, Master, Slave, State, cells_written, delivered, direction_from, mode_put, of_all, plain, book}
-use Rattle.strm_pair.specs.Prelude.{stands_of, stream, with_stream, is_open, EndClosed, head_emptied}
+use Rattle.strm_pair.specs.Prelude.{stands_of, stream, with_stream, is_open, new_head, Open, EndClosed, head_emptied}
 use Rattle.strm_types.specs.declared.events.FlushQueues.{FlushQueues}
 use Rattle.strm_types.specs.declared.kinds.Band as bands
 use Rattle.strm_types.specs.declared.modes.Mode.{Mode}
@@ -25,10 +25,10 @@ abbrev St : Type 0
 St = State ℕ
 
 pub master-stands : (s : State ℕ) → stands_of (opened_master s) ≡ stands_of s
-master-stands s = same-names Master _ s refl
+master-stands s = same-names Master (record (stream Master s) { opened = Open }) s refl
 
 pub slave-stands : (s : State ℕ) → stands_of (opened_slave s) ≡ stands_of s
-slave-stands s = same-names Slave _ s refl
+slave-stands s = same-names Slave (record (stream Slave s) { opened = Open; head = new_head }) s refl
 
 pub read-stands : (side : Side) (n : ℕ) (s : State ℕ) → stands_of (read_at plain side n s).state ≡ stands_of s
 read-stands side n s = same-names side _ s refl

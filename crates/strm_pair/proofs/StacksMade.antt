@@ -1,7 +1,7 @@
 -- The modules of a text, placed one on top of the other.
 use Rattle.strm_pair.proofs.Prelude.{ℕ, zero, suc, ◌≡◌, ◌≢◌, ◌≤◌, ◌<◌, ◌+◌, ◌*◌, List, [], ◌∷◌, length, map, refl, sym, ap, subst, ◌∙◌, arith, sum_by, Option, None, Some}
-use Rattle.strm_pair.proofs.Prelude.{sum_by-cons, once-self, is_some}
-use Rattle.strm_pair.specs.Prelude.{LISTS, stood, have_queues, kind_name, StoreValue, list_at, HasRoom, SameOwn, once, stack-stays}
+use Rattle.strm_pair.proofs.Prelude.{length-map, sum_by-cons, once-self, is_some}
+use Rattle.strm_pair.specs.Prelude.{LISTS, Standing, stood, have_queues, kind_name, StoreValue, list_at, HasRoom, SameOwn, once, stack-stays}
 use Rattle.strm_pair.specs.Prelude.{all_of, AreHeld, ModuleText, module_now, modules_now, QueuePair, queues_in}
 use Rattle.strm_pair.specs.Prelude.{IsPairReady, owns, pair_in, queues_own, standing}
 use Rattle.strm_image.specs.declared.modules.QueuesText.{QueuesText}
@@ -29,7 +29,7 @@ one-text m = by m.queues
 
 pub text-pairs : (ms : List ModuleText) → pairs_of (modules_now ms) ≡ sum_by text_pair ms
 text-pairs [] = refl
-text-pairs (m ∷ ms) = omega (arith, sum_by-cons (λ p. one_pair p.queues) (module_now m) (modules_now ms), sum_by-cons text_pair m ms, one-text m, text-pairs ms)
+text-pairs (m ∷ ms) = omega (arith, sum_by-cons (λ (p : Standing ℕ). one_pair p.queues) (module_now m) (modules_now ms), sum_by-cons text_pair m ms, one-text m, text-pairs ms)
 
 one-most : (m : ModuleText) → text_pair m ≤ 1
 one-most m = by m.queues
@@ -56,6 +56,10 @@ module _ {s t : StoreValue} {first : ℕ} {was mid : Shelf} {ms : List ModuleTex
 
   above : Spans first many (all_of owns xs)
   above = spans t first xs below.held lines
+
+  -- as many stand there as in the text
+  pub stacked-length : length xs ≡ length ms
+  stacked-length = sym (length-map xs (module_in t)) ∙ ap length below.state ∙ length-map ms module_now
 
   -- it finds its lists empty, and tables on the shelf
   pub free-next : (m : ModuleText) → first ≤ 10 → length (m ∷ ms) ≤ 3 → sum_by text_pair (m ∷ ms) ≤ tables_on was → 0 < text_pair m → IsFreeFor t (first + many) mid

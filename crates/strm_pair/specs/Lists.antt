@@ -1,5 +1,5 @@
--- The lists of a store on which the queues of a side stand, eight from a number on: the head's, the driver's, and two for each module with queues, the
--- lowest one's first.
+-- The lists of a store on which the queues of a side stand, eight from a number on: the head's, the driver's, and two for each module with queues,
+-- the lowest one's first.
 use Rattle.std.specs.Prelude.{ℕ}
 use Rattle.strm_pair.specs.Prelude.{Side, Master, Slave}
 

@@ -5,7 +5,7 @@ use Rattle.std.proofs.Common.{arith, cond, refl, ap, sym, ◌∙◌}
 use Rattle.std.proofs.lemmas.Bool.Decides.{nat_tests}
 use Rattle.std.proofs.lemmas.List.Sums.{sum_by-cons}
 use Rattle.strm_pair.specs.Prelude.{rank_of, IsOrdered, Queue, queues_of_modules, Block, StoreValue, list_at, message_of, messages_on}
-use Rattle.strm_pair.specs.Prelude.{QueuePair, once, all_of, AreHeld, IsPairReady, owns, queues_in, queues_own, standing}
+use Rattle.strm_pair.specs.Prelude.{Standing, QueuePair, once, all_of, AreHeld, IsPairReady, owns, queues_in, queues_own, standing}
 use Rattle.strm_types.specs.Ranked as ranked
 use Rattle.strm_blocks.specs.Blocks as blocks
 use Rattle.strm_msg.proofs.Chains.{rank-same}
@@ -81,7 +81,7 @@ module _ (s : StoreValue) where
   pairs-same (x ∷ xs) = omega (
     arith,
     sum_by-cons (λ (y : AnyStanding). one_pair y.queues) x xs,
-    sum_by-cons (λ p. one_pair p.queues) (module_in s x) (map (module_in s) xs),
+    sum_by-cons (λ (p : Standing ℕ). one_pair p.queues) (module_in s x) (map (module_in s) xs),
     one-same x.queues,
     pairs-same xs,
   )

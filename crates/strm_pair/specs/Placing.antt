@@ -62,8 +62,8 @@ pub record ArePlaced (old new : StoreValue) (first : ℕ) (was is : Shelf) (text
   pub fills : FillsTwo old new first
   pub spent : Spent old new (queues_blocks text)
 
--- A module stands as a text has it. It keeps nothing in hand. Its queues stand on the two lists, and no other list changed; where it has none the store and
--- the shelf are as they were.
+-- A module stands as a text has it. It keeps nothing in hand. Its queues stand on the two lists, and no other list changed; where it has none the
+-- store and the shelf are as they were.
 pub record IsPlaced (old new : StoreValue) (first : ℕ) (was is : Shelf) (text : ModuleText) (x : AnyStanding) : Type 0 where
   pub state : module_in new x ≡ module_now text
   pub held : IsHeld new x

@@ -28,8 +28,8 @@ abbrev pub ShowsModules : StoreValue → ℕ → List (Standing ℕ) → Type 0
 ShowsModules s first [] = Unit {0}
 ShowsModules s first (p ∷ ps) = ShowsPair s (first + 2 * pairs_of ps) p.queues × ShowsModules s first ps
 
--- Eight lists of the store from a number on, read along their chains, are a stream's queues: the head's and the driver's, and then those of its modules.
--- The others are empty.
+-- Eight lists of the store from a number on, read along their chains, are a stream's queues: the head's and the driver's, and then those of its
+-- modules. The others are empty.
 pub record ShowsStream (s : StoreValue) (first : ℕ) (t : Stream ℕ) : Type 0 where
   pub head : messages_on s first ≡ t.head.queue.messages
   pub driver : messages_on s (first + 1) ≡ t.driver.queue.messages

@@ -15,7 +15,8 @@ pub record AreFor (s : StoreValue) (first : ℕ) (owns : ℕ → ℕ) : Type 0 w
   pub closed : (j k : ℕ) → first ≤ j → j ≤ k → 0 < owns k → 0 < owns j
   pub spare : (k : ℕ) → first ≤ k → k < first + 6 → owns k ≡ 0 → list_at s k ≡ []
 
--- What the six lists show of modules, of which three at most have queues: two are the queues of each, and the others are empty. Each queue is in order.
+-- What the six lists show of modules, of which three at most have queues: two are the queues of each, and the others are empty. Each queue is in
+-- order.
 pub record AreShown (s : StoreValue) (first : ℕ) (ps : List (plain.Standing ℕ)) : Type 0 where
   pub modules : ShowsModules s first ps
   pub few : pairs_of ps ≤ 3

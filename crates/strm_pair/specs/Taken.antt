@@ -20,8 +20,8 @@ pub record TookNone (old new : StoreValue) (x y : Stack) (told told' : Fates) : 
   pub stack : y ≡ x
   pub tells : told' ≡ told
 
--- It was on top of the others, which stay. Its lists are empty now, and come behind those of the others; the lists that weren't the stack's are as they
--- were.
+-- It was on top of the others, which stay. Its lists are empty now, and come behind those of the others; the lists that weren't the stack's are as
+-- they were.
 pub record TookTop (side : Side) (rule : Rule) (old new : StoreValue) (x y : Stack) (told told' : Fates) (taken : Taken) : Type 0 where
   pub top : Standing ℕ
   pub rest : List (Standing ℕ)

@@ -66,8 +66,8 @@ impl StreamEnd {
         self.renew_head(store);
     }
 
-    /// Makes the stream as new, in place, where nothing stands on its lists: nobody opened it, and no module stands there. The tables of the queues of
-    /// those that did go onto the shelf.
+    /// Makes the stream as new, in place, where nothing stands on its lists: nobody opened it, and no module stands there. The tables of the queues
+    /// of those that did go onto the shelf.
     pub fn renew(&mut self, shelf: &mut Shelf)
         requires { tables_on shelf.old + pairs_among self.old.stack.modules.items ≤ room_on shelf.old }
         ensures side { (s t : StoreValue) (first : ℕ) → IsSide s first self.old → IsBlank t first → IsSide t first self.new }

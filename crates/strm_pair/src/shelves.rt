@@ -6,8 +6,8 @@ ghost use Rattle.strm_pair.specs.Shelves.{room_on, tables_on};
 use std::alloc::{AllocError, Global};
 use strm_frame::Tables;
 
-/// Tables for pairs of queues of modules: as many as modules with queues may stand on the streams of a pair, less those that do. So a push asks for no
-/// memory.
+/// Tables for pairs of queues of modules: as many as modules with queues may stand on the streams of a pair, less those that do. So a push asks for
+/// no memory.
 #[derive(Drop)]
 pub(crate) struct Shelf {
     tables: Vec<Tables>,

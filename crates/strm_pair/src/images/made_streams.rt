@@ -19,8 +19,8 @@ use strm_blocks::Blocks;
 use strm_image::StreamText;
 use strm_types::Openness;
 
-/// Makes the stream of a side of a text, on eight lists where nothing stands: the head's, the driver's, and those for the queues of modules, whose tables
-/// are taken off the shelf.
+/// Makes the stream of a side of a text, on eight lists where nothing stands: the head's, the driver's, and those for the queues of modules, whose
+/// tables are taken off the shelf.
 pub(crate) fn end_of<B: Blocks>(
     store: &mut B,
     first: usize,

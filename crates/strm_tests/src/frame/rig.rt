@@ -50,15 +50,15 @@ impl Rig {
             module: Stock {
                 name: ModuleName::Ldterm,
             },
-            queues: Some(QueuePair::new(0, 1, upper)),
+            queues: Some(QueuePair::new(2, 3, upper)),
         });
         modules.push(Standing {
             module: Stock {
                 name: ModuleName::Pckt,
             },
             queues: Some(QueuePair {
-                read: Queue::new(2, 512, 128, lower.read),
-                write: Queue::new(3, 4, 2, lower.write),
+                read: Queue::new(0, 512, 128, lower.read),
+                write: Queue::new(1, 4, 2, lower.write),
             }),
         });
         Rig {
