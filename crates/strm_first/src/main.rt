@@ -18,12 +18,12 @@ fn session(pair: &mut Pair<RawStore>, out: &mut Content) -> Result<(), Refusal> 
     pair.call(master, &Event::OpenMaster, out)?;
     pair.call(master, &Event::Unlock, out)?;
     pair.call(slave, &Event::OpenSlave, out)?;
-    pair.call(master, &Event::Write { bytes: b"abc" }, out)?; // Answer::Count(3)
+    pair.write(master, b"abc", out)?; // Answer::Count(3)
     let ran = pair.runqueues(); // one turn: the driver carries them to the slave's head
     if let Some(refusal) = ran.stopped {
         return Err(refusal);
     }
-    pair.call(slave, &Event::Read { n: 10 }, out)?; // Answer::Bytes(3), and out holds them
+    pair.read(slave, 10, out)?; // Answer::Bytes(3), and out holds them
     Ok(())
 }
 

@@ -2,6 +2,7 @@ pub mod Prelude
 pub mod Alone
 pub mod AnyModules
 pub mod OwnPuts
+pub mod OwnSettings
 pub mod Given
 pub mod Stacks
 pub mod PutBy

@@ -19,6 +19,7 @@ mod module_turns;
 mod modules;
 mod named_queues;
 mod own;
+mod own_settings;
 mod owned;
 mod pair;
 mod past;
