@@ -1,5 +1,5 @@
 -- What is pushed stands on top, on lists that are no other module's.
-use Rattle.strm_pair.proofs.Prelude.{◌≡◌, ◌+◌, ◌∙◌, false, true, sym, subst, false≢true, MatchOption, Option, None, Some}
+use Rattle.strm_pair.proofs.Prelude.{◌≡◌, ◌+◌, ◌∙◌, false, sym, subst, false≢true, MatchOption, Option, None, Some}
 use Rattle.strm_pair.specs.Prelude.{Behaviour, ModuleName, QueuePair, standing}
 use Rattle.strm_laws.specs.Pushes.{is_known}
 use Rattle.strm_pair.proofs.ModulePushed.{pushed-held, pushed-keeps, pushed-modules, pushed-owned, pushed-shelf, pushed-spare, queues-alone}
