@@ -28,8 +28,7 @@ fn session(pair: &mut Pair<RawStore>, out: &mut Content) -> Result<(), Refusal> 
 }
 
 fn main(rt: HostRuntime) -> anyhow::Result<()> {
-    let store = RawStore::new(rt.alloc(), SIZES.mblks, SIZES.dblks)?;
-    let mut pair = Pair::new(rt.alloc(), SIZES, store).map_err(|(why, _store)| why)?;
+    let mut pair: Pair<RawStore> = Pair::reserve(rt.alloc(), SIZES)?;
     let mut out = Content::new();
     session(&mut pair, &mut out)?;
     println!(rt; "{}", str::from_utf8(out.as_slice())?)?;
