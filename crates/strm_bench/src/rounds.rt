@@ -41,7 +41,7 @@ pub fn sends<B: Blocks + Drop>(
     bytes: &[u8],
     out: &mut Content,
 ) -> Option<usize> {
-    let Ok(Answer::Count(taken)) = pair.call(writer, &Event::Write { bytes }, out) else {
+    let Ok(Answer::Count(taken)) = pair.write(writer, bytes, out) else {
         return None;
     };
     if !turns(pair) {
@@ -54,7 +54,7 @@ pub fn sends<B: Blocks + Drop>(
 fn reads<B: Blocks + Drop>(pair: &mut Pair<B>, reader: Caller, n: u32, out: &mut Content) -> bool
     ensures { OnTrue result (length out.new.items ≤ n) }
 {
-    pair.call(reader, &Event::Read { n }, out).is_ok()
+    pair.read(reader, n, out).is_ok()
 }
 
 // Reads till nothing more stands, or so many bytes were read; how many of them are left.

@@ -18,18 +18,17 @@ fn session(pair: &mut Pair<RawStore>, out: &mut Content) -> Result<(), Refusal> 
     pair.call(master, &Event::OpenMaster, out)?;
     pair.call(master, &Event::Unlock, out)?;
     pair.call(slave, &Event::OpenSlave, out)?;
-    pair.call(master, &Event::Write { bytes: b"abc" }, out)?; // Answer::Count(3)
+    pair.write(master, b"abc", out)?; // Answer::Count(3)
     let ran = pair.runqueues(); // one turn: the driver carries them to the slave's head
     if let Some(refusal) = ran.stopped {
         return Err(refusal);
     }
-    pair.call(slave, &Event::Read { n: 10 }, out)?; // Answer::Bytes(3), and out holds them
+    pair.read(slave, 10, out)?; // Answer::Bytes(3), and out holds them
     Ok(())
 }
 
 fn main(rt: HostRuntime) -> anyhow::Result<()> {
-    let store = RawStore::new(rt.alloc(), SIZES.mblks, SIZES.dblks)?;
-    let mut pair = Pair::new(rt.alloc(), SIZES, store).map_err(|(why, _store)| why)?;
+    let mut pair: Pair<RawStore> = Pair::reserve(rt.alloc(), SIZES)?;
     let mut out = Content::new();
     session(&mut pair, &mut out)?;
     println!(rt; "{}", str::from_utf8(out.as_slice())?)?;

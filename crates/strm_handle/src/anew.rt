@@ -19,7 +19,9 @@ fn begins<T>(told: &Result<T, Refusal>, anew: bool) -> bool
     matches!(told, Err(Refusal::JournalFull)) && anew
 }
 
-/// Makes a call, at the pair begun anew where its journal is to be and the call finds it full.
+/// Makes a call, at the pair begun anew where its journal is to be and the call finds it full. Inlined, so that where the kind of the call is known
+/// nothing asks for it.
+#[inline(always)]
 pub(crate) fn call_at(
     pair: &mut Pair<RawStore>,
     anew: bool,

@@ -95,6 +95,7 @@ impl Kept {
     }
 
     // What a call is refused for before the pair is asked: a buffer that is too small for the greatest answer, and then the reserve.
+    #[inline(always)]
     fn refusal_before(&self, caller: Caller, event: &Event<&[u8]>, room: usize) -> Option<Refusal>
         ensures { result ≡ refused_before caller (request event.now) room self.now }
     {
@@ -109,6 +110,7 @@ impl Kept {
     }
 
     // Makes a call that isn't refused before the pair is asked.
+    #[inline(always)]
     fn call_pair(
         &mut self,
         caller: Caller,
@@ -135,6 +137,7 @@ impl Kept {
 
     /// Makes a call, whose answer goes into a reply and a buffer. One whose greatest answer doesn't fit the buffer isn't made, nor one that the
     /// reserve holds back.
+    #[inline(always)]
     pub(crate) fn call(
         &mut self,
         caller: Caller,
@@ -170,6 +173,7 @@ impl Kept {
     }
 
     /// Makes a call of a side whose caller has no process group.
+    #[inline(always)]
     pub(crate) fn of_side(
         &mut self,
         side: u32,
@@ -189,6 +193,7 @@ impl Kept {
     }
 
     /// Writes bytes of a side, of which there are no more than one write brings.
+    #[inline(always)]
     pub(crate) fn write(&mut self, side: u32, bytes: &[u8], reply: &mut Reply) -> u32
         requires few { length bytes.now ≤ 1024 }
         ensures { CallsAt (side_refused side (Write bytes.now) 0) (Stay no_bytes no_bytes reply.old reply.new)

@@ -4,7 +4,6 @@ use Rattle.std.proofs.Common.{refl, sym, ap, subst, ◌∙◌, arith}
 use Rattle.std.specs.List.{AllByRecursion}
 use Rattle.strm_pair.specs.Prelude.{Both, Side, Master, Slave, AreIdle, other, IsAtRest, State, StoreValue, in_hand, list_at, head_in, queue_in}
 use Rattle.strm_pair.specs.Prelude.{HoldsReadable}
-use Rattle.strm_types.specs.Cells as cells
 use Rattle.strm_types.proofs.BySide.{map-same}
 use Rattle.strm_laws.specs.Stacked as plain
 use Rattle.strm_laws.specs.State as state

@@ -1,6 +1,7 @@
 pub mod Prelude
 pub mod Alone
 pub mod AnyModules
+pub mod OwnSettings
 pub mod Given
 pub mod Stacks
 pub mod PutBy

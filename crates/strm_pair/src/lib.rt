@@ -18,6 +18,7 @@ mod messages;
 mod module_turns;
 mod modules;
 mod named_queues;
+mod own_settings;
 mod pair;
 mod past;
 mod pushes;

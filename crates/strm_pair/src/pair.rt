@@ -1,6 +1,6 @@
 //! The pair: calls, turns, and the journal of what was carried out.
 
-ghost use Rattle.std.specs.Prelude.{◌≡◌, ◌≤◌, ◌<◌, ◌+◌, true, if◌then◌else◌, sum_by, [], length, replicate, MatchResult, MatchOption, IsOk, Err, IfOk, is_some, slice_get};
+ghost use Rattle.std.specs.Prelude.{◌≡◌, ◌≤◌, ◌<◌, ◌+◌, true, if◌then◌else◌, sum_by, [], length, replicate, MatchResult, MatchOption, IsOk, Err, IfOk, is_some, option_copied, slice_get};
 ghost use Rattle.strm_types.specs.Events.{request, map_answer};
 ghost use Rattle.strm_types.specs.Cells.{Origin, plain, tagged};
 ghost use Rattle.strm_types.specs.declared.entries.Entry.TheVariants.{Called, Turned};
@@ -19,7 +19,9 @@ ghost use Rattle.strm_types.specs.Queue.{bytes_of};
 ghost use Rattle.strm_laws.specs.ModuleTurns.{place_named};
 ghost use Rattle.strm_laws.specs.Restorable.{Restorable};
 ghost use Rattle.strm_laws.specs.State.{AreOrdered, book, messages_in, stream};
+ghost use Rattle.strm_blocks.specs.Blocks.{empty_store};
 ghost use Rattle.strm_frame.specs.Hands.{IsWide};
+ghost use Rattle.strm_pair.specs.OwnSettings.{settings_among};
 ghost use Rattle.strm_pair.specs.Shows.{Shows, count_at, first_at, full_at, messages_at};
 ghost use Rattle.strm_pair.specs.Parts.{longest_part};
 ghost use Rattle.strm_pair.specs.Pool.{IsPoolOf};
@@ -32,15 +34,16 @@ use crate::answers::own;
 use crate::base::Base;
 use crate::journal::Journal;
 use crate::ledgers::sum;
-use strm_own::{NoModule, OwnModule};
+use crate::own_settings::settings_among;
 use crate::past::Past;
 use crate::refusals::or_else;
 use crate::shelves::Shelf;
 use crate::streams::{Streams, queue_tables};
 use std::alloc::Global;
 use std::marker::{Model, PhantomData};
-use strm_blocks::Blocks;
+use strm_blocks::{Blocks, Reserve};
 use strm_image::{IMAGE_BLOCK, IMAGE_FIXED};
+use strm_own::{NoModule, OwnModule};
 use strm_types::{
     Answer, Band, Caller, Config, Content, Dir, Entry, Event, Fates, LISTS, Ledger, NoMemory,
     Place, QueueName, READ_MAX, ReadBytes, Refusal, Side, Turn, Verdict, turn_blocks, unless,
@@ -124,6 +127,27 @@ impl<B: Blocks + Drop, M: OwnModule> Pair<B, M> {
             fates,
             of: PhantomData,
         })
+    }
+
+    /// A pair which nobody opened, over a store of its own with as many blocks as `sizes` says, from 1 to 65536 of each kind: [`Pair::new`] with
+    /// [`Reserve::reserve`]. All memory is reserved here.
+    pub fn reserve(alloc: Global, sizes: Config) -> Result<Pair<B, M>, NoMemory>
+    where
+        B: Reserve,
+        requires some_mblks { 0 < sizes.mblks }
+        requires few_mblks { sizes.mblks ≤ 65536 }
+        requires some_dblks { 0 < sizes.dblks }
+        requires few_dblks { sizes.dblks ≤ 65536 }
+        requires wide { IsWide M.wide (empty_store sizes.mblks sizes.dblks) }
+        ensures { IfOk result (λ p. p ≡ new_pair sizes) }
+    {
+        let Ok(store) = B::reserve(alloc, sizes.mblks, sizes.dblks) else {
+            return Err(NoMemory);
+        };
+        match Pair::new(alloc, sizes, store) {
+            Ok(pair) => Ok(pair),
+            Err((NoMemory, _store)) => Err(NoMemory),
+        }
     }
 
     /// Makes the pair as new, in place: nobody opened it, and its store and its journal are empty. It takes no
@@ -278,6 +302,14 @@ impl<B: Blocks + Drop, M: OwnModule> Pair<B, M> {
         self.streams.module_named(side, place).is_some()
     }
 
+    /// What the module of a user's own of a number is set to that stands on a side's stream, at most `SETTINGS_MAX` bytes; `None` where none of the
+    /// number stands there. The cost is a step for each module.
+    pub fn settings(&self, side: Side, number: u8) -> Option<&[u8]>
+        ensures { option_copied result ≡ settings_among number (stream side self.now.state).modules }
+    {
+        settings_among(self.streams.end(side).stack.modules.as_slice(), number)
+    }
+
     /// Whether a band, of a queue is full: its count is at or above its high-water mark. A queue that
     /// doesn't exist isn't full.
     pub fn is_full(&self, queue: QueueName, band: Band) -> bool
@@ -385,8 +417,11 @@ impl<B: Blocks + Drop, M: OwnModule> Pair<B, M> {
         ensures parts { IfOk result (λ answer. longest_part answer ≤ READ_MAX) }
     {
         match event {
-            Event::Write { bytes } => self.make(caller, &Event::Write { bytes }, out),
-            Event::Read { n } => self.make(caller, &Event::Read { n: *n }, out),
+            Event::Write { bytes } => self.write_apart(caller, bytes, out),
+            Event::Read { n } => self.read_apart(caller, *n, out),
+            Event::Put { .. } => self.put_apart(caller, event, out),
+            Event::Get { .. } => self.get_apart(caller, event, out),
+            Event::Ioctl { .. } => self.ioctl_apart(caller, event, out),
             _ => self.call_apart(caller, event, out),
         }
     }

@@ -2,6 +2,7 @@
 
 ghost use Rattle.std.specs.Prelude.{◌≡◌, ◌≤◌, length, MatchOption, IsOk, Err, IfOk};
 ghost use Rattle.strm_types.specs.declared.entries.Entry.TheVariants.{Called};
+ghost use Rattle.strm_types.specs.declared.events.Event.TheVariants.{Read, Write};
 ghost use Rattle.strm_types.specs.declared.job_control.Verdict.TheVariants.{Allowed, Stopped};
 ghost use Rattle.strm_types.specs.declared.limits.TheConstants.{READ_MAX};
 ghost use Rattle.strm_types.specs.Events.{request};
@@ -74,9 +75,84 @@ impl<B: Blocks + Drop, M: OwnModule> Pair<B, M> {
         }
     }
 
-    /// Makes a call as [`Pair::call`] says. Out of line, so that a write and a read don't pay for what these need of a frame.
+    /// Writes bytes down the caller's stream: write(2), the call `Event::Write`. It is refused as [`Pair::call`] says, and answers how many bytes were
+    /// taken (`Count`), or the signal that stops the caller (`Stop`). It stands where it is called, so that what is asked of a call by its kind alone
+    /// is known as it is compiled.
+    #[inline(always)]
+    pub fn write(
+        &mut self,
+        caller: Caller,
+        bytes: &[u8],
+        out: &mut Content,
+    ) -> Result<Answer<u32>, Refusal>
+        ensures refused { MatchOption (call_refused M.does self.old caller (Write bytes.now)) (IsOk result)
+            (λ r. (result ≡ Err r) × ((self.new ≡ self.old) × (out.new ≡ out.old))) }
+        ensures adds { IfOk result (λ answer.
+            AddsEntry M.does self.old self.new (Called caller (Write bytes.now) (reply_in answer out.new.items))) }
+        ensures filled { IfOk result (λ answer. answer_len answer ≡ length out.new.items) }
+        ensures parts { IfOk result (λ answer. longest_part answer ≤ READ_MAX) }
+    {
+        self.make(caller, &Event::Write { bytes }, out)
+    }
+
+    /// Reads at most `n` bytes of the caller's stream head, more than 4096 count as 4096, into `out`: read(2), the call `Event::Read`. It is refused as
+    /// [`Pair::call`] says, and answers how many there are (`Bytes`), or the signal that stops the caller (`Stop`).
+    #[inline(always)]
+    pub fn read(
+        &mut self,
+        caller: Caller,
+        n: u32,
+        out: &mut Content,
+    ) -> Result<Answer<u32>, Refusal>
+        ensures refused { MatchOption (call_refused M.does self.old caller (Read n)) (IsOk result)
+            (λ r. (result ≡ Err r) × ((self.new ≡ self.old) × (out.new ≡ out.old))) }
+        ensures adds { IfOk result (λ answer.
+            AddsEntry M.does self.old self.new (Called caller (Read n) (reply_in answer out.new.items))) }
+        ensures filled { IfOk result (λ answer. answer_len answer ≡ length out.new.items) }
+        ensures parts { IfOk result (λ answer. longest_part answer ≤ READ_MAX) }
+    {
+        self.make(caller, &Event::Read { n }, out)
+    }
+
+    /// Writes as [`Pair::write`] does. Out of line, as is [`Pair::read_apart`], so that [`Pair::call`] is small enough to stand where it is called.
     #[inline(never)]
-    pub(super) fn call_apart(
+    pub(super) fn write_apart(
+        &mut self,
+        caller: Caller,
+        bytes: &[u8],
+        out: &mut Content,
+    ) -> Result<Answer<u32>, Refusal>
+        ensures refused { MatchOption (call_refused M.does self.old caller (Write bytes.now)) (IsOk result)
+            (λ r. (result ≡ Err r) × ((self.new ≡ self.old) × (out.new ≡ out.old))) }
+        ensures adds { IfOk result (λ answer.
+            AddsEntry M.does self.old self.new (Called caller (Write bytes.now) (reply_in answer out.new.items))) }
+        ensures filled { IfOk result (λ answer. answer_len answer ≡ length out.new.items) }
+        ensures parts { IfOk result (λ answer. longest_part answer ≤ READ_MAX) }
+    {
+        self.write(caller, bytes, out)
+    }
+
+    /// Reads as [`Pair::read`] does.
+    #[inline(never)]
+    pub(super) fn read_apart(
+        &mut self,
+        caller: Caller,
+        n: u32,
+        out: &mut Content,
+    ) -> Result<Answer<u32>, Refusal>
+        ensures refused { MatchOption (call_refused M.does self.old caller (Read n)) (IsOk result)
+            (λ r. (result ≡ Err r) × ((self.new ≡ self.old) × (out.new ≡ out.old))) }
+        ensures adds { IfOk result (λ answer.
+            AddsEntry M.does self.old self.new (Called caller (Read n) (reply_in answer out.new.items))) }
+        ensures filled { IfOk result (λ answer. answer_len answer ≡ length out.new.items) }
+        ensures parts { IfOk result (λ answer. longest_part answer ≤ READ_MAX) }
+    {
+        self.read(caller, n, out)
+    }
+
+    /// Makes a call as [`Pair::call`] says: putmsg(2). Out of line, so that its locals are cleared for it alone, as are those of what follows.
+    #[inline(never)]
+    pub(super) fn put_apart(
         &mut self,
         caller: Caller,
         event: &Event<&[u8]>,
@@ -102,6 +178,26 @@ impl<B: Blocks + Drop, M: OwnModule> Pair<B, M> {
                 };
                 self.make(caller, &put, out)
             }
+            _ => self.call_apart(caller, event, out),
+        }
+    }
+
+    /// Makes a call as [`Pair::call`] says: getmsg(2).
+    #[inline(never)]
+    pub(super) fn get_apart(
+        &mut self,
+        caller: Caller,
+        event: &Event<&[u8]>,
+        out: &mut Content,
+    ) -> Result<Answer<u32>, Refusal>
+        ensures refused { MatchOption (call_refused M.does self.old caller (request event.now)) (IsOk result)
+            (λ r. (result ≡ Err r) × ((self.new ≡ self.old) × (out.new ≡ out.old))) }
+        ensures adds { IfOk result (λ answer.
+            AddsEntry M.does self.old self.new (Called caller (request event.now) (reply_in answer out.new.items))) }
+        ensures filled { IfOk result (λ answer. answer_len answer ≡ length out.new.items) }
+        ensures parts { IfOk result (λ answer. longest_part answer ≤ READ_MAX) }
+    {
+        match event {
             Event::Get { wanted, cmax, dmax } => {
                 let get = Event::Get {
                     wanted: *wanted,
@@ -110,10 +206,50 @@ impl<B: Blocks + Drop, M: OwnModule> Pair<B, M> {
                 };
                 self.make(caller, &get, out)
             }
+            _ => self.call_apart(caller, event, out),
+        }
+    }
+
+    /// Makes a call as [`Pair::call`] says: ioctl(2).
+    #[inline(never)]
+    pub(super) fn ioctl_apart(
+        &mut self,
+        caller: Caller,
+        event: &Event<&[u8]>,
+        out: &mut Content,
+    ) -> Result<Answer<u32>, Refusal>
+        ensures refused { MatchOption (call_refused M.does self.old caller (request event.now)) (IsOk result)
+            (λ r. (result ≡ Err r) × ((self.new ≡ self.old) × (out.new ≡ out.old))) }
+        ensures adds { IfOk result (λ answer.
+            AddsEntry M.does self.old self.new (Called caller (request event.now) (reply_in answer out.new.items))) }
+        ensures filled { IfOk result (λ answer. answer_len answer ≡ length out.new.items) }
+        ensures parts { IfOk result (λ answer. longest_part answer ≤ READ_MAX) }
+    {
+        match event {
             Event::Ioctl { command, body } => {
                 let command = *command;
                 self.make(caller, &Event::Ioctl { command, body }, out)
             }
+            _ => self.call_apart(caller, event, out),
+        }
+    }
+
+    /// Makes a call as [`Pair::call`] says. Out of line, so that a write and a read don't pay for what these need of a frame.
+    #[inline(never)]
+    pub(super) fn call_apart(
+        &mut self,
+        caller: Caller,
+        event: &Event<&[u8]>,
+        out: &mut Content,
+    ) -> Result<Answer<u32>, Refusal>
+        ensures refused { MatchOption (call_refused M.does self.old caller (request event.now)) (IsOk result)
+            (λ r. (result ≡ Err r) × ((self.new ≡ self.old) × (out.new ≡ out.old))) }
+        ensures adds { IfOk result (λ answer.
+            AddsEntry M.does self.old self.new (Called caller (request event.now) (reply_in answer out.new.items))) }
+        ensures filled { IfOk result (λ answer. answer_len answer ≡ length out.new.items) }
+        ensures parts { IfOk result (λ answer. longest_part answer ≤ READ_MAX) }
+    {
+        match event {
             // Each new pair is opened by these: their kind is asked for among three.
             Event::OpenMaster | Event::Unlock | Event::OpenSlave => self.make(caller, event, out),
             _ => self.make(caller, event, out),

@@ -130,15 +130,30 @@ fn answers(rt: &impl Abort, ended: ScriptEnd, written: &[u8], wanted: &[u8]) {
     }
 }
 
+// A sink with room for so many bytes, which is asked for once more where it is refused.
+fn sink_for(alloc: Global, room: usize) -> Result<Vec<u8>, AllocError> {
+    match Vec::with_capacity(alloc, room) {
+        Ok(sink) => Ok(sink),
+        Err(AllocError) => Vec::with_capacity(alloc, room),
+    }
+}
+
 // Runs a script, and once more where memory was refused to it.
-fn script_goes<B: Reserve>(rt: &impl Abort, alloc: Global, script: &[u8], wanted: &[u8]) {
+fn script_goes<B: Reserve>(
+    rt: &impl Abort,
+    alloc: Global,
+    script: &[u8],
+    wanted: &[u8],
+) -> Result<(), AllocError> {
     let mut reader = script;
-    let mut written = Vec::new(alloc);
+    // All of its room is there before: a write that this sink refused would be one of the script's output.
+    let mut written = sink_for(alloc, wanted.len())?;
     let ended = runs::<B, _, _>(alloc, &mut reader, &mut written);
     answers(rt, ended, written.as_slice(), wanted);
     if ended != WELL {
         plays_over::<B>(rt, alloc, "a script", script, wanted, WELL);
     }
+    Ok(())
 }
 
 // Makes each call that asks for memory, and once more where it is refused.
@@ -148,7 +163,7 @@ fn makes_all<B: Reserve>(rt: &impl Abort, alloc: Global) -> Result<(), AllocErro
     assert!(rt; is_restored::<B>(rt, alloc, image.as_slice())?);
     cuts(rt, alloc, &mut pair);
     for (script, wanted) in &SCRIPTS {
-        script_goes::<B>(rt, alloc, *script, *wanted);
+        script_goes::<B>(rt, alloc, *script, *wanted)?;
     }
     Ok(())
 }
