@@ -20,6 +20,7 @@ use strm_types::{Asks, Note, Way};
 
 /// What the first message of a queue, which is that of a way, asks before it goes on: nothing holds one of high priority back, and else the module
 /// says whether it may go on, where its band has room ahead. A message has no more bytes than all blocks of a store.
+#[inline(never)]
 pub(crate) fn asked_on<M: OwnModule, B: Blocks>(
     own: &Own,
     store: &B,

@@ -180,6 +180,7 @@ fn act<M: OwnModule, B: Blocks>(
 
 /// Puts a message in hand at the module, which has queues: an M_FLUSH is obeyed and goes on, what waits is put on the queue of its way, and all else
 /// is put at the module itself. Beside what putq(9F) enables a queue is enabled whose first message may go on now, as none before could.
+#[inline(never)]
 pub(crate) fn put<M: OwnModule, B: Blocks>(
     own: &mut Own,
     pair: &mut QueuePair,

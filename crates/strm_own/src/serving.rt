@@ -42,6 +42,7 @@ pub(crate) fn unserved() -> Served
 /// Takes the first message off the queue of a way, and puts it at the module, which does with it what it does with one that comes and doesn't wait.
 /// It treats the message whole. A queue is enabled whose first message may go on now, as none before could. The cost is a step for each block of the
 /// message, and what the module's put costs.
+#[inline(never)]
 pub(crate) fn serve<M: OwnModule, B: Blocks>(
     own: &mut Own,
     pair: &mut QueuePair,
