@@ -16,7 +16,6 @@ use crate::release::{give_back, sift};
 use crate::visiting::{tell_list, tell_message};
 use crate::visitor::Visitor;
 use std::alloc::{AllocError, Global};
-use std::array::from_fn;
 use std::collections::LinkedList;
 use std::marker::Model;
 use strm_types::{BLOCK_SIZE, Band, LISTS, MsgKind};
@@ -86,7 +85,24 @@ impl TableStore {
 fn no_lists(alloc: Global) -> [LinkedList<Message>; LISTS]
     ensures { result ≡ replicate LISTS [] }
 {
-    from_fn(|_| LinkedList::new(alloc))
+    [
+        LinkedList::new(alloc),
+        LinkedList::new(alloc),
+        LinkedList::new(alloc),
+        LinkedList::new(alloc),
+        LinkedList::new(alloc),
+        LinkedList::new(alloc),
+        LinkedList::new(alloc),
+        LinkedList::new(alloc),
+        LinkedList::new(alloc),
+        LinkedList::new(alloc),
+        LinkedList::new(alloc),
+        LinkedList::new(alloc),
+        LinkedList::new(alloc),
+        LinkedList::new(alloc),
+        LinkedList::new(alloc),
+        LinkedList::new(alloc),
+    ]
 }
 
 // Takes a data block, where a message block is spare for it.
