@@ -1,5 +1,5 @@
 -- A queue that isn't enabled yet finds room, as its caller shows.
-use Rattle.std.proofs.Common.{◌≡◌, ◌<◌, true, false, ap, sym, subst, length, lit<}
+use Rattle.std.proofs.Common.{◌≡◌, true, false, sym, subst, lit<}
 use Rattle.std.specs.Prelude.{List}
 use Rattle.strm_types.specs.declared.names.QueueName.{QueueName}
 use Rattle.strm_types.specs.Names.{has_queues_at, is_enabled}
