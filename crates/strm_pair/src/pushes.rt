@@ -281,6 +281,13 @@ impl Streams {
         );
     }
 
+    // Whether messages wait on the queue of a side's driver.
+    fn driver_waits<B: Blocks>(&self, store: &B, side: Side) -> bool
+        ensures { result ≡ not (is_none_left (stream side (state_in (B.value store.now) self.now)).driver.queue.messages) }
+    {
+        !self.end(side).driver.is_empty(store)
+    }
+
     // Whether messages wait on the queue before the read queue of the module on top: that of the nearest module below it that has queues, or the
     // other side's driver.
     fn waits_below<B: Blocks>(&self, store: &B, side: Side) -> bool
@@ -291,7 +298,7 @@ impl Streams {
         let stack = &self.end(side).stack;
         match stack.place_before(Way::Up, 1) {
             Some(place) => stack.sizes(store, place, Way::Up).0 > 0,
-            None => !self.end(side.other()).driver.is_empty(store),
+            None => self.driver_waits(store, side.other()),
         }
     }
 
