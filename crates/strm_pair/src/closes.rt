@@ -9,11 +9,11 @@ ghost use Rattle.strm_types.specs.Emptied.{of_all};
 ghost use Rattle.strm_laws.specs.Puts.{flushed_on};
 ghost use Rattle.strm_frame.specs.Hands.{IsWide};
 
-use strm_own::OwnModule;
 use crate::streams::Streams;
 use strm_blocks::Blocks;
 use strm_frame::clear_queue;
 use strm_head::make_flush;
+use strm_own::OwnModule;
 use strm_types::{Answer, Band, Fates, FlushAsked, FlushQueues, Rule, Side, Spot, Way};
 
 impl Streams {

@@ -19,10 +19,10 @@ ghost use Rattle.strm_pair.specs.Taken.{TookNone, TookTop, WithoutTop};
 
 use crate::earlier::note;
 use crate::ends::first_list;
-use strm_own::OwnModule;
 use crate::stacks::{Taken, module_count, push_named, take_top};
 use crate::streams::Streams;
 use strm_blocks::Blocks;
+use strm_own::OwnModule;
 use strm_pty::make;
 use strm_types::{Answer, Fates, ModuleName, MsgKind, ReadMode, Rule, Side, Spot, Way};
 

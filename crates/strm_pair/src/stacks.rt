@@ -15,10 +15,10 @@ ghost use Rattle.strm_pair.specs.Taken.{TookNone, TookTop};
 
 use crate::ends::StreamEnd;
 use crate::modules::AnyModule;
-use strm_own::OwnModule;
 use arrayvec::ArrayVec;
 use strm_blocks::Blocks;
 use strm_frame::{Module, QueuePair, Standing, Tables};
+use strm_own::OwnModule;
 use strm_types::{Fates, ModuleName, Note, Place, Rule, Side};
 
 /// The modules of a side's stream.
