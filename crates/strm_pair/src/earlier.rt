@@ -43,12 +43,7 @@ impl Earlier {
 }
 
 // The queue that a note enables, of a place with these nearest earlier queues.
-fn queue_noted(
-    side: Side,
-    place: Option<Place>,
-    earlier: Earlier,
-    note: Note,
-) -> Option<QueueName>
+fn queue_noted(side: Side, place: Option<Place>, earlier: Earlier, note: Note) -> Option<QueueName>
     ensures { result ≡ queue_noted side place (earlier_of earlier) note }
 {
     match note {

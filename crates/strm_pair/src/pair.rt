@@ -32,7 +32,6 @@ use crate::answers::own;
 use crate::base::Base;
 use crate::journal::Journal;
 use crate::ledgers::sum;
-use strm_own::{NoModule, OwnModule};
 use crate::past::Past;
 use crate::refusals::or_else;
 use crate::shelves::Shelf;
@@ -41,6 +40,7 @@ use std::alloc::Global;
 use std::marker::{Model, PhantomData};
 use strm_blocks::Blocks;
 use strm_image::{IMAGE_BLOCK, IMAGE_FIXED};
+use strm_own::{NoModule, OwnModule};
 use strm_types::{
     Answer, Band, Caller, Config, Content, Dir, Entry, Event, Fates, LISTS, Ledger, NoMemory,
     Place, QueueName, READ_MAX, ReadBytes, Refusal, Side, Turn, Verdict, turn_blocks, unless,

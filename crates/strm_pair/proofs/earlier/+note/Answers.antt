@@ -31,10 +31,14 @@ note-requires t c κs within =
     let all = subst (λ (ms : List Note). length (noted c.args.side c.args.place earlier ms names) ≤ 14) c.in-Some.ensures.cases.0 c.requires.few in
     let is = noted-first c.args.side c.args.place earlier n ns names in
     let enabled = c.enable_found.ensures ∙ ap (λ (o : Option QueueName). enable_found o names) c.queue_noted.ensures in
-    let less = ap (λ (ms : List Note). length ms) c.in-Some.ensures.cases.0 in
-    (omega (arith, less), (within,
+    let less = ap (λ (ms : List Note). length ms) c.in-Some.ensures.cases.0 in (
+      omega (arith, less),
+      (
+        within,
         subst (λ (xs : List QueueName). length (noted c.args.side c.args.place earlier ns xs) ≤ 14) (sym enabled)
-        (subst (λ (xs : List QueueName). length xs ≤ 14) is all)))
+            (subst (λ (xs : List QueueName). length xs ≤ 14) is all),
+      ),
+    )
 
 pub returns : goal.returns
 returns t c =

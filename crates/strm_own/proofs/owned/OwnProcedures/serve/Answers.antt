@@ -24,7 +24,7 @@ returns-in-Some g c =
     let x = c.args.self.now in
     let by = own_by g.M.Behaves.does plain in
     subst (λ (q : Option QueuePair). ServesThere s (g.B.Blocks.value c.serve.new.store) x q c.serve.new.own (Some c.serve.new.pair)
-        c.serve.result c.args.told.now c.serve.new.told (own_serves by c.args.here (stood x (queues_in s q)))) (sym c.in-Some.is) c.serve.ensures
+    c.serve.result c.args.told.now c.serve.new.told (own_serves by c.args.here (stood x (queues_in s q)))) (sym c.in-Some.is) c.serve.ensures
 
 pub returns-in-None : goal.returns-in-None
 returns-in-None g c =

@@ -13,7 +13,7 @@ note_each-requires t c κs within =
     let s = c.requires.few.0 in
     let less = ap (λ (ms : List Note). length ms) c.in-Some.ensures.cases.0 in
     let few = noted-rest s c.args.side c.args.place c.args.at c.in-Some.first.now c.in-Some.rest.now c.args.notes.now c.args.self.now c.note_one.new.self
-        c.in-Some.ensures.cases.0 (c.note_one.ensures s) c.requires.few.1 in
+    c.in-Some.ensures.cases.0 (c.note_one.ensures s) c.requires.few.1 in
     (omega (arith, less), (within, (s, few)))
 
 pub returns : goal.returns
