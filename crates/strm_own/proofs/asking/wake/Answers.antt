@@ -16,6 +16,6 @@ returns-clause-notes g c =
     let before = c.args.before in
     let after = c.both_ask-after in
     let noted : Asks → Asks → List Note = λ read write. c.args.acts.notes.items
-        ++ (cond {A = List Note} (goes_anew before.read read) (Enable Up ∷ []) [] ++ cond {A = List Note} (goes_anew before.write write) (Enable Down ∷ []) []) in
+    ++ (cond {A = List Note} (goes_anew before.read read) (Enable Up ∷ []) [] ++ cond {A = List Note} (goes_anew before.write write) (Enable Down ∷ []) []) in
     let up = own_asked (own_by g.M.Behaves.does plain) Up c.args.own.now (way_queue Up (pair_in (g.B.Blocks.value c.args.store.now) c.args.pair.now)).messages in
     c.note_anew.ensures ∙ ap (λ read. noted read after.result.write) after.ensures.read ∙ ap (λ write. noted up write) after.ensures.write

@@ -34,7 +34,7 @@ returns-then-is_flush-clause-did g c =
     let flush = ap is_flush (kind-is (in_hand s i) ∙ sym c.kind-kind.ensures) ∙ sym c.is_flush.ensures ∙ c.if-is_flush.true in
     let otherwise = cond (own_holds by here m o) (own_queued here.way m o pair) (acts_alone (by.puts here m) (stood o (Some pair))) in
     subst (λ b. PutsThere s (g.B.Blocks.value c.pass_flush.new.store) o (Some c.args.pair.now) o (Some c.pass_flush.new.pair) i (own_at own_does here m)
-        c.pass_flush.result c.args.told.now c.pass_flush.new.told (cond b (pair_flushed here m o pair) otherwise)) (sym flush)
+    c.pass_flush.result c.args.told.now c.pass_flush.new.told (cond b (pair_flushed here m o pair) otherwise)) (sym flush)
     (c.pass_flush.ensures.did o (own_at own_does here m) c.requires.has)
 
 pub returns-then-holds-clause-did : goal.returns-then-holds-clause-did
@@ -50,10 +50,10 @@ returns-then-holds-clause-did g c =
     let flush = ap is_flush (kind-is (in_hand s i) ∙ sym c.kind-kind.ensures) ∙ sym c.is_flush.ensures ∙ c.if-is_flush.false in
     let holds = sym c.holds.ensures ∙ c.if-holds.true in
     subst (λ b. PutsThere s (g.B.Blocks.value c.wait.new.store) o (Some c.args.pair.now) o (Some c.wait.new.pair) i (own_at own_does here m)
-        c.wait.result c.args.told.now c.args.told.now
-        (cond b (pair_flushed here m o pair) (cond (own_holds by here m o) (own_queued here.way m o pair) alone))) (sym flush)
+    c.wait.result c.args.told.now c.args.told.now
+    (cond b (pair_flushed here m o pair) (cond (own_holds by here m o) (own_queued here.way m o pair) alone))) (sym flush)
     (subst (λ b. PutsThere s (g.B.Blocks.value c.wait.new.store) o (Some c.args.pair.now) o (Some c.wait.new.pair) i (own_at own_does here m)
-        c.wait.result c.args.told.now c.args.told.now (cond b (own_queued here.way m o pair) alone)) (sym holds)
+    c.wait.result c.args.told.now c.args.told.now (cond b (own_queued here.way m o pair) alone)) (sym holds)
     (c.wait.ensures.did o c.args.told.now (own_at own_does here m) c.requires.has))
 
 pub returns-clause-did : goal.returns-clause-did
@@ -73,10 +73,10 @@ returns-clause-did g c =
     let holds = sym c.holds.ensures ∙ c.if-holds.false in
     let owes = K.put plain here m o in
     subst (λ b. PutsThere s t o (Some queues) c.put_alone.new.own (Some queues) i most c.put_alone.result c.args.told.now c.put_alone.new.told
-        (cond b (pair_flushed here m o pair) (cond (own_holds by here m o) (own_queued here.way m o pair) (acts_alone (by.puts here m) (stood o (Some pair))))))
+    (cond b (pair_flushed here m o pair) (cond (own_holds by here m o) (own_queued here.way m o pair) (acts_alone (by.puts here m) (stood o (Some pair))))))
     (sym flush)
     (subst (λ b. PutsThere s t o (Some queues) c.put_alone.new.own (Some queues) i most c.put_alone.result c.args.told.now c.put_alone.new.told
-        (cond b (own_queued here.way m o pair) (acts_alone (by.puts here m) (stood o (Some pair))))) (sym holds)
+    (cond b (own_queued here.way m o pair) (acts_alone (by.puts here m) (stood o (Some pair))))) (sym holds)
     (puts-alone s t o c.put_alone.new.own (Some queues) i most c.put_alone.result c.args.told.now c.put_alone.new.told (by.puts here m) c.put_alone.ensures.did
     c.put_alone.ensures.notes owes.notes owes.number c.requires.has c.requires.ready))
 

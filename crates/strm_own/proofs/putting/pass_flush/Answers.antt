@@ -32,7 +32,7 @@ returns-clause-did g c = λ o most has.
     let f2 = second.new.told in
     let acts : Acts = record { notes = c.rooms.result; sent = c.pass_on.result } in
     let may = passes-may s t u x first.new.pair second.new.pair here asked.band asked.for_read asked.for_write first.result second.result f first.new.told
-        f2 first.ensures second.ensures i c.requires.may in
+    f2 first.ensures second.ensures i c.requires.may in
     subst (λ (a : FlushAsked). PutsThere s u o (Some x) o (Some second.new.pair) i most acts f f2 (flushed_by a here (message_in s i) o (pair_in s x)))
     c.asked_of-asked.ensures.asked
     (flush-passes s t u x first.new.pair second.new.pair here asked.band asked.for_read asked.for_write first.result second.result f first.new.told f2

@@ -46,7 +46,7 @@ returns-in-Some g c =
     let x = c.args.self.now in
     let by = own_by g.M.Behaves.does plain in
     subst (λ (q : Option QueuePair). PutsThere s (g.B.Blocks.value c.put.new.store) x q c.put.new.own (Some c.put.new.pair) i (own_at own_does c.args.here m)
-        c.put.result c.args.told.now c.put.new.told (own_puts by c.args.here m (stood x (queues_in s q)))) (sym c.in-Some.is) c.put.ensures
+    c.put.result c.args.told.now c.put.new.told (own_puts by c.args.here m (stood x (queues_in s q)))) (sym c.in-Some.is) c.put.ensures
 
 pub returns-in-None : goal.returns-in-None
 returns-in-None g c =
@@ -63,6 +63,6 @@ returns-in-None g c =
     let e = c.put_alone.ensures in
     let held = subst (λ (q : Option QueuePair). Fits IsHeld s (standing x q)) c.in-None.is c.requires.held in
     subst (λ (q : Option QueuePair). PutsThere s t x q c.put_alone.new.own q i most c.put_alone.result c.args.told.now c.put_alone.new.told
-        (own_puts by here m (stood x (queues_in s q)))) (sym c.in-None.is)
+    (own_puts by here m (stood x (queues_in s q)))) (sym c.in-None.is)
     (puts-alone s t x c.put_alone.new.own None i most c.put_alone.result c.args.told.now c.put_alone.new.told (by.puts here m) e.did e.notes owes.notes
     owes.number held.itself tt)

@@ -9,7 +9,7 @@ use Rattle.strm_frame.specs.Standings.{Fits, queues_in, standing}
 use Rattle.strm_frame.specs.declared.queue_pair.QueuePair.{QueuePair}
 use Rattle.strm_own.specs.Stands.{IsHeld, ServesThere}
 use Rattle.strm_own.proofs.Queueing.{held-pair}
-use Rattle.strm_own.proofs.Serving.{serves-bare}
+use Rattle.strm_own.proofs.FirstServed.{serves-bare}
 use Rattle.strm_own.proofs.owned.OwnProcedures.serve.Goals as goal
 
 pub serve-requires-clause-ready : goal.serve-requires-clause-ready
@@ -24,7 +24,7 @@ returns-in-Some g c =
     let x = c.args.self.now in
     let by = own_by g.M.Behaves.does plain in
     subst (λ (q : Option QueuePair). ServesThere s (g.B.Blocks.value c.serve.new.store) x q c.serve.new.own (Some c.serve.new.pair)
-        c.serve.result c.args.told.now c.serve.new.told (own_serves by c.args.here (stood x (queues_in s q)))) (sym c.in-Some.is) c.serve.ensures
+    c.serve.result c.args.told.now c.serve.new.told (own_serves by c.args.here (stood x (queues_in s q)))) (sym c.in-Some.is) c.serve.ensures
 
 pub returns-in-None : goal.returns-in-None
 returns-in-None g c =
