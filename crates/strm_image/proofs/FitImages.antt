@@ -1,5 +1,5 @@
 -- A state that has what an image asks has one.
-use Rattle.strm_image.proofs.Prelude.{◌≡◌, ℕ, ◌<◌, ◌≤◌, Bool, true, false, not, List, [], ◌∷◌, length, map, refl, sym, ap, subst, ◌∙◌, arith, ◌^◌}
+use Rattle.strm_image.proofs.Prelude.{◌≡◌, ℕ, ◌<◌, Bool, true, false, not, List, [], ◌∷◌, length, map, refl, sym, ap, subst, ◌∙◌, arith, ◌^◌}
 use Rattle.strm_image.proofs.Prelude.{and_from, and_parts, eq-eqb}
 use Rattle.strm_image.proofs.Prelude.{lt-ltb}
 use Rattle.strm_image.specs.Prelude.{Book, BANDS, Dir, MasterToSlave, SlaveToMaster, ModuleName, Openness, Never, Open, Closed, Place, QueueName}
@@ -71,12 +71,13 @@ has_there places.Driver w on there = refl
 
 -- and its number is that of a module that stands
 named_low : (name : ModuleName) (ps : List (Standing ℕ)) → AllByRecursion GoodModule ps → list_any (λ n. same_module n name) (map module_name ps) ≡ true → IsNumbered name
-named_low name [] good stands = absurd cc
-named_low name (p ∷ ps) good stands = at (same_module (module_name p) name) refl stands
+named_low name [] good there = absurd cc
+named_low name (p ∷ ps) good there = at (same_module (module_name p) name) refl there (named_low name ps good.1)
   where
-    at : (same : Bool) → same_module (module_name p) name ≡ same → (same || list_any (λ n. same_module n name) (map module_name ps)) ≡ true → IsNumbered name
-    at true is there = subst IsNumbered (same_module-sound (module_name p) name is) (kind_numbered p.part good.0.kind)
-    at false is there = named_low name ps good.1 there
+    at : (same : Bool) → same_module (module_name p) name ≡ same → (same || list_any (λ n. same_module n name) (map module_name ps)) ≡ true
+        → (list_any (λ n. same_module n name) (map module_name ps) ≡ true → IsNumbered name) → IsNumbered name
+    at true is there below = subst IsNumbered (same_module-sound (module_name p) name is) (kind_numbered p.part good.0.kind)
+    at false is there below = below there
 
 placed_low : (p : Place) (w : Way) (ps : List (Standing ℕ)) → AllByRecursion GoodModule ps → is_there_among p w (map module_name ps) ≡ true → IsPlaced p
 placed_low places.Head w ps good there = tt

@@ -1,5 +1,5 @@
 -- The modules and the streams of a restorable state fit their formats.
-use Rattle.strm_image.proofs.Prelude.{◌≡◌, ℕ, ◌<◌, ◌≤◌, Bool, true, false, not, ◌&&◌, ◌||◌, eqb, List, [], ◌∷◌, ◌++◌, length, map, refl, sym, ap}
+use Rattle.strm_image.proofs.Prelude.{◌≡◌, ℕ, ◌<◌, ◌≤◌, Bool, true, false, not, ◌&&◌, ◌||◌, eqb, List, [], ◌∷◌, ◌++◌, length, map, refl, ap}
 use Rattle.strm_image.proofs.Prelude.{Option, None, Some, is_some, arith, ◌^◌, nat_lt, and_from, eq-eqb, le-leb, lt-ltb, ltb-false, signals-fit, times}
 use Rattle.strm_image.proofs.Prelude.{times-cons, top-times}
 use Rattle.strm_image.specs.Prelude.{IOCTL_MAX, MODULES, SIGNAL_LAST, ControlMode, ReadMode, ModuleName, Side, COLUMN_MAX, Free, Waiting, Answered}

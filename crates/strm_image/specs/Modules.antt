@@ -1,5 +1,5 @@
 -- The text of the modules of a stream.
-use Rattle.std.specs.Prelude.{ℕ, Bool, true, false, ◌&&◌, not, nat_le, List, [], ◌∷◌, ◌++◌, Option, None}
+use Rattle.std.specs.Prelude.{ℕ, Bool, true, false, not, nat_le, List, [], ◌∷◌, ◌++◌, Option, None}
 use Rattle.std.specs.List.{list_any}
 use Rattle.strm_image.specs.Prelude.{MODULES, SETTINGS_MAX, ModuleName, COLUMN_MAX, Termios, Winsize, Between, Ldterm, same_module}
 use Rattle.strm_image.specs.Prelude.{new_pckt, Ptem, Queue, QueuePair, have_queues, ldterm_rests, Module, OfLdterm, OfOwn, OfPtem, OfPckt, Standing}

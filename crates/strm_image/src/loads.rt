@@ -4,12 +4,12 @@ ghost use Rattle.std.specs.Prelude.{◌≡◌, ◌<◌, ◌≤◌, ◌^◌, ◌*
 ghost use Rattle.strm_types.specs.Queue.{is_none_left};
 ghost use Rattle.strm_laws.specs.Stacked.{module_line};
 ghost use Rattle.strm_image.specs.Loads.{blocks_of, counted_of};
-ghost use Rattle.strm_image.specs.ModuleTexts.{module_now, modules_now};
+ghost use Rattle.strm_image.specs.ModuleTexts.{ldterm_now, module_now, modules_now};
 ghost use Rattle.strm_image.specs.StreamTexts.{laid_now};
 ghost use Rattle.strm_image.specs.Texts.{messages_now};
 ghost use Rattle.strm_image.specs.Counts.{cells_at, counted_in, down_cells, inline_cells, laid_blocks, module_blocks, up_cells};
 
-use crate::modules::{KindText, ModuleText};
+use crate::modules::{KindText, LdtermText, ModuleText};
 use crate::passed::MessagesText;
 use crate::streams::StreamText;
 use strm_types::Way;
@@ -36,6 +36,16 @@ impl<'a> MessagesText<'a> {
         ensures few { result < 2 ^ 65 }
     {
         self.load.cells
+    }
+}
+
+impl<'a> LdtermText<'a> {
+    // How many bytes the unfinished line has.
+    fn line_length(&self) -> usize
+        ensures value { result ≡ length (ldterm_now self.now).line }
+        ensures few { result < 2 ^ 63 }
+    {
+        self.line.len()
     }
 }
 
@@ -71,7 +81,7 @@ impl<'a> ModuleText<'a> {
         ensures few { result < 2 ^ 63 }
     {
         match self.kind {
-            KindText::Ldterm(found) => found.line.len(),
+            KindText::Ldterm(found) => found.line_length(),
             KindText::Ptem(_) | KindText::Pckt | KindText::Own(_) => 0,
         }
     }

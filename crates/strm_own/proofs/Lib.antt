@@ -1,9 +1,9 @@
 pub mod Prelude
 pub mod OwnPassing
 pub mod Replies
-mod Asking
-mod Looking
+mod FirstAsks
+mod Sought
 mod Waking
 mod Flushing
 mod Queueing
-mod Serving
+mod FirstServed

@@ -33,10 +33,10 @@ own-within K here m x = at x.queues
 pub own-once : (own : OwnActs ℕ) (here : Spot) (x : stands.Standing Own ℕ) → (own_serves own here x).again ≡ false
 own-once own here x = at x.queues
   where
-    first : (pair : stands.QueuePair ℕ) (ms : List (Message ℕ)) → (own_served own here x pair ms).again ≡ false
-    first pair [] = refl
-    first pair (m ∷ rest) = refl
+    first : (y : stands.Standing Own ℕ) (pair : stands.QueuePair ℕ) (ms : List (Message ℕ)) → (own_served own here y pair ms).again ≡ false
+    first y pair [] = refl
+    first y pair (m ∷ rest) = refl
 
     at : (queues : Option (stands.QueuePair ℕ)) → (own_serves own here (stands.stood x.part queues)).again ≡ false
     at None = refl
-    at (Some pair) = first pair (stands.way_queue here.way pair).messages
+    at (Some pair) = first (stands.stood x.part (Some pair)) pair (stands.way_queue here.way pair).messages

@@ -31,9 +31,7 @@ impl Visitor for Seeker {
         if first {
             self.parts = kind.is_data_kind();
         }
-        if self.parts && bytes.contains(&self.byte) {
-            self.found = true;
-        }
+        self.found |= self.parts & bytes.contains(&self.byte);
         !self.found
     }
 }

@@ -25,7 +25,6 @@ use crate::own::{Own, OwnModule, pass_on};
 use arrayvec::ArrayVec;
 use strm_blocks::{Blocks, InHand};
 use strm_frame::flushes::asked_of;
-use strm_frame::ioctls::is_ioctl;
 use strm_frame::{Acts, Outbox, QueuePair, note_if, rooms};
 use strm_types::{Band, Fates, MsgKind, Note, Spot, Way};
 
@@ -122,10 +121,10 @@ fn wait<B: Blocks>(pair: &mut QueuePair, store: &mut B, way: Way, message: InHan
 fn may_wait(way: Way, kind: MsgKind) -> bool
     ensures { result ≡ may_wait way kind }
 {
-    match way {
-        Way::Up => kind.is_held(),
-        Way::Down => kind.is_held() || is_ioctl(kind),
-    }
+    matches!(
+        (kind, way),
+        (MsgKind::Data | MsgKind::Proto, _) | (MsgKind::Ioctl, Way::Down)
+    )
 }
 
 // Whether a message in hand waits: one that may, and of which the module says so.

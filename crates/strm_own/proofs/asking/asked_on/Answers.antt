@@ -9,7 +9,7 @@ use Rattle.strm_laws.specs.Behaviours.{own_by}
 use Rattle.strm_laws.proofs.OwnForgets.{messages-plain}
 use Rattle.strm_queue.specs.Stored.{messages_on}
 use Rattle.strm_frame.proofs.FirstSizes.{first-few}
-use Rattle.strm_own.proofs.Asking.{asks-high, asks-low, asks-none, begins}
+use Rattle.strm_own.proofs.FirstAsks.{asks-high, asks-low, asks-none, begins}
 use Rattle.strm_own.proofs.asking.asked_on.Goals as goal
 
 pub returns-in_default-clause-asks : goal.returns-in_default-clause-asks

@@ -2,7 +2,7 @@
 use Rattle.std.proofs.Common.{ap, false, ◌∙◌}
 use Rattle.strm_blocks.specs.Blocks.{list_at}
 use Rattle.strm_own.specs.declared.looking.Seeker.{Seeker}
-use Rattle.strm_own.proofs.Looking.{found-on}
+use Rattle.strm_own.proofs.Sought.{found-on}
 use Rattle.strm_own.proofs.looking.has_byte.Goals as goal
 
 pub returns : goal.returns

@@ -6,7 +6,7 @@ use Rattle.strm_frame.specs.Queued.{TakesFirst, TakesNone}
 use Rattle.strm_frame.specs.StandingLaws.{pair-ready}
 use Rattle.strm_laws.specs.Behaviours.{own_by}
 use Rattle.strm_frame.proofs.WidePools.{wide-on}
-use Rattle.strm_own.proofs.Serving.{serves-first, serves-none, taken-in-hand}
+use Rattle.strm_own.proofs.FirstServed.{serves-first, serves-none, taken-in-hand}
 use Rattle.strm_own.proofs.serving.serve.Goals as goal
 
 pub returns-in_default : goal.returns-in_default

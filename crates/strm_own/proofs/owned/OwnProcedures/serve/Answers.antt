@@ -9,7 +9,7 @@ use Rattle.strm_frame.specs.Standings.{Fits, queues_in, standing}
 use Rattle.strm_frame.specs.declared.queue_pair.QueuePair.{QueuePair}
 use Rattle.strm_own.specs.Stands.{IsHeld, ServesThere}
 use Rattle.strm_own.proofs.Queueing.{held-pair}
-use Rattle.strm_own.proofs.Serving.{serves-bare}
+use Rattle.strm_own.proofs.FirstServed.{serves-bare}
 use Rattle.strm_own.proofs.owned.OwnProcedures.serve.Goals as goal
 
 pub serve-requires-clause-ready : goal.serve-requires-clause-ready

@@ -25,19 +25,19 @@ module _ (byte : ℕ) where
   seeks = told sought (λ v. not v.found)
 
   -- where one block of a message with parts was seen
-  abbrev then : Bool → List SeenBlock → Seeker
-  then found more = cond (not found) (seeks (seeking true found) more) (seeking true found)
+  abbrev seen_one : Bool → List SeenBlock → Seeker
+  seen_one found more = cond (not found) (seeks (seeking true found) more) (seeking true found)
 
-  then-found : (found : Bool) (more : List SeenBlock) → (then found more).found ≡ (found || (seeks (seeking true false) more).found)
-  then-found true more = refl
-  then-found false more = refl
+  one-found : (found : Bool) (more : List SeenBlock) → (seen_one found more).found ≡ (found || (seeks (seeking true false) more).found)
+  one-found true more = refl
+  one-found false more = refl
 
   -- the other blocks of a message with parts, and without
   rest-found : (chain : List Block) (more : List SeenBlock)
       → (seeks (seeking true false) (seen_in false chain ++ more)).found ≡ (is_among byte (bytes_of chain) || (seeks (seeking true false) more).found)
   rest-found [] more = refl
   rest-found (b ∷ chain) more =
-      then-found (is_among byte b.bytes) (seen_in false chain ++ more)
+      one-found (is_among byte b.bytes) (seen_in false chain ++ more)
       ∙ ap (λ v. is_among byte b.bytes || v) (rest-found chain more)
       ∙ sym (or_assoc (is_among byte b.bytes) (is_among byte (bytes_of chain)) _)
       ∙ ap (λ v. v || (seeks (seeking true false) more).found) (sym (among-append b.bytes (bytes_of chain)))
@@ -56,19 +56,20 @@ module _ (byte : ℕ) where
       → (seeks (seeking parts false) (seen_on q)).found ≡ has_byte byte (map message_of q)
   found-on parts [] all = refl
   found-on parts ([] ∷ q) all = absurd (let some = all.0.some in omega arith)
-  found-on parts ((b ∷ chain) ∷ q) all = at (is_data_kind b.kind) refl
+  found-on parts ((b ∷ chain) ∷ q) all = at (is_data_kind b.kind) refl (λ found. found-on found q all.1)
     where
       at : (k : Bool) → is_data_kind b.kind ≡ k
+          → ((found : Bool) → (seeks (seeking found false) (seen_on q)).found ≡ has_byte byte (map message_of q))
           → (cond (not (k && is_among byte b.bytes)) (seeks (seeking k (k && is_among byte b.bytes)) (seen_in false chain ++ seen_on q))
           (seeking k (k && is_among byte b.bytes))).found ≡ (is_among byte (cells_of (message_of (b ∷ chain))) || has_byte byte (map message_of q))
-      at true is =
-          then-found (is_among byte b.bytes) (seen_in false chain ++ seen_on q)
+      at true is ih =
+          one-found (is_among byte b.bytes) (seen_in false chain ++ seen_on q)
           ∙ ap (λ v. is_among byte b.bytes || v) (rest-found chain (seen_on q))
           ∙ sym (or_assoc (is_among byte b.bytes) (is_among byte (bytes_of chain)) _)
           ∙ ap (λ v. v || (seeks (seeking true false) (seen_on q)).found) (sym (among-append b.bytes (bytes_of chain)))
-          ∙ ap (λ v. is_among byte (bytes_of (b ∷ chain)) || v) (found-on true q all.1)
+          ∙ ap (λ v. is_among byte (bytes_of (b ∷ chain)) || v) (ih true)
           ∙ ap (λ l. is_among byte l || has_byte byte (map message_of q)) (sym (cells-shown (b ∷ chain) all.0 is))
-      at false is =
+      at false is ih =
           rest-skipped chain (seen_on q)
-          ∙ found-on false q all.1
+          ∙ ih false
           ∙ ap (λ l. is_among byte l || has_byte byte (map message_of q)) (sym (cells-none (b ∷ chain) false is refl))
