@@ -75,7 +75,7 @@ module _ (side : Side) (s : State ℕ) where
   -- messages wait there where the module's queue has any
   pub module-waits : (place : ℕ) → AreApart on → 0 < place → place ≤ length on
       → IfSome (queue_named side Up (slice_index_or (places_of on) (place - 1) None))
-        (λ name. nat_lt 0 (length (at_place (messages_at Up) [] place on)) ≡ not (is_none_left (messages_on name s)))
+      (λ name. nat_lt 0 (length (at_place (messages_at Up) [] place on)) ≡ not (is_none_left (messages_on name s)))
   module-waits place apart inside within =
       subst (λ o. IfSome (queue_named side Up o) (λ name. nat_lt 0 (length (at_place (messages_at Up) [] place on)) ≡ not (is_none_left (messages_on name s))))
       (sym (index-map none_there (λ q. place_of (module_name q)) None i on low)) (by (have_queues n))

@@ -44,8 +44,13 @@ pub record IsBare (s : StoreValue) : Type 0 where
 
 sum-none : (f : List Block → ℕ) (lists : List (List (List Block))) → sum_by (λ (q : List (List Block)). length q) lists ≡ 0 → sum_by (λ q. sum_by f q) lists ≡ 0
 sum-none f [] none = refl
-sum-none f ([] ∷ lists) none = omega (arith, sum_by-cons (λ (q : List (List Block)). length q) [] lists, sum_by-cons (λ q. sum_by f q) [] lists, none,
-    sum-none f lists (omega (arith, sum_by-cons (λ (q : List (List Block)). length q) [] lists, none)))
+sum-none f ([] ∷ lists) none = omega (
+  arith,
+  sum_by-cons (λ (q : List (List Block)). length q) [] lists,
+  sum_by-cons (λ q. sum_by f q) [] lists,
+  none,
+  sum-none f lists (omega (arith, sum_by-cons (λ (q : List (List Block)). length q) [] lists, none)),
+)
 sum-none f ((chain ∷ q) ∷ lists) none = absurd (omega (arith, sum_by-cons (λ (r : List (List Block)). length r) (chain ∷ q) lists, none))
 
 total-bare : (f : List Block → ℕ) (s : StoreValue) → IsBare s → total f s ≡ 0

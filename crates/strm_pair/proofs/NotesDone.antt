@@ -1,9 +1,10 @@
 -- Notes that are done one after the other.
 use Rattle.strm_pair.proofs.Prelude.{◌≡◌, ◌≤◌, ◌∙◌, ◌==◌, ℕ, true, List, [], ◌∷◌, length, refl, ap, subst, sym, arith, nat_tests, Option}
-use Rattle.strm_pair.specs.Prelude.{Place, Side, Note, StoreValue, earlier_at, noted}
+use Rattle.strm_pair.specs.Prelude.{Place, QueueName, Side, Way, Note, StoreValue, earlier_at, noted}
+use Rattle.strm_types.specs.Names.{enable_found}
 use Rattle.strm_types.specs.declared.spots.Note.TheVariants.{Enable, Room}
 use Rattle.strm_pair.specs.declared.streams.Streams.{Streams}
-use Rattle.strm_pair.specs.Nearest.{noted_on}
+use Rattle.strm_pair.specs.Nearest.{noted_on, queue_noted}
 use Rattle.strm_pair.specs.Pairs.{state_in}
 use Rattle.strm_pair.proofs.Enabling.{noted-long}
 
@@ -38,3 +39,9 @@ pub noted-rest : (s : StoreValue) (side : Side) (place : Option Place) (at : ℕ
     → length (noted_on s side place at ns q).enabled ≤ 14
 noted-rest s side place at n ns notes p q is first few =
     subst (λ (r : Streams). length r.enabled ≤ 14) (sym (noted-more s side place at n ns notes p q (noted_on s side place at ns q) is first refl)) few
+
+-- beside the streams, by the nearest earlier queues that a place had
+pub noted-first : (side : Side) (place : Option Place) (earlier : Way → Option QueueName) (n : Note) (ns : List Note) (names : List QueueName)
+    → noted side place earlier (n ∷ ns) names ≡ noted side place earlier ns (enable_found (queue_noted side place earlier n) names)
+noted-first side place earlier (Enable way) ns names = refl
+noted-first side place earlier (Room way) ns names = refl

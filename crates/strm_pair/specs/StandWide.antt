@@ -18,8 +18,7 @@ pub record StandOver (wanted : Bool) (s : StoreValue) (p : Streams) : Type 0 whe
 pub wide-frame : (wanted : Bool) (s t : StoreValue) (p : Streams) → SameFor s t (kept_by p) → StandOver wanted s p
     → (state_in t p ≡ state_in s p) × StandOver wanted t p
 wide-frame wanted s t p same stand =
-    let r = streams-frame s t p same stand.beside in
-    (
+    let r = streams-frame s t p same stand.beside in (
       r.0,
       record {
         beside = r.1;

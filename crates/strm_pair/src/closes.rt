@@ -11,12 +11,12 @@ ghost use Rattle.strm_laws.specs.StackCosts.{stands_of};
 ghost use Rattle.strm_frame.specs.Hands.{IsWide};
 ghost use Rattle.strm_pair.specs.Shelves.{IsStocked};
 
-use strm_own::OwnModule;
 use crate::shelves::Shelf;
 use crate::streams::Streams;
 use strm_blocks::Blocks;
 use strm_frame::clear_queue;
 use strm_head::make_flush;
+use strm_own::OwnModule;
 use strm_types::{Answer, Band, Fates, FlushAsked, FlushQueues, Rule, Side, Spot, Way};
 
 impl Streams {

@@ -14,11 +14,11 @@ ghost use Rattle.strm_queue.specs.Stored.{messages_on, queue_in, IsReady};
 ghost use Rattle.strm_pty.specs.Does.{OnlyQueue};
 ghost use Rattle.strm_pair.specs.Took.{settled, settling_relieves, TookFirst, MovesAcross};
 
-use strm_own::OwnModule;
 use crate::streams::Streams;
 use strm_blocks::{Blocks, InHand};
 use strm_frame::TurnEnd;
 use strm_msg::message_size;
+use strm_own::OwnModule;
 use strm_queue::Queue;
 use strm_queue::standing::{dequeue, relieve};
 use strm_types::{Band, Fates, MsgKind, Side, Spot, Turn, Way};

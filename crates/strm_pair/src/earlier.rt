@@ -7,7 +7,7 @@ ghost use Rattle.strm_types.specs.declared.names.Way.{Way};
 ghost use Rattle.strm_laws.specs.Earlier.{before_at, before_modules, driver_place, modules_on, queue_named};
 ghost use Rattle.strm_types.specs.Names.{enable_some};
 ghost use Rattle.strm_laws.specs.Puts.{noted};
-ghost use Rattle.strm_pair.specs.Nearest.{earlier_of, noted_on};
+ghost use Rattle.strm_pair.specs.Nearest.{earlier_of, noted_on, queue_noted};
 
 use crate::stacks::{module_count, place_at};
 use crate::streams::Streams;
@@ -42,6 +42,16 @@ impl Earlier {
     }
 }
 
+// The queue that a note enables, of a place with these nearest earlier queues.
+fn queue_noted(side: Side, place: Option<Place>, earlier: Earlier, note: Note) -> Option<QueueName>
+    ensures { result ≡ queue_noted side place (earlier_of earlier) note }
+{
+    match note {
+        Note::Enable(way) => queue_named(side, way, place),
+        Note::Room(way) => earlier.of(way),
+    }
+}
+
 /// Enables what is said of the queues of a place, one note after the other, by the nearest earlier queues that it had: those of a module
 /// that has gone.
 pub(crate) fn note(
@@ -57,10 +67,7 @@ pub(crate) fn note(
     let Some((first, rest)) = notes.split_first() else {
         return;
     };
-    match *first {
-        Note::Enable(way) => enabled.enable_found(queue_named(side, way, place)),
-        Note::Room(way) => enabled.enable_found(earlier.of(way)),
-    }
+    enabled.enable_found(queue_noted(side, place, earlier, *first));
     note(enabled, side, place, earlier, rest);
 }
 

@@ -14,11 +14,11 @@ ghost use Rattle.strm_laws.specs.State.{with_book};
 ghost use Rattle.strm_frame.specs.Hands.{IsWide};
 ghost use Rattle.strm_pair.specs.Parts.{longest_part};
 
-use strm_own::OwnModule;
 use crate::streams::Streams;
 use crate::writes::with_written;
 use strm_blocks::Blocks;
 use strm_head::{getmsg, make_message};
+use strm_own::OwnModule;
 use strm_types::{Answer, Book, Content, Fates, Prio, READ_MAX, Side, Spot, Wanted, Way};
 
 // How many bytes a part has, none where it is absent.

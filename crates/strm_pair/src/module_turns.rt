@@ -18,10 +18,10 @@ ghost use Rattle.strm_pair.specs.declared.module_turns.Begun.TheVariants.{Over};
 ghost use Rattle.strm_pair.specs.ModuleTurned.{BeginsAs};
 
 use crate::named_queues::place_named;
-use strm_own::OwnModule;
 use crate::streams::Streams;
 use strm_blocks::Blocks;
 use strm_frame::TurnEnd;
+use strm_own::OwnModule;
 use strm_types::{Asks, Fates, Place, QueueName, Side, Spot, Turn};
 
 /// What a turn of a module's queue begins with: it is over, with this answer, or the module at a place may serve.

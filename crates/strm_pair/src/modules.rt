@@ -8,10 +8,10 @@ ghost use Rattle.strm_laws.specs.Stacked.{OfPtem, without_kind_line};
 ghost use Rattle.strm_blocks.specs.Blocks.{StoreValue};
 ghost use Rattle.strm_pair.specs.AnyModules.{IsBare, IsMade, kind_in};
 
-use strm_own::{Own, OwnModule};
 use strm_blocks::{Blocks, InHand};
 use strm_frame::{Acts, Module, Procedures, QueuePair, Served};
 use strm_ldterm::Ldterm;
+use strm_own::{Own, OwnModule};
 use strm_pty::{Pckt, Ptem};
 use strm_types::{Asks, Fates, ModuleName, Spot, Way};
 
@@ -158,9 +158,7 @@ impl<M: OwnModule> Procedures<M> for AnyModule {
             AnyModule::Ldterm(ldterm) => ldterm.put(queues, store, here, message, told),
             AnyModule::Ptem(ptem) => ptem.put(queues, store, here, message, told),
             AnyModule::Pckt(pckt) => pckt.put(queues, store, here, message, told),
-            AnyModule::Own(own) => {
-                Procedures::<M>::put(own, queues, store, here, message, told)
-            }
+            AnyModule::Own(own) => { Procedures::<M>::put(own, queues, store, here, message, told) }
         }
     }
 
@@ -185,9 +183,7 @@ impl<M: OwnModule> Procedures<M> for AnyModule {
             AnyModule::Ldterm(ldterm) => ldterm.serve(queues, store, here, again, told),
             AnyModule::Ptem(ptem) => ptem.serve(queues, store, here, false, told),
             AnyModule::Pckt(pckt) => pckt.serve(queues, store, here, false, told),
-            AnyModule::Own(own) => {
-                Procedures::<M>::serve(own, queues, store, here, false, told)
-            }
+            AnyModule::Own(own) => { Procedures::<M>::serve(own, queues, store, here, false, told) }
         }
     }
 

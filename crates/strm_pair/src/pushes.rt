@@ -20,11 +20,11 @@ ghost use Rattle.strm_pair.specs.Taken.{TookNone, TookTop, WithoutTop};
 
 use crate::earlier::note;
 use crate::ends::first_list;
-use strm_own::OwnModule;
 use crate::shelves::Shelf;
 use crate::stacks::{Taken, module_count, push_named, take_top};
 use crate::streams::Streams;
 use strm_blocks::Blocks;
+use strm_own::OwnModule;
 use strm_pty::make;
 use strm_types::{Answer, Fates, ModuleName, MsgKind, ReadMode, Rule, Side, Spot, Way};
 
@@ -272,13 +272,14 @@ impl Streams {
         ensures shelf { Restocks shelf.old shelf.new (pairs_in self.old) (pairs_in self.new) }
     {
         let end = self.ends.get_mut(side);
-        push_named::<B, M>(
-            &mut end.stack,
-            shelf,
-            store,
-            name,
-            first_list(side),
-        );
+        push_named::<B, M>(&mut end.stack, shelf, store, name, first_list(side));
+    }
+
+    // Whether messages wait on the queue of a side's driver.
+    fn driver_waits<B: Blocks>(&self, store: &B, side: Side) -> bool
+        ensures { result ≡ not (is_none_left (stream side (state_in (B.value store.now) self.now)).driver.queue.messages) }
+    {
+        !self.end(side).driver.is_empty(store)
     }
 
     // Whether messages wait on the queue before the read queue of the module on top: that of the nearest module below it that has queues, or the
@@ -291,7 +292,7 @@ impl Streams {
         let stack = &self.end(side).stack;
         match stack.place_before(Way::Up, 1) {
             Some(place) => stack.sizes(store, place, Way::Up).0 > 0,
-            None => !self.end(side.other()).driver.is_empty(store),
+            None => self.driver_waits(store, side.other()),
         }
     }
 

@@ -8,9 +8,9 @@ ghost use Rattle.strm_laws.specs.Refusals.{enough, in_range};
 ghost use Rattle.strm_laws.specs.Rest.{EchoesOnce, work};
 ghost use Rattle.strm_laws.specs.StackCosts.{stands_of};
 
-use strm_own::OwnModule;
 use crate::pair::Pair;
 use strm_blocks::Blocks;
+use strm_own::OwnModule;
 use strm_types::Refusal;
 
 /// How many turns were made, and for what the next one is refused, if a queue is enabled still.

@@ -10,11 +10,11 @@ ghost use Rattle.strm_frame.specs.Hands.{IsWide};
 ghost use Rattle.strm_frame.specs.Outboxes.{sent_of};
 ghost use Rattle.strm_pair.specs.ModuleServed.{ActsAs, BookTakes, CallsAs, IsKeptAll, MayBook, MayCall, StackServes, StopsFew, TreatsAs, between, call_of, with_more};
 
-use strm_own::OwnModule;
 use crate::stacks::place_at;
 use crate::streams::Streams;
 use strm_blocks::Blocks;
 use strm_frame::{Served, deliver_all};
+use strm_own::OwnModule;
 use strm_types::{Fates, HOPS, Side, Spot};
 
 // How many bytes were made in each direction, modulo 2^64.

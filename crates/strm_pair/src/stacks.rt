@@ -17,11 +17,11 @@ ghost use Rattle.strm_pair.specs.Streams.{AreFor};
 ghost use Rattle.strm_pair.specs.Taken.{TookNone, TookTop};
 
 use crate::modules::AnyModule;
-use strm_own::OwnModule;
 use crate::shelves::Shelf;
 use arrayvec::ArrayVec;
 use strm_blocks::Blocks;
 use strm_frame::{Module, QueuePair, Standing};
+use strm_own::OwnModule;
 use strm_types::{Fates, MODULES, ModuleName, Note, Place, Rule, Side};
 
 /// The modules of a side's stream.

@@ -29,7 +29,6 @@ ghost use Rattle.strm_pair.specs.Effects.{MayPut};
 ghost use Rattle.strm_pair.specs.PutBy.{PutBy, CameBy, StackTakes};
 ghost use Rattle.strm_pair.specs.Staying.{KeepsBlocks};
 
-use strm_own::OwnModule;
 use crate::service_calls::Made;
 use crate::stacks::place_at;
 use crate::streams::Streams;
@@ -37,6 +36,7 @@ use strm_blocks::{Blocks, InHand};
 use strm_frame::{Acts, Outbox, Sent, Stations};
 use strm_head::{Down, make_flush};
 use strm_msg::booked_size;
+use strm_own::OwnModule;
 use strm_pty::{make, put};
 use strm_types::{Across, Fates, MODULES, MsgKind, Place, Rule, Side, Spot, Way};
 

@@ -25,17 +25,17 @@ ghost use Rattle.strm_pair.specs.Streams.{IsBlank, IsSide, stream_in};
 ghost use Rattle.strm_pair.specs.Parts.{longest_part};
 
 use crate::ends::{StreamEnd, first_list};
-use strm_own::OwnModule;
 use crate::shelves::Shelf;
 use crate::stacks::Stack;
 use std::alloc::{AllocError, Global};
 use strm_blocks::Blocks;
 use strm_frame::Enabled;
 use strm_head::Head;
+use strm_own::OwnModule;
 use strm_queue::{HEAD_HIGH, HEAD_LOW, OTHER_HIGH, OTHER_LOW, Queue, Table};
 use strm_types::{
-    Answer, Book, Both, Caller, Content, Event, Fates, MODULES, Mode, Openness, Place, QueueName, READ_MAX,
-    Side, Turn, Way,
+    Answer, Book, Both, Caller, Content, Event, Fates, MODULES, Mode, Openness, Place, QueueName,
+    READ_MAX, Side, Turn, Way,
 };
 
 /// The streams of a pair, whether its slave is locked, the queues that are enabled, the number that the next ioctl gets,

@@ -19,7 +19,6 @@ ghost use Rattle.strm_pair.specs.Stacks.{IsStackHeld, modules_in};
 
 use crate::images::queues::put_queue;
 use crate::modules::AnyModule;
-use strm_own::Own;
 use crate::stacks::Stack;
 use strm_blocks::Blocks;
 use strm_frame::{QueuePair, Standing};
@@ -28,6 +27,7 @@ use strm_image::writing::{
 };
 use strm_image::{QueueKind, Sink};
 use strm_ldterm::Ldterm;
+use strm_own::Own;
 use strm_pty::Ptem;
 use strm_types::ModuleName;
 

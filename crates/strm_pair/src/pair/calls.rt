@@ -10,9 +10,9 @@ ghost use Rattle.strm_types.specs.Journal.{answer_len, reply_in};
 ghost use Rattle.strm_laws.specs.Pair.{AddsEntry, call_refused, call_verdict};
 ghost use Rattle.strm_pair.specs.Parts.{longest_part};
 
-use strm_own::OwnModule;
 use crate::pair::Pair;
 use strm_blocks::Blocks;
+use strm_own::OwnModule;
 use strm_types::{Answer, Caller, Content, Event, Refusal, StopSignal, Verdict};
 
 impl<B: Blocks + Drop, M: OwnModule> Pair<B, M> {

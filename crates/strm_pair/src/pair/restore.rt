@@ -18,13 +18,13 @@ use crate::base::Base;
 use crate::images::known::all_known;
 use crate::images::made_pairs::{fates_of, streams_of};
 use crate::journal::Journal;
-use strm_own::OwnModule;
 use crate::pair::Pair;
 use crate::streams::{QueueTables, queue_tables};
 use std::alloc::{AllocError, Global};
 use std::marker::PhantomData;
 use strm_blocks::Blocks;
 use strm_image::{IMAGE_BLOCK, IMAGE_FIXED, StateText, read};
+use strm_own::OwnModule;
 use strm_types::{Config, Refusal};
 
 /// The memory of a pair that is to be made: of the bands of its queues, of its journal, and of the journal's base.

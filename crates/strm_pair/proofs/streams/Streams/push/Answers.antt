@@ -37,9 +37,11 @@ let_come-requires-clause-room g c =
     let known = named-known K name (stands-known K name (stream side s).modules may) in
     let stands : v ≡ with_modules side (p ∷ (stream side u).modules) u =
     subst (λ o. IfSome o (λ p. v ≡ with_modules side (p ∷ (stream side u).modules) u)) known c.put_on.ensures.state in
-    let few = subst AreFewEnabled (sym c.put_mode.ensures.state) (mode-few s c.requires.rests.enabled side c.mode_on_push.result) in
-    (t, subst (λ (x : State ℕ). length (enable_some c.has_queues.result (before_at side Up 1 x) x.enabled) ≤ 14) (sym stands)
-        (subst (λ o. length (enable_some c.has_queues.result o u.enabled) ≤ 14) (sym (before-pushed side p u)) (let-few u few side Up 0 c.has_queues.result)))
+    let few = subst AreFewEnabled (sym c.put_mode.ensures.state) (mode-few s c.requires.rests.enabled side c.mode_on_push.result) in (
+      t,
+      subst (λ (x : State ℕ). length (enable_some c.has_queues.result (before_at side Up 1 x) x.enabled) ≤ 14) (sym stands)
+          (subst (λ o. length (enable_some c.has_queues.result o u.enabled) ≤ 14) (sym (before-pushed side p u)) (let-few u few side Up 0 c.has_queues.result)),
+    )
 
 pub returns-clause-leads : goal.returns-clause-leads
 returns-clause-leads g c =
@@ -65,7 +67,7 @@ returns-clause-leads g c =
           ∙ ap (λ has. let_come has side v) c.has_queues.ensures
           ∙ ap (let_come (have_queues name) side) stands
           ∙ ap (λ (x : State ℕ). let_come (have_queues name) side (with_modules side (p ∷ (stream side x).modules) x))
-              (told.state ∙ ap (λ m. (mode_put side m s).state) c.mode_on_push.ensures)
+          (told.state ∙ ap (λ m. (mode_put side m s).state) c.mode_on_push.ensures)
           ∙ sym (ap (λ (o : Carried ℕ (State ℕ)). o.state) pushed);
       tells = told.tells
           ∙ ap (λ m. tallied (mode_put side m s).gone c.args.told.now) c.mode_on_push.ensures
