@@ -20,5 +20,5 @@ returns-in-Some-queues_of-clause-rest c = λ x xs is.
 pub put-requires : goal.put-requires
 put-requires c = ?
 
-pub returns-clause-shelf : goal.returns-clause-shelf
-returns-clause-shelf c = ?
+pub returns-in-Some-queues_of-clause-shelf : goal.returns-in-Some-queues_of-clause-shelf
+returns-in-Some-queues_of-clause-shelf c = ?
