@@ -57,7 +57,7 @@ module _ {s a b : StoreValue} {first : ℕ} {q r : Queue} (h : Fills s a first q
   pub list-free : (k : ℕ) → first + 2 ≤ k → list_at b k ≡ list_at s k
   list-free k low = w.others k (λ e. absurd (omega (arith, low, e))) ∙ h.others k (λ e. absurd (omega (arith, low, e)))
 
-  module _ {d : StoreValue} (f : (k : ℕ) → (first + 2 ≤ k → first + 2 + 6 ≤ k) → list_at d k ≡ list_at b k) where
+  module _ (d : StoreValue) (f : (k : ℕ) → (first + 2 ≤ k → first + 2 + 6 ≤ k) → list_at d k ≡ list_at b k) where
     head-list : list_at d q.list ≡ list_at a q.list
     head-list =
         f q.list (λ low. absurd (omega (arith, low, h.list_is)))
@@ -90,16 +90,16 @@ module _ {s a b d : StoreValue} {first : ℕ} {q r : Queue} (text : StreamText) 
   ms = text.modules.items
 
   head-same : queue_in d q ≡ queue_now text.head
-  head-same = queue-same a d q (head-list h w stacked.others) ∙ head_is
+  head-same = queue-same a d q (head-list h w d stacked.others) ∙ head_is
 
   driver-same : queue_in d r ≡ queue_now text.driver
-  driver-same = queue-same b d r (driver-list h w stacked.others) ∙ driver_is
+  driver-same = queue-same b d r (driver-list h w d stacked.others) ∙ driver_is
 
   readable : HoldsReadable (list_at d q.list)
   readable = record { each = readable-each (list_at d q.list) (subst (λ (x : state.Queue ℕ). AllByRecursion (λ m. StandsOn is_part_kind m) x.messages) (sym head-same) good.head.messages) }
 
   head-fits : IsHeadQueue d head.queue
-  head-fits = subst (IsHeadQueue d) (sym is) (record { ready = ready-same a d q (head-list h w stacked.others) h.ready; readable = readable })
+  head-fits = subst (IsHeadQueue d) (sym is) (record { ready = ready-same a d q (head-list h w d stacked.others) h.ready; readable = readable })
 
   names-once : AreApart (map (module_in d) stack.modules.items)
   names-once = subst (λ ps. EachOnce (map module_name ps)) (sym stacked.state) (subst EachOnce (names-same ms) good.modules.names)
@@ -115,14 +115,14 @@ module _ {s a b d : StoreValue} {first : ℕ} {q r : Queue} (text : StreamText) 
       head_list = ap (λ (x : Queue). x.list) is ∙ h.list_is;
       driver_list = w.list_is;
       head = head-fits;
-      driver = ready-same b d r (driver-list h w stacked.others) w.ready;
+      driver = ready-same b d r (driver-list h w d stacked.others) w.ready;
       stack = stacked.held;
       once = names-once;
       lists = stacked.lists;
     };
     rests = stacked.rests;
-    before = λ k low. outside h w stacked.others k (λ up. absurd (omega (arith, low, up)));
-    behind = λ k high. outside h w stacked.others k (λ up. high);
+    before = λ k low. outside h w d stacked.others k (λ up. absurd (omega (arith, low, up)));
+    behind = λ k high. outside h w d stacked.others k (λ up. high);
     hand = stacked.hand ∙ w.hand ∙ h.hand;
     mblks = stacked.mblks ∙ w.mblks ∙ h.mblks;
     dblks = stacked.dblks ∙ w.dblks ∙ h.dblks;

@@ -2,7 +2,7 @@
 use Rattle.strm_pair.proofs.Prelude.{ℕ, zero, suc, ◌≡◌, ◌≤◌, ◌<◌, ◌+◌, ◌*◌, Bool, true, false, cond, List, [], ◌∷◌, length, map, refl, sym, ap, subst, ◌∙◌, arith}
 use Rattle.strm_pair.proofs.Prelude.{Option, None, Some, and_parts, is_some, length-map, sum_by, sum_by-cons, false≢true, ◌&&◌}
 use Rattle.std.proofs.lemmas.Bool.{and_from}
-use Rattle.strm_pair.specs.Prelude.{MODULES, ModuleName, Side, Master, Slave, Behaviour, EachOnce, Stands, State, Standing, StoreValue, have_queues, may_stand, named_by}
+use Rattle.strm_pair.specs.Prelude.{MODULES, ModuleName, Side, Master, Slave, Behaviour, EachOnce, Stands, State, Standing, StoreValue, have_queues, may_stand, module_named, named_by}
 use Rattle.strm_pair.specs.Prelude.{QueuePair, module_name, other, queues_in, same_module, opening, stands_of, stands_on, stream}
 use Rattle.std.specs.List.{AllByRecursion}
 use Rattle.strm_types.specs.declared.names.ModuleName.TheVariants as names
@@ -23,8 +23,8 @@ use Rattle.strm_pair.specs.Shelves.{IsFull, IsStocked, Restocks, pairs_among, pa
 use Rattle.strm_pair.specs.Shows.{one_pair, pairs_of}
 use Rattle.strm_pair.specs.Stacks.{modules_in}
 use Rattle.strm_pair.specs.Streams.{IsSide}
-use Rattle.strm_pair.proofs.ModulePushed.{few-below, made-named}
-use Rattle.strm_pair.proofs.Modes.{stands-known}
+use Rattle.strm_pair.proofs.ModulePushed.{few-below}
+use Rattle.strm_pair.proofs.Modes.{named-known, stands-known}
 
 -- ---- by their names
 
@@ -170,8 +170,9 @@ some-left K queued tells shelf all side name is once known few once_there known_
 -- one that may stand there has a name of its own
 once-named : (K : Behaviour) (name : ModuleName) (ms : List (Standing ℕ)) → may_stand (named_by K (Some name)) ms ≡ true → EachOnce (map module_name ms) → EachOnce (name ∷ map module_name ms)
 once-named K name ms may each =
-    let new = made-named K name ms may in
-    subst (λ n. EachOnce (n ∷ map module_name ms)) (kind-is ℕ K name) (push-once new.0 ms (ap (λ o. may_stand o ms) (sym new.1) ∙ may) each)
+    let new = module_named K name in
+    let named = named-known K name (stands-known K name ms may) in
+    subst (λ n. EachOnce (n ∷ map module_name ms)) (kind-is ℕ K name) (push-once new ms (ap (λ o. may_stand o ms) (sym named) ∙ may) each)
 
 -- the modules of a side's stack are known, and few of them have queues
 few-there : (s : StoreValue) (first : ℕ) (e : StreamEnd) → IsSide s first e → pairs_named (map module_name (modules_in s e.stack)) ≤ MODULES

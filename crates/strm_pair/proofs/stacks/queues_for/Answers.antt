@@ -25,9 +25,6 @@ new-requires-clause-read c = omega (arith, c.requires.first (sym c.has_queues.en
 pub new-requires-clause-write : goal.new-requires-clause-write
 new-requires-clause-write c = c.requires.first (sym c.has_queues.ensures ∙ c.if-not-has_queues.false)
 
-pub overflow_add : goal.overflow_add
-overflow_add c = omega (arith, c.requires.first (sym c.has_queues.ensures ∙ c.if-not-has_queues.false))
-
 pub returns-clause-given : goal.returns-clause-given
 returns-clause-given c =
     let has : have_queues c.args.name ≡ true = sym c.has_queues.ensures ∙ c.if-not-has_queues.false in

@@ -27,25 +27,24 @@ rest-good m ms good = record {
   names = pop-once (module_name (module_now m)) (names_now ms) good.names;
 }
 
-pub stack_of-requires : goal.stack_of-requires
-stack_of-requires g t c κs within =
+pub stack_of-stack-requires : goal.stack_of-stack-requires
+stack_of-stack-requires g t c κs within =
     let s = g.B.Blocks.value c.args.store.now in
     let is = c.in-Some.ensures.cases.0 in
     let m = c.in-Some.text.now in
     let ms = c.in-Some.rest.now in
     let good = rest-good m ms (subst AreModuleTexts is c.requires.good) in
-    let shelf = omega (arith, c.requires.shelf, ap (λ ns. sum_by text_pair ns) is, sum_by-cons text_pair m ms) in
     let room = room-rest s m ms (subst (λ ns. HasRoom s (sum_by module_blocks ns)) is c.requires.room) in
     let less = ap length is in
-    (omega (arith, less), (within, (c.requires.first, (c.requires.empty, (shelf, (good, room))))))
+    (omega (arith, less), (within, (c.requires.first, (c.requires.empty, (omega (arith, c.requires.shelf, ap (λ ns. sum_by text_pair ns) is, sum_by-cons text_pair m ms), (good, room))))))
 
 pub pairs_among-pairs-requires : goal.pairs_among-pairs-requires
 pairs_among-pairs-requires g t c =
     let good = subst AreModuleTexts c.in-Some.ensures.cases.0 c.requires.good in
     omega (arith, ap length c.as_slice.ensures.value, stacked-length c.stack_of-stack.ensures, good.few)
 
-pub module_of-requires-clause-free : goal.module_of-requires-clause-free
-module_of-requires-clause-free g t c = λ has.
+pub module_of-module-requires-clause-free : goal.module_of-module-requires-clause-free
+module_of-module-requires-clause-free g t c = λ has.
     let u = g.B.Blocks.value c.stack_of-stack.new.store in
     let is = c.in-Some.ensures.cases.0 in
     let good = subst AreModuleTexts is c.requires.good in
@@ -53,19 +52,14 @@ module_of-requires-clause-free g t c = λ has.
     let many = c.pairs_among-pairs.ensures.pairs ∙ ap (λ ys. sum_by (λ (y : AnyStanding). one_pair y.queues) ys) c.as_slice.ensures.value in
     subst (λ n. IsFreeFor u (c.args.first + 2 * n) c.stack_of-stack.new.shelf) (sym many) (free-next c.stack_of-stack.ensures c.in-Some.text.now c.requires.first good.few enough has)
 
-pub module_of-requires-clause-good : goal.module_of-requires-clause-good
-module_of-requires-clause-good g t c = (subst AreModuleTexts c.in-Some.ensures.cases.0 c.requires.good).each.0
+pub module_of-module-requires-clause-good : goal.module_of-module-requires-clause-good
+module_of-module-requires-clause-good g t c = (subst AreModuleTexts c.in-Some.ensures.cases.0 c.requires.good).each.0
 
-pub module_of-requires-clause-room : goal.module_of-requires-clause-room
-module_of-requires-clause-room g t c =
+pub module_of-module-requires-clause-room : goal.module_of-module-requires-clause-room
+module_of-module-requires-clause-room g t c =
     let s = g.B.Blocks.value c.args.store.now in
     let u = g.B.Blocks.value c.stack_of-stack.new.store in
     room-next s u c.in-Some.text.now c.in-Some.rest.now (subst (λ ms. HasRoom s (sum_by module_blocks ms)) c.in-Some.ensures.cases.0 c.requires.room) c.stack_of-stack.ensures.spent
-
-pub insert-requires-clause-room : goal.insert-requires-clause-room
-insert-requires-clause-room g t c =
-    let good = subst AreModuleTexts c.in-Some.ensures.cases.0 c.requires.good in
-    omega (arith, stacked-length c.stack_of-stack.ensures, good.few)
 
 pub returns : goal.returns
 returns g t c =

@@ -28,8 +28,7 @@ take_all-requires g t c κs within =
     let left = sym (one-less c.args.rule c.args.side st (state_in (g.B.Blocks.value c.take_top.new.store) c.take_top.new.self) leads.state (c.args.count - 1) many) in
     let rests = rests-behind s (g.B.Blocks.value c.take_top.new.store) c.take_top.new.self c.args.told.now c.take_top.new.told taken.state taken.gone leads
     (top-idle c.args.rule c.args.side st c.requires.rests.idle) (taken-few c.args.rule c.args.side st c.requires.rests.enabled) in
-    let room = omega (arith, c.requires.room, c.take_top.ensures.shelf.tables, c.take_top.ensures.shelf.room) in
-    (omega arith, (within, (rests, (left, room))))
+    (omega arith, (within, (rests, (left, omega (arith, c.requires.room, c.take_top.ensures.shelf.tables, c.take_top.ensures.shelf.room)))))
 
 pub returns-clause-leads : goal.returns-clause-leads
 returns-clause-leads g t c =
