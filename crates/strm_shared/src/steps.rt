@@ -198,6 +198,22 @@ pub(crate) fn turn<P: Object, R: Wait>(rt: &R, system: &System<P>, end: &PairEnd
     let _ = system.turn(rt, end.pair());
 }
 
+// Both halves of an end, unless it has one part.
+fn cut_in_two<P: Object>(system: &System<P>, end: PairEnd<P>) -> Option<(PairEnd<P>, PairEnd<P>)>
+    requires { IsOne system.now end }
+    ensures { IfSome result (λ two. IsOne system.now two.0 × IsOne system.now two.1) }
+{
+    system.split_end(end).ok()
+}
+
+// An end that can't be split.
+pub(crate) fn unsplit<P: Object>(system: &System<P>, end: PairEnd<P>) -> Option<PairEnd<P>>
+    requires { IsOne system.now end }
+    ensures { IfSome result (λ end. IsOne system.now end) }
+{
+    system.split_end(end).err()
+}
+
 // Both halves of an end.
 pub(crate) fn halves<P: Object, R: Abort>(
     rt: &R,
@@ -208,7 +224,7 @@ pub(crate) fn halves<P: Object, R: Abort>(
     ensures first { IsOne system.now result.0 }
     ensures second { IsOne system.now result.1 }
 {
-    let Ok(two) = system.split_end(end) else {
+    let Some(two) = cut_in_two(system, end) else {
         panic!(rt; "one part")
     };
     two

@@ -7,7 +7,7 @@ ghost use Rattle.strm_locks.specs.Systems.{IsOne};
 use crate::journals::is_cut;
 use crate::steps::{
     apart, call, claimed, halves, makes, no_slave, not_opened, opened, opened_master, reads,
-    rejoined, settled, settled_with, slave_of, told, tried, unlock, worked, writes,
+    rejoined, settled, settled_with, slave_of, told, tried, unlock, unsplit, worked, writes,
 };
 use std::alloc::Global;
 use std::process::Abort;
@@ -303,11 +303,11 @@ fn splits_and_joins<P: Object, R: Wait + Abort>(
 }
 
 // The end, which can't be split.
-fn unsplit<P: Object, R: Abort>(rt: &R, system: &System<P>, end: PairEnd<P>) -> PairEnd<P>
+fn stays_whole<P: Object, R: Abort>(rt: &R, system: &System<P>, end: PairEnd<P>) -> PairEnd<P>
     requires { IsOne system.now end }
     ensures { IsOne system.now result }
 {
-    let Err(end) = system.split_end(end) else {
+    let Some(end) = unsplit(system, end) else {
         panic!(rt; "split")
     };
     end
@@ -318,7 +318,7 @@ fn is_last<P: Object, R: Wait + Abort>(rt: &R, system: &System<P>, end: PairEnd<
     requires { IsOne system.now end }
     ensures { IsOne system.now result }
 {
-    let mut end = unsplit(rt, system, end);
+    let mut end = stays_whole(rt, system, end);
     assert!(rt; end.end().parts() == 1);
     assert!(rt; no_slave(rt, system, &mut end) == Some(Refusal::Erange));
     end
