@@ -92,7 +92,10 @@ fn on_pairs<B: Reserve + Send, R: Threads + Wait + Sync + Abort>(
     requires { pairs ≤ 64 }
 {
     let (system, mut opener) = system_over::<B>(alloc, pairs, sizes)?;
-    play(rt, alloc, &system, &mut opener, case)
+    let played = play(rt, alloc, &system, &mut opener, case);
+    drop(opener);
+    drop(system);
+    played
 }
 
 // The same over the program's store.

@@ -19,14 +19,22 @@ pub(crate) const FOUR: Config = Config {
     ..SIZES
 };
 
+// Fills the journal by a write, and writes on once it begins anew.
+fn writes_on<P: Object, R: Wait + Abort>(rt: &R, system: &System<P>, master: &mut PairEnd<P>)
+    requires { IsOne system.now master.old }
+    ensures { IsOne system.now master.new }
+{
+    assert!(rt; writes(rt, system, master, b"a"));
+    assert!(rt; !writes(rt, system, master, b"b"));
+    restart(rt, system, master);
+    assert!(rt; writes(rt, system, master, b"b"));
+}
+
 pub(crate) fn go_on<P: Object, R: Wait + Abort>(rt: &R, system: &System<P>, opener: &mut Opener)
     requires { IsOf system.now.minors opener.old }
 {
     let (mut master, slave) = opened(rt, system, opener);
-    assert!(rt; writes(rt, system, &mut master, b"a"));
-    assert!(rt; !writes(rt, system, &mut master, b"b"));
-    restart(rt, system, &master);
-    assert!(rt; writes(rt, system, &mut master, b"b"));
+    writes_on(rt, system, &mut master);
     let settled = settled(rt, system, master, slave);
     assert!(rt; settled.told.calls == 5 && settled.ms.written == 2);
 }
@@ -115,6 +123,12 @@ fn same(one: &Trace, two: &Trace) -> bool {
         && one.bytes.as_slice() == two.bytes.as_slice()
 }
 
+// The first trace has all four entries, and the second begins behind them.
+fn have_all_and_none<R: Abort>(rt: &R, first: &Trace, second: &Trace) {
+    assert!(rt; first.entries.len() == 4 && first.bytes.as_slice() == b"abc".as_slice());
+    assert!(rt; second.entries.is_empty() && second.base.as_slice() != first.base.as_slice());
+}
+
 // Where a cut of one pair is refused, none of the other is: what both hand out is the same all the same.
 pub(crate) fn two_are_cut<P: Object, R: Wait + Abort>(
     rt: &R,
@@ -124,9 +138,10 @@ pub(crate) fn two_are_cut<P: Object, R: Wait + Abort>(
 )
     requires { IsOf system.now.minors opener.old }
 {
-    let (first, second) = writes_and_is_cut(rt, alloc, system, opener);
-    assert!(rt; first.entries.len() == 4 && first.bytes.as_slice() == b"abc".as_slice());
-    assert!(rt; second.entries.is_empty() && second.base.as_slice() != first.base.as_slice());
+    let one = writes_and_is_cut(rt, alloc, system, opener);
+    have_all_and_none(rt, &one.0, &one.1);
     let other = writes_and_is_cut(rt, alloc, system, opener);
-    assert!(rt; same(&first, &other.0) && same(&second, &other.1));
+    assert!(rt; same(&one.0, &other.0) && same(&one.1, &other.1));
+    drop(other);
+    drop(one);
 }

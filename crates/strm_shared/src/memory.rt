@@ -49,11 +49,32 @@ fn all_memory(alloc: Global) -> Result<Vec<Vec<u8>>, AllocError> {
     Ok(taken)
 }
 
-// Why no system is made of two of the least pairs, and no host of a hundred.
+// Why no system is made of two of the least pairs.
+fn no_system<B: Reserve>(alloc: Global) -> Option<Refusal> {
+    system_over::<B>(alloc, 2, LEAST).err()
+}
+
+// Why no host is made of a hundred of the least pairs.
+fn no_host<B: Reserve>(alloc: Global) -> Option<Refusal> {
+    host_over::<B>(alloc, 100, LEAST).err()
+}
+
+// Why neither is.
 fn refused<B: Reserve>(alloc: Global) -> (Option<Refusal>, Option<Refusal>) {
-    let system = system_over::<B>(alloc, 2, LEAST).err();
-    let host = host_over::<B>(alloc, 100, LEAST).err();
-    (system, host)
+    let system = no_system::<B>(alloc);
+    (system, no_host::<B>(alloc))
+}
+
+// Whether both are refused for want of memory.
+fn are_by_name(alloc: Global) -> bool {
+    let (system, host) = refused::<Store>(alloc);
+    system == Some(Refusal::NoMemory) && host == Some(Refusal::NoMemory)
+}
+
+// Whether neither is refused.
+fn are_made(alloc: Global) -> bool {
+    let (system, host) = refused::<Store>(alloc);
+    system.is_none() && host.is_none()
 }
 
 fn has_crew<P: Object>(system: &System<P>, alloc: Global) -> bool {
@@ -72,9 +93,8 @@ fn are_refused<P: Object, R: Wait>(
 {
     let was_cut = cut(rt, alloc, system, master).is_some();
     let has_crew = has_crew(system, alloc);
-    let (no_system, no_host) = refused::<Store>(alloc);
+    let by_name = are_by_name(alloc);
     let wrote = writes(rt, system, master, b"abc");
-    let by_name = no_system == Some(Refusal::NoMemory) && no_host == Some(Refusal::NoMemory);
     wrote && !was_cut && !has_crew && by_name
 }
 
@@ -88,11 +108,30 @@ fn are_had<P: Object, R: Wait>(
     requires { IsOne system.now master.now }
 {
     let was_cut = cut(rt, alloc, system, master).is_some();
-    let (no_system, no_host) = refused::<Store>(alloc);
-    was_cut && has_crew(system, alloc) && no_system.is_none() && no_host.is_none()
+    let are_made = are_made(alloc);
+    was_cut && has_crew(system, alloc) && are_made
 }
 
 // A pair is cut, and workers are had, once there is memory.
+fn is_short_for<P: Object, R: Wait + Abort>(
+    rt: &R,
+    alloc: Global,
+    system: &System<P>,
+    master: &mut PairEnd<P>,
+) -> Result<(), AllocError>
+    requires { IsOne system.now master.old }
+    ensures { IsOne system.now master.new }
+{
+    // (where all addresses are taken the stack can't grow, so all of it is asked for before)
+    assert!(rt; are_had(rt, alloc, system, master));
+    let taken = all_memory(alloc)?;
+    let are_short = are_refused(rt, alloc, system, master);
+    drop(taken);
+    assert!(rt; are_short);
+    assert!(rt; are_had(rt, alloc, system, master));
+    Ok(())
+}
+
 pub(crate) fn is_short<P: Object, R: Wait + Abort>(
     rt: &R,
     alloc: Global,
@@ -102,13 +141,7 @@ pub(crate) fn is_short<P: Object, R: Wait + Abort>(
     requires { IsOf system.now.minors opener.old }
 {
     let (mut master, slave) = opened(rt, system, opener);
-    // (where all addresses are taken the stack can't grow, so all of it is asked for before)
-    assert!(rt; are_had(rt, alloc, system, &master));
-    let taken = all_memory(alloc)?;
-    let are_short = are_refused(rt, alloc, system, &mut master);
-    drop(taken);
-    assert!(rt; are_short);
-    assert!(rt; are_had(rt, alloc, system, &master));
+    is_short_for(rt, alloc, system, &mut master)?;
     assert!(rt; settled(rt, system, master, slave).told.calls == 4);
     Ok(())
 }

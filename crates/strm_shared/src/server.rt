@@ -4,7 +4,7 @@ ghost use Rattle.std.specs.Prelude.{◌<◌, IfOk, length};
 ghost use Rattle.strm_minors.specs.Openers.{IsOf};
 ghost use Rattle.strm_locks.specs.Systems.{IsOne};
 
-use crate::steps::{claimed, makes, told, turn, writes};
+use crate::steps::{claimed, joined, makes, told, turn, writes};
 use std::process::Abort;
 use std::sync::Wait;
 use std::test::Fail;
@@ -61,9 +61,9 @@ fn talk<P: Object + Send, R: Threads + Wait + Sync>(
             ensures { IsOne system.entry.now result }
         { listen(rt, system, slave) },
     );
-    match system.join_ends(master, slave) {
-        Ok(both) => Ok(both),
-        Err(_) => Err(Refusal::StillShared),
+    match joined(system, master, slave) {
+        Some(both) => Ok(both),
+        None => Err(Refusal::StillShared),
     }
 }
 

@@ -9,7 +9,7 @@ use std::process::Abort;
 use std::sync::Wait;
 use std::thread::Threads;
 use strm_image::Trace;
-use strm_locks::{Gate, Object, PairEnd, Report, Settled, System, Told};
+use strm_locks::{Closed, Gate, Object, PairEnd, Report, Settled, System, Told};
 use strm_minors::{Minor, Opener};
 use strm_types::{Answer, Content, Event, Refusal};
 
@@ -38,6 +38,17 @@ pub(crate) fn tried<P: Object, R: Wait>(
         Ok(end) => Ok(end),
         Err((why, minor)) => Err((why.refusal, minor)),
     }
+}
+
+// Why the pair of a minor isn't opened, and the minor, if it isn't.
+pub(crate) fn not_opened<P: Object, R: Wait>(
+    rt: &R,
+    system: &System<P>,
+    minor: Minor,
+) -> Option<(Refusal, Minor)>
+    requires { minor < length system.now.locks }
+{
+    tried(rt, system, minor).err()
 }
 
 // The master's end of the pair of a new minor.
@@ -187,6 +198,22 @@ pub(crate) fn turn<P: Object, R: Wait>(rt: &R, system: &System<P>, end: &PairEnd
     let _ = system.turn(rt, end.pair());
 }
 
+// Both halves of an end, unless it has one part.
+fn cut_in_two<P: Object>(system: &System<P>, end: PairEnd<P>) -> Option<(PairEnd<P>, PairEnd<P>)>
+    requires { IsOne system.now end }
+    ensures { IfSome result (λ two. IsOne system.now two.0 × IsOne system.now two.1) }
+{
+    system.split_end(end).ok()
+}
+
+// An end that can't be split.
+pub(crate) fn unsplit<P: Object>(system: &System<P>, end: PairEnd<P>) -> Option<PairEnd<P>>
+    requires { IsOne system.now end }
+    ensures { IfSome result (λ end. IsOne system.now end) }
+{
+    system.split_end(end).err()
+}
+
 // Both halves of an end.
 pub(crate) fn halves<P: Object, R: Abort>(
     rt: &R,
@@ -197,7 +224,7 @@ pub(crate) fn halves<P: Object, R: Abort>(
     ensures first { IsOne system.now result.0 }
     ensures second { IsOne system.now result.1 }
 {
-    let Ok(two) = system.split_end(end) else {
+    let Some(two) = cut_in_two(system, end) else {
         panic!(rt; "one part")
     };
     two
@@ -213,6 +240,18 @@ pub(crate) fn joined<P: Object>(
     ensures { IfSome result (λ end. IsOne system.now end) }
 {
     system.join_ends(first, second).ok()
+}
+
+// Two ends that aren't joined.
+pub(crate) fn apart<P: Object>(
+    system: &System<P>,
+    first: PairEnd<P>,
+    second: PairEnd<P>,
+) -> Option<(PairEnd<P>, PairEnd<P>)>
+    requires first { IsOne system.now first }
+    requires second { IsOne system.now second }
+{
+    system.join_ends(first, second).err()
 }
 
 // One end of two of a pair.
@@ -242,8 +281,15 @@ pub(crate) fn settled_with<P: Object, R: Wait>(
     ensures { IfSome result (λ two. two.1 < length system.now.locks) }
 {
     match system.settle(rt, end) {
-        Ok((closed, minor)) => Some((closed.settled, minor)),
-        Err(_) => None,
+        Ok((closed, minor)) => {
+            let Closed { settled, visit } = closed;
+            drop(visit);
+            Some((settled, minor))
+        }
+        Err(back) => {
+            drop(back);
+            None
+        }
     }
 }
 

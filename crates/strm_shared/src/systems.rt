@@ -1,13 +1,13 @@
 //! Systems of pairs: what their ends are told, and what is refused.
 
-ghost use Rattle.std.specs.Prelude.{◌<◌, length};
+ghost use Rattle.std.specs.Prelude.{◌<◌, ◌≤◌, length};
 ghost use Rattle.strm_minors.specs.Openers.{IsOf};
 ghost use Rattle.strm_locks.specs.Systems.{IsOne};
 
 use crate::journals::is_cut;
 use crate::steps::{
-    call, claimed, halves, makes, no_slave, opened, opened_master, reads, rejoined, settled,
-    settled_with, slave_of, told, tried, unlock, worked, writes,
+    apart, call, claimed, halves, makes, no_slave, not_opened, opened, opened_master, reads,
+    rejoined, settled, settled_with, slave_of, told, tried, unlock, unsplit, worked, writes,
 };
 use std::alloc::Global;
 use std::process::Abort;
@@ -16,7 +16,7 @@ use std::test::Fail;
 use std::thread::Threads;
 use strm_image::Trace;
 use strm_locks::{ALL_PARTS, NoGate, Object, PairEnd, Settled, System, Told};
-use strm_minors::{Minor, Minors, Opener};
+use strm_minors::{Minor, Minors, NoMinor, Opener};
 use strm_system::{host, system};
 use strm_types::{Answer, Config, Content, Event, Refusal, StopSignal, TIOCSPGRP};
 
@@ -49,12 +49,14 @@ pub(crate) fn opens_and_refuses<P: Object, R: Wait + Abort>(
     assert!(rt; told(&master).calls == 2);
     let slave = slave_of(rt, system, &mut master);
     assert!(rt; told(&master).calls == 3 && told(&slave).calls == 0);
+    drop(slave);
+    drop(master);
 }
 
 fn isnt_opened<P: Object, R: Wait + Abort>(rt: &R, system: &System<P>, minor: Minor)
     requires { minor < length system.now.locks }
 {
-    let Err((why, _)) = tried(rt, system, minor) else {
+    let Some((why, _)) = not_opened(rt, system, minor) else {
         panic!(rt; "opened twice")
     };
     assert!(rt; why == Refusal::Einval);
@@ -66,7 +68,7 @@ fn opens_again<P: Object, R: Wait + Abort>(rt: &R, system: &System<P>, end: Pair
     let Some((settled, minor)) = settled_with(rt, system, end) else {
         panic!(rt; "shared")
     };
-    assert!(rt; settled.told.calls == 1 && tried(rt, system, minor).is_ok());
+    assert!(rt; settled.told.calls == 1 && not_opened(rt, system, minor).is_none());
 }
 
 // A pair that was opened isn't opened by a minor of the same number, till it settles. Its own minor comes back then, and opens it again.
@@ -86,6 +88,33 @@ fn is_opened_twice<P: Object, R: Wait + Abort>(
     opens_again(rt, system, end);
 }
 
+// A minor of other minors, of the number of a pair.
+fn is_strange<P: Object, R: Wait + Abort>(
+    rt: &R,
+    system: &System<P>,
+    opener: &mut Opener,
+    stranger: Minor,
+)
+    requires { IsOf system.now.minors opener.old }
+{
+    let minor = claimed(rt, system, opener);
+    if stranger.number() < system.pairs() {
+        is_opened_twice(rt, system, minor, stranger);
+    }
+}
+
+fn with_stranger<P: Object, R: Wait + Abort>(
+    rt: &R,
+    system: &System<P>,
+    opener: &mut Opener,
+    stranger: Result<Minor, NoMinor>,
+) -> Result<(), Fail>
+    requires { IsOf system.now.minors opener.old }
+{
+    is_strange(rt, system, opener, stranger?);
+    Ok(())
+}
+
 pub(crate) fn strange_minor<P: Object, R: Wait + Abort>(
     rt: &R,
     alloc: Global,
@@ -95,12 +124,18 @@ pub(crate) fn strange_minor<P: Object, R: Wait + Abort>(
     requires { IsOf system.now.minors opener.old }
 {
     let (other, mut own) = Minors::new(alloc, 1)?;
-    let stranger = other.claim(&mut own)?;
-    let minor = claimed(rt, system, opener);
-    if stranger.number() < system.pairs() {
-        is_opened_twice(rt, system, minor, stranger);
-    }
-    Ok(())
+    let stranger = other.claim(&mut own);
+    let told = with_stranger(rt, system, opener, stranger);
+    drop(own);
+    drop(other);
+    told
+}
+
+// Whether no system is made of so many pairs of these sizes.
+fn are_refused(alloc: Global, pairs: u32, sizes: Config) -> bool
+    requires { pairs ≤ 64 }
+{
+    matches!(&system(alloc, pairs, sizes), Err(Refusal::Einval))
 }
 
 // No pair has a journal and no block, nor more than a store may have.
@@ -111,12 +146,12 @@ fn sizes_are_refused(rt: HostRuntime) {
             mblks: blocks,
             ..SIZES
         };
-        assert!(rt; matches!(&system(rt.alloc(), 1, few), Err(Refusal::Einval)));
+        assert!(rt; are_refused(rt.alloc(), 1, few));
         let few = Config {
             dblks: blocks,
             ..SIZES
         };
-        assert!(rt; matches!(&system(rt.alloc(), 0, few), Err(Refusal::Einval)));
+        assert!(rt; are_refused(rt.alloc(), 0, few));
     }
 }
 
@@ -212,7 +247,7 @@ pub(crate) fn runs_out_of_minors<P: Object, R: Wait + Abort>(
 fn has_no_room<P: Object, R: Wait + Abort>(rt: &R, system: &System<P>, second: Minor)
     requires { second < length system.now.locks }
 {
-    let Err((why, minor)) = tried(rt, system, second) else {
+    let Some((why, minor)) = not_opened(rt, system, second) else {
         panic!(rt; "opened")
     };
     assert!(rt; why == Refusal::JournalFull && minor.number() == 1);
@@ -240,11 +275,13 @@ fn come_back<P: Object, R: Wait + Abort>(
     requires first { IsOne system.now first }
     requires second { IsOne system.now second }
 {
-    let Err((first, second)) = system.join_ends(first, second) else {
+    let Some((first, second)) = apart(system, first, second) else {
         panic!(rt; "joined")
     };
     assert!(rt; first.pair() == 0 && second.pair() == 1);
     assert!(rt; told(&first).calls == 1 && told(&second).calls == 1);
+    drop(second);
+    drop(first);
 }
 
 // Cuts an end in two so often, first halves first, and joins all again. The last one has one part, and opens no slave.
@@ -266,11 +303,11 @@ fn splits_and_joins<P: Object, R: Wait + Abort>(
 }
 
 // The end, which can't be split.
-fn unsplit<P: Object, R: Abort>(rt: &R, system: &System<P>, end: PairEnd<P>) -> PairEnd<P>
+fn stays_whole<P: Object, R: Abort>(rt: &R, system: &System<P>, end: PairEnd<P>) -> PairEnd<P>
     requires { IsOne system.now end }
     ensures { IsOne system.now result }
 {
-    let Err(end) = system.split_end(end) else {
+    let Some(end) = unsplit(system, end) else {
         panic!(rt; "split")
     };
     end
@@ -281,7 +318,7 @@ fn is_last<P: Object, R: Wait + Abort>(rt: &R, system: &System<P>, end: PairEnd<
     requires { IsOne system.now end }
     ensures { IsOne system.now result }
 {
-    let mut end = unsplit(rt, system, end);
+    let mut end = stays_whole(rt, system, end);
     assert!(rt; end.end().parts() == 1);
     assert!(rt; no_slave(rt, system, &mut end) == Some(Refusal::Erange));
     end
@@ -348,6 +385,49 @@ fn are_told<R: Abort>(rt: &R, shell: &Told, job: &Told) {
     assert!(rt; shell.calls == 2 && shell.read.from_master == 3);
 }
 
+// Has the end's later calls made by a process of a group.
+fn in_group<P: Object>(system: &System<P>, end: &mut PairEnd<P>, group: u32)
+    requires { IsOne system.now end.old }
+    ensures { IsOne system.now end.new }
+{
+    end.set_group(group, false, false);
+}
+
+// The shell and its job are of two groups, of which the shell's is in the foreground.
+fn have_groups<P: Object, R: Wait + Abort>(
+    rt: &R,
+    system: &System<P>,
+    shell: &mut PairEnd<P>,
+    job: &mut PairEnd<P>,
+)
+    requires shell { IsOne system.now shell.old }
+    requires job { IsOne system.now job.old }
+    ensures shell { IsOne system.now shell.new }
+    ensures job { IsOne system.now job.new }
+{
+    in_group(system, shell, 5);
+    in_group(system, job, 7);
+    let foreground = Event::Ioctl {
+        command: TIOCSPGRP,
+        body: [0, 0, 0, 5].as_slice(),
+    };
+    assert!(rt; makes(rt, system, shell, &foreground));
+}
+
+// The master writes a line, and a worker makes the turn that brings it to the slave.
+fn has_a_line<P: Object + Send, R: Threads + Wait + Sync + Abort>(
+    rt: &R,
+    alloc: Global,
+    system: &System<P>,
+    master: &mut PairEnd<P>,
+)
+    requires { IsOne system.now master.old }
+    ensures { IsOne system.now master.new }
+{
+    assert!(rt; writes(rt, system, master, b"abc"));
+    assert!(rt; worked(rt, alloc, system, (1, 1), &NoGate).turns == 1);
+}
+
 pub(crate) fn job_reads<P: Object + Send, R: Threads + Wait + Sync + Abort>(
     rt: &R,
     alloc: Global,
@@ -358,24 +438,25 @@ pub(crate) fn job_reads<P: Object + Send, R: Threads + Wait + Sync + Abort>(
 {
     let (mut master, slave) = opened(rt, system, opener);
     let (mut shell, mut job) = halves(rt, system, slave);
-    shell.set_group(5, false, false);
-    job.set_group(7, false, false);
-    let foreground = Event::Ioctl {
-        command: TIOCSPGRP,
-        body: [0, 0, 0, 5].as_slice(),
-    };
-    assert!(rt; makes(rt, system, &mut shell, &foreground));
-    assert!(rt; writes(rt, system, &mut master, b"abc"));
-    assert!(rt; worked(rt, alloc, system, (1, 1), &NoGate).turns == 1);
+    have_groups(rt, system, &mut shell, &mut job);
+    has_a_line(rt, alloc, system, &mut master);
     stops_the_job(rt, system, &mut shell, &mut job);
+    drop(job);
+    drop(shell);
+    drop(master);
+}
+
+// Whether no host is made of so many pairs of these sizes.
+fn isnt_had(alloc: Global, pairs: u32, sizes: Config) -> bool {
+    matches!(&host(alloc, pairs, sizes), Err(Refusal::Einval))
 }
 
 // No host has no pair, nor more than 65,536.
 #[test]
 fn hosts_are_refused(rt: HostRuntime) {
     for pairs in [0, 65537] {
-        assert!(rt; matches!(&host(rt.alloc(), pairs, SIZES), Err(Refusal::Einval)));
+        assert!(rt; isnt_had(rt.alloc(), pairs, SIZES));
     }
     let few = Config { mblks: 0, ..SIZES };
-    assert!(rt; matches!(&host(rt.alloc(), 65, few), Err(Refusal::Einval)));
+    assert!(rt; isnt_had(rt.alloc(), 65, few));
 }

@@ -76,15 +76,19 @@ fn read_beside<P: Object + Send, R: Threads + Wait + Sync>(
     end
 }
 
-pub(crate) fn hand_over<P: Object + Send, R: Threads + Wait + Sync + Abort>(
+// One thread writes all and another reads it, beside a worker.
+fn both_hand_over<P: Object + Send, R: Threads + Wait + Sync + Abort>(
     rt: &R,
     system: &System<P>,
-    opener: &mut Opener,
-)
-    requires { IsOf system.now.minors opener.old }
+    master: PairEnd<P>,
+    slave: PairEnd<P>,
+) -> (PairEnd<P>, PairEnd<P>)
+    requires master { IsOne system.now master }
+    requires slave { IsOne system.now slave }
+    ensures master { IsOne system.now result.0 }
+    ensures slave { IsOne system.now result.1 }
 {
-    let (master, slave) = opened(rt, system, opener);
-    let (master, slave) = join(
+    join(
         rt,
         || -> PairEnd<P>
             requires { IsOne system.now master }
@@ -94,7 +98,18 @@ pub(crate) fn hand_over<P: Object + Send, R: Threads + Wait + Sync + Abort>(
             requires { IsOne system.now slave }
             ensures { IsOne system.entry.now result }
         { read_beside(rt, system, slave) },
-    );
+    )
+}
+
+pub(crate) fn hand_over<P: Object + Send, R: Threads + Wait + Sync + Abort>(
+    rt: &R,
+    system: &System<P>,
+    opener: &mut Opener,
+)
+    requires { IsOf system.now.minors opener.old }
+{
+    let (master, slave) = opened(rt, system, opener);
+    let (master, slave) = both_hand_over(rt, system, master, slave);
     is_handed_over(rt, &settled(rt, system, slave, master));
 }
 

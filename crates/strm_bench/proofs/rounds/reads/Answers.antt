@@ -5,5 +5,5 @@ use Rattle.strm_bench.proofs.rounds.reads.Goals as goal
 
 pub returns : goal.returns
 returns g c =
-    subst (λ b. OnTrue b (length c.call.new.out.items ≤ c.args.n)) (sym c.is_ok.ensures.value)
-    (read-most _ _ _ c.args.n _ c.call.result c.call.ensures.adds c.call.ensures.filled)
+    subst (λ b. OnTrue b (length c.read.new.out.items ≤ c.args.n)) (sym c.is_ok.ensures.value)
+    (read-most _ _ _ c.args.n _ c.read.result c.read.ensures.adds c.read.ensures.filled)
