@@ -138,7 +138,7 @@ module _ (K : Behaviour) (s t u : StoreValue) (x y : Own) (pair pair' : QueuePai
       (record {
         state = stands-so;
         notes = woken ∙ ap (λ ns. ns ++ notes_anew own read write (stands.stood y (Some (pair_in u pair')))) (noted ∙ sym owes.notes)
-            ∙ ap (λ ns. is.notes ++ ns) (notes-woken own was _ read write up down)
+            ∙ ap (λ ns. is.notes ++ ns) (notes-woken own was (stands.stood y (Some (pair_in u pair'))) read write up down)
             ∙ ap (λ z. is.notes ++ notes_anew own (own_asks own Up was) (own_asks own Down was) z) stands-so;
         sent = ap (λ o. parcels_in u (sent_of o)) same ∙ did.sent;
         told = did.told;

@@ -50,7 +50,7 @@ module _ (byte : ℕ) where
   -- the cells of a message, by whether it has parts
   cells-none : (chain : List Block) (k : Bool) → is_data_kind (block_at 0 chain).kind ≡ k → k ≡ false → cells_of (message_of chain) ≡ []
   unfolding cells_of message_of
-  cells-none chain k is no = rw (is ∙ no) refl
+  cells-none chain k is none = rw (is ∙ none) refl
 
   pub found-on : (parts : Bool) (q : List (List Block)) → AllByRecursion IsChain q
       → (seeks (seeking parts false) (seen_on q)).found ≡ has_byte byte (map message_of q)

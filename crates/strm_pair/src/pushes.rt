@@ -9,6 +9,7 @@ ghost use Rattle.strm_types.specs.Journal.{answer_len, reply_in};
 ghost use Rattle.strm_types.specs.Options.{mode_number};
 ghost use Rattle.strm_laws.specs.Pushes.{all_taken, below_top, let_come, may_stand, messages_on, mode_behind, mode_on_push, mode_put, modules_emptied, named_by, popped, pushed_named, top_on, with_modules};
 ghost use Rattle.strm_types.specs.declared.names.Way.TheVariants.{Up};
+ghost use Rattle.strm_types.specs.Names.{have_queues};
 ghost use Rattle.strm_types.specs.Queue.{is_none_left};
 ghost use Rattle.strm_laws.specs.Known.{all_known};
 ghost use Rattle.strm_laws.specs.StackCosts.{stands_of};

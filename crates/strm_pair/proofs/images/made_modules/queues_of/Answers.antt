@@ -26,5 +26,5 @@ returns g c =
     let s = g.B.Blocks.value c.args.store.now in
     let t = g.B.Blocks.value c.pair_of.new.store in
     let e = c.pair_of.ensures in
-    subst (λ text. ArePlaced s t c.args.first c.args.shelf.now _ text (Some c.pair_of.result)) (sym c.in-Some.is)
-    (placed-pair s t c.args.first c.args.shelf.now _ c.in-Some.found c.pair_of.result e.state e.ready e.owns e.fills e.spent c.take.ensures.tables c.take.ensures.room)
+    subst (λ text. ArePlaced s t c.args.first c.args.shelf.now c.take.new.self text (Some c.pair_of.result)) (sym c.in-Some.is)
+    (placed-pair s t c.args.first c.args.shelf.now c.take.new.self c.in-Some.found c.pair_of.result e.state e.ready e.owns e.fills e.spent c.take.ensures.tables c.take.ensures.room)

@@ -22,4 +22,4 @@ returns-clause-known g c =
     let s = g.B.Blocks.value p.store in
     let kept = c.self.invariant.kept in
     let is = kept-base K s p.streams p.journal (start_in p.base) p.limits p.fates kept in
-    enabled-known K (state_in s p.streams) kept.known p.streams.enabled is.restorable.enabled.there
+    rw c.as_slice.ensures.names (enabled-known K (state_in s p.streams) kept.known p.streams.enabled is.restorable.enabled.there)
