@@ -40,7 +40,8 @@ class Queue(NamedTuple):
 
 
 class Stream(NamedTuple):
-    """A side's stream. `modules` from the top, one of a user's own by its number and 16, as the library names it; `line`, `stopped` and `termios` are those of its ldterm, `window` is that of its ptem."""
+    """A side's stream. `modules` from the top, one of a user's own by its number and 16, as the library names it; `line`, `stopped` and `termios`
+    are those of its ldterm, `window` is that of its ptem."""
 
     state: str
     modules: list
