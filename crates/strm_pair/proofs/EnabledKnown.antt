@@ -1,8 +1,8 @@
 -- Enabled queues of modules are those of modules that stand, of which there are some.
-use Rattle.strm_pair.proofs.Prelude.{ℕ, ◌≡◌, Bool, true, false, cond, List, [], ◌∷◌, map, refl, ap, subst, ◌∙◌, ◌&&◌, ◌||◌}
+use Rattle.strm_pair.proofs.Prelude.{ℕ, ◌≡◌, Bool, true, false, List, [], ◌∷◌, map, refl, subst, ◌&&◌, ◌||◌}
 use Rattle.strm_pair.specs.Prelude.{ModuleName, Place, QueueName, Side, Master, Slave, Way, same_module, have_queues, State, stream, stands_of}
 use Rattle.strm_pair.specs.Prelude.{module_name, Behaviour}
-use Rattle.std.specs.List.{AllByRecursion, list_all, list_any}
+use Rattle.std.specs.List.{AllByRecursion, list_any}
 use Rattle.strm_types.specs.declared.names.Place.TheVariants as places
 use Rattle.strm_types.specs.Names.{AreQueues, has_queues_at}
 use Rattle.strm_types.proofs.EnabledNames.{same_module-sound}

@@ -1,5 +1,5 @@
 -- The first note is done, and then the rest.
-use Rattle.strm_pair.proofs.Prelude.{◌≡◌, ◌≤◌, ◌∙◌, List, length, ap, sym, subst, arith, Option}
+use Rattle.strm_pair.proofs.Prelude.{◌≤◌, ◌∙◌, List, length, ap, sym, subst, arith, Option}
 use Rattle.strm_pair.specs.Prelude.{QueueName, Note, noted}
 use Rattle.strm_types.specs.Names.{enable_found}
 use Rattle.strm_pair.specs.Nearest.{earlier_of, queue_noted}

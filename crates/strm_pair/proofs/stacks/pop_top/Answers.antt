@@ -2,7 +2,7 @@
 use Rattle.std.proofs.Common.{◌≡◌, ◌<◌, List, [], ◌∷◌, sym, ap, arith, refl, ◌∙◌}
 use Rattle.std.proofs.Math.Seq.{take-append_seam}
 use Rattle.std.proofs.lemmas.List.Sums.{sum_by-cons}
-use Rattle.std.specs.Prelude.{Option, None}
+use Rattle.std.specs.Prelude.{Option, None, get_or}
 use Rattle.strm_pair.specs.Prelude.{QueuePair}
 use Rattle.strm_pair.specs.Shelves.{Restocks, pairs_among, room_on, tables_on}
 use Rattle.strm_pair.specs.Shows.{one_pair}
@@ -38,7 +38,8 @@ put-requires c = by c.args.stack.now.modules.items refl
         absurd (let never : [] ≡ c.in-Some-pop.standing ∷ c.pop.new.self.modules.items = sym bare ∙ c.in-Some-pop.ensures in cc)
     by (x ∷ xs) is =
         let kept : queues_first c.match-first_mut.stack.modules.items ≡ x.queues = elim c.match-first_mut.branch [
-          | in-Some w ↦ rw w.stack-is (rw c.as_mut_slice.ensures.value (rw is refl))
+          | in-Some w ↦ rw w.stack-is (rw c.as_mut_slice.ensures.value (rw is (ap (λ (y : AnyStanding). y.queues)
+              (w.in-Some.ensures.item.1 ∙ ap (λ (l : List AnyStanding). get_or l 0 w.in-Some.top.now) (c.as_mut_slice.ensures.value ∙ is)))))
           | in_default w ↦ rw w.stack-is (rw c.as_mut_slice.ensures.value (rw is refl))
         ] in
         let first : c.in-Some-pop.standing.queues ≡ x.queues = ap queues_first (sym c.in-Some-pop.ensures) ∙ kept in
@@ -58,7 +59,8 @@ returns-in-Some-queues_of-clause-shelf c = by c.args.stack.now.modules.items ref
         absurd (let never : [] ≡ c.in-Some-pop.standing ∷ c.pop.new.self.modules.items = sym bare ∙ c.in-Some-pop.ensures in cc)
     by (x ∷ xs) is =
         let kept : queues_first c.match-first_mut.stack.modules.items ≡ x.queues = elim c.match-first_mut.branch [
-          | in-Some w ↦ rw w.stack-is (rw c.as_mut_slice.ensures.value (rw is refl))
+          | in-Some w ↦ rw w.stack-is (rw c.as_mut_slice.ensures.value (rw is (ap (λ (y : AnyStanding). y.queues)
+              (w.in-Some.ensures.item.1 ∙ ap (λ (l : List AnyStanding). get_or l 0 w.in-Some.top.now) (c.as_mut_slice.ensures.value ∙ is)))))
           | in_default w ↦ rw w.stack-is (rw c.as_mut_slice.ensures.value (rw is refl))
         ] in
         let first : c.in-Some-pop.standing.queues ≡ x.queues = ap queues_first (sym c.in-Some-pop.ensures) ∙ kept in
