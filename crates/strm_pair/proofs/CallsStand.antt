@@ -1,6 +1,6 @@
 -- Calls that push no module, pop none and close no side leave each stream its modules, by their names.
 use Rattle.strm_pair.proofs.Prelude.{ℕ, ◌≡◌, Bool, true, false, cond, List, refl, ◌∙◌, Option, None, Some}
-use Rattle.strm_pair.specs.Prelude.{Behaviour, Message, Prio, Side, Master, Slave, State, cells_written, delivered, direction_from, mode_put, of_all, plain, book}
+use Rattle.strm_pair.specs.Prelude.{Behaviour, Message, Prio, Side, Master, Slave, State, cells_written, direction_from, mode_put, of_all, plain, book}
 use Rattle.strm_pair.specs.Prelude.{stands_of, stream, with_stream, is_open, new_head, Open, EndClosed, head_emptied}
 use Rattle.strm_types.specs.declared.events.FlushQueues.{FlushQueues}
 use Rattle.strm_types.specs.declared.kinds.Band as bands

@@ -1,6 +1,6 @@
 -- What waits before the read queue of the module on top: what stands on the read queue of the nearest module below it that has queues, or on the
 -- other side's driver's.
-use Rattle.strm_pair.proofs.Prelude.{ℕ, zero, suc, ◌≡◌, ◌≤◌, ◌<◌, ◌+◌, ◌-◌, Bool, true, false, cond, List, [], ◌∷◌, ◌++◌, length, map, refl, sym, ap}
+use Rattle.strm_pair.proofs.Prelude.{ℕ, zero, suc, ◌≡◌, ◌≤◌, ◌<◌, ◌-◌, Bool, true, false, cond, List, [], ◌∷◌, ◌++◌, length, map, refl, sym, ap}
 use Rattle.strm_pair.proofs.Prelude.{subst, ◌∙◌, arith, not, nat_le, nat_lt, nat_tests, slice_index_or, min, Option, None, Some, IfSome, index-map}
 use Rattle.strm_pair.proofs.Prelude.{append-nil, option_map}
 use Rattle.strm_pair.specs.Prelude.{MODULES, ModuleName, Place, QueueName, Side, Master, Slave, Way, Up, State, stream, Standing, module_name, Message}
@@ -20,14 +20,15 @@ use Rattle.strm_pair.proofs.Enabling.{found-long}
 none-named : (name : ModuleName) (way : Way) (ps : List (Standing ℕ)) → ((at : ℕ) → times_there name (map module_name ps) at ≡ 0)
     → flat_map (messages_of name way) ps ≡ []
 none-named name way [] none = refl
-none-named name way (p ∷ ps) none = by (same_module (module_name p) name) refl
+none-named name way (p ∷ ps) none = by (same_module (module_name p) name) (none-named name way ps) refl
   where
     ns : List ModuleName
     ns = map module_name ps
 
-    by : (same : Bool) → same_module (module_name p) name ≡ same → cond same (messages_at way p) [] ++ flat_map (messages_of name way) ps ≡ []
-    by true is = absurd (omega (arith, none 1, top-times name (module_name p) ns 0, ap (λ b. cond b 1 0) is))
-    by false is = none-named name way ps (λ at. omega (arith, none (suc at), top-times name (module_name p) ns at))
+    by : (same : Bool) → (((at : ℕ) → times_there name ns at ≡ 0) → flat_map (messages_of name way) ps ≡ [])
+        → same_module (module_name p) name ≡ same → cond same (messages_at way p) [] ++ flat_map (messages_of name way) ps ≡ []
+    by true rest is = absurd (omega (arith, none 1, top-times name (module_name p) ns 0, ap (λ (b : Bool). cond {A = ℕ} b 1 0) is))
+    by false rest is = rest (λ at. omega (arith, none (suc at), top-times name (module_name p) ns at))
 
 -- one stands at the place where its name does
 stands-there : (name : ModuleName) (i : ℕ) (ps : List (Standing ℕ)) → i < length ps → module_name (slice_index_or ps i none_there) ≡ name
@@ -43,26 +44,24 @@ only-named name way i [] low is once = absurd (omega (arith, low))
 only-named name way zero (p ∷ ps) low is once =
     let ns = map module_name ps in
     let same : same_module (module_name p) name ≡ true = subst (λ n. same_module (module_name p) n ≡ true) is (same_module-self (module_name p)) in
-    let one = ap (λ b. cond b 1 0) same in
+    let one = ap (λ (b : Bool). cond {A = ℕ} b 1 0) same in
     let none = none-named name way ps (λ at. omega (arith, once.once name (suc at), top-times name (module_name p) ns at, one)) in
     ap (λ b. cond b (messages_at way p) [] ++ flat_map (messages_of name way) ps) same
     ∙ ap (λ ms. messages_at way p ++ ms) none
     ∙ append-nil (messages_at way p)
-only-named name way (suc i) (p ∷ ps) low is once = by (same_module (module_name p) name) refl
+only-named name way (suc i) (p ∷ ps) low is once =
+    by (same_module (module_name p) name) (only-named name way i ps (omega (arith, low)) is (pop-once (module_name p) (map module_name ps) once)) refl
   where
     ns : List ModuleName
     ns = map module_name ps
 
-    more : flat_map (messages_of name way) ps ≡ messages_at way (slice_index_or ps i none_there)
-    more = only-named name way i ps (omega (arith, low)) is (pop-once (module_name p) ns once)
-
-    by : (same : Bool) → same_module (module_name p) name ≡ same
+    by : (same : Bool) → flat_map (messages_of name way) ps ≡ messages_at way (slice_index_or ps i none_there) → same_module (module_name p) name ≡ same
         → cond same (messages_at way p) [] ++ flat_map (messages_of name way) ps ≡ messages_at way (slice_index_or ps i none_there)
-    by true same =
-        let there = ap (λ b. cond b 1 0) (stands-there name i ps (omega (arith, low)) is) in
-        let one = ap (λ b. cond b 1 0) same in
+    by true more same =
+        let there = ap (λ (b : Bool). cond {A = ℕ} b 1 0) (stands-there name i ps (omega (arith, low)) is) in
+        let one = ap (λ (b : Bool). cond {A = ℕ} b 1 0) same in
         absurd (omega (arith, once.once name (suc (suc i)), top-times name (module_name p) ns (suc i), one, there))
-    by false same = more
+    by false more same = more
 
 some-left : (ms : List (Message ℕ)) → nat_lt 0 (length ms) ≡ not (is_none_left ms)
 some-left [] = refl
@@ -113,11 +112,12 @@ module _ (side : Side) (s : State ℕ) where
 -- a module more above the others counts one more
 first-next : (k : ℕ) (ps : List (Standing ℕ)) → first_place (suc k) ps ≡ option_map (λ n. suc n) (first_place k ps)
 first-next k [] = refl
-first-next k (p ∷ ps) = by (has_queues p)
+first-next k (p ∷ ps) = by (has_queues p) (first-next (suc k) ps)
   where
-    by : (has : Bool) → cond has (Some (suc k)) (first_place (suc (suc k)) ps) ≡ option_map (λ n. suc n) (cond has (Some k) (first_place (suc k) ps))
-    by true = refl
-    by false = first-next (suc k) ps
+    by : (has : Bool) → first_place (suc (suc k)) ps ≡ option_map (λ n. suc n) (first_place (suc k) ps)
+        → cond has (Some (suc k)) (first_place (suc (suc k)) ps) ≡ option_map (λ n. suc n) (cond has (Some k) (first_place (suc k) ps))
+    by true rest = refl
+    by false rest = rest
 
 low : (n : ℕ) → nat_le 1 (min MODULES (suc n)) ≡ true
 low n = grind (arith, nat_tests)

@@ -1,5 +1,5 @@
 -- A driver says of its own queue alone that it is to be enabled.
-use Rattle.strm_laws.proofs.Prelude.{ℕ, ◌≡◌, Bool, true, false, cond, List, [], ◌∷◌, refl, ◌==◌, ◌&&◌, ◌||◌, Option, None, Some}
+use Rattle.strm_laws.proofs.Prelude.{ℕ, Bool, true, false, cond, [], ◌∷◌, refl, ◌==◌, ◌&&◌, ◌||◌, Option, None, Some}
 use Rattle.strm_laws.specs.Prelude.{Ioc, MsgKind, Data, Proto, Sig, Ctl, Ioctl, Setopts, Iocack, Iocnak, Pcproto, Pcsig, Flush, Hangup, Error}
 use Rattle.strm_laws.specs.Prelude.{Driver, Side, Way, Up, Down, Across, Enable, Room, Spot, Acted, answered, bottom_across, crosses, driver_put, flush_down}
 use Rattle.strm_laws.specs.Prelude.{freed, ioctl_put, own_flushed, put_across, put_down, reader_flush, taken_in, of_data, writer_goes, asked_by, read_ioc}

@@ -1,12 +1,11 @@
 -- Whatever puts, turns and pops do, few queues are enabled, as what joins them is there: the list of them has room (qenable(9F)).
-use Rattle.strm_pair.proofs.Prelude.{ℕ, ◌≡◌, ◌≤◌, ◌<◌, ◌+◌, ◌-◌, Bool, true, false, cond, List, [], ◌∷◌, ◌++◌, length, length-append, length-map, map}
+use Rattle.strm_pair.proofs.Prelude.{ℕ, ◌≡◌, ◌≤◌, ◌-◌, Bool, true, false, cond, List, [], ◌∷◌, ◌++◌, length, length-append, length-map, map}
 use Rattle.strm_pair.proofs.Prelude.{refl, sym, ap, subst, ◌∙◌, arith, ◌&&◌, not, slice_index_or, Option, None, Some, IfSome}
-use Rattle.strm_pair.specs.Prelude.{ModuleName, Place, Driver, QueueName, Side, Master, Slave, Way, Up, Down, Note, Rule, ReadMode, Spot, plain, Acted}
+use Rattle.strm_pair.specs.Prelude.{ModuleName, Place, QueueName, Side, Master, Slave, Way, Up, Down, Note, Rule, ReadMode, Spot, plain, Acted}
 use Rattle.strm_pair.specs.Prelude.{Message, State, Stream, stream, with_stream, with_modules, Standing, module_name, stands_of, before_at, earlier_at}
-use Rattle.strm_pair.specs.Prelude.{enable, enable_if, enable_some, is_enabled, noted, places_of, put_in, delivered, module_acted, mode_put, top_taken}
-use Rattle.strm_pair.specs.Prelude.{driver_of, head_above, StoreValue, Restorable, GoodStream, MODULES, Behaviour, EndClosed, head_emptied, of_all}
+use Rattle.strm_pair.specs.Prelude.{enable, enable_some, is_enabled, noted, places_of, put_in, delivered, module_acted, mode_put, top_taken}
+use Rattle.strm_pair.specs.Prelude.{head_above, StoreValue, Restorable, GoodStream, MODULES, Behaviour, EndClosed, head_emptied, of_all}
 use Rattle.strm_pair.specs.Prelude.{queue_behind, writer_goes, before_driver, before_head, driver_place, with_driver_queue, with_head_queue}
-use Rattle.std.specs.List.{AllByRecursion}
 use Rattle.strm_types.specs.declared.spots.Note.TheVariants.{Enable, Room}
 use Rattle.strm_types.specs.Names.{enable_found, has_queues_at, without}
 use Rattle.strm_types.specs.Options.{mode_message}

@@ -1,5 +1,5 @@
 -- A stream of a text, on eight lists of a store: its queues one after the other, and then its modules.
-use Rattle.strm_pair.proofs.Prelude.{ℕ, ◌≡◌, ◌≤◌, ◌<◌, ◌+◌, true, List, [], ◌∷◌, map, refl, sym, ap, subst, ◌∙◌, arith}
+use Rattle.strm_pair.proofs.Prelude.{ℕ, ◌≡◌, ◌≤◌, ◌+◌, true, List, [], ◌∷◌, map, refl, sym, ap, subst, ◌∙◌, arith}
 use Rattle.strm_pair.proofs.Prelude.{Option, None, Some, sum_by, sum_by-cons, kind-is, ready-same}
 use Rattle.strm_pair.specs.Prelude.{MsgKind, Openness, is_data_kind, is_body_kind, is_control_kind, EachOnce, module_name, is_part_kind, Block}
 use Rattle.strm_pair.specs.Prelude.{StoreValue, block_at, list_at, message_of, queue_in, HoldsReadable, IsHeadQueue, Head, head_in, Stack}

@@ -112,7 +112,7 @@ neither false b none = (refl, none)
 has-named : (K : Behaviour) (name : ModuleName) → has_queues (module_named {C = ℕ} K name) ≡ have_queues name
 has-named K name = by (have_queues name)
   where
-    by : (has : Bool) → is_some (cond has (Some new_pair) None) ≡ has
+    by : (has : Bool) → is_some (cond has (Some (new_pair {C = ℕ})) None) ≡ has
     by true = refl
     by false = refl
 

@@ -1,6 +1,6 @@
 -- How many of the modules that stand have queues, and that no more have than tables are made for.
 use Rattle.strm_pair.proofs.Prelude.{ℕ, zero, suc, ◌≡◌, ◌≤◌, ◌<◌, ◌+◌, ◌*◌, Bool, true, false, cond, List, [], ◌∷◌, length, map, refl, sym, ap, subst, ◌∙◌, arith}
-use Rattle.strm_pair.proofs.Prelude.{Option, None, Some, and_parts, is_some, length-map, sum_by, sum_by-cons, false≢true, ◌&&◌}
+use Rattle.strm_pair.proofs.Prelude.{Option, None, Some, and_parts, is_some, length-map, sum_by, sum_by-cons, false≢true}
 use Rattle.std.proofs.lemmas.Bool.{and_from}
 use Rattle.strm_pair.specs.Prelude.{MODULES, ModuleName, Side, Master, Slave, Behaviour, EachOnce, Stands, State, Standing, StoreValue, have_queues, may_stand, module_named, named_by}
 use Rattle.strm_pair.specs.Prelude.{QueuePair, module_name, other, queues_in, same_module, opening, stands_of, stands_on, stream}
@@ -16,7 +16,7 @@ use Rattle.strm_laws.proofs.StackOnce.{nothing-there, push-once, top-times}
 use Rattle.strm_pair.specs.declared.shelves.Shelf.{Shelf}
 use Rattle.strm_pair.specs.declared.ends.StreamEnd.{StreamEnd}
 use Rattle.strm_pair.specs.declared.streams.Streams.{Streams}
-use Rattle.strm_pair.specs.AnyModules.{AnyStanding, HasAsNamed, IsHeld, any-has, module_in}
+use Rattle.strm_pair.specs.AnyModules.{AnyStanding, IsHeld, any-has, module_in}
 use Rattle.strm_pair.specs.ModuleLists.{pairs-same, three-pairs}
 use Rattle.strm_pair.specs.Pairs.{AreBeside, end_at, state_in, with_end}
 use Rattle.strm_pair.specs.Shelves.{IsFull, IsStocked, Restocks, pairs_among, pairs_for, pairs_in, pairs_named, pairs_stand, room_on, tables_on}

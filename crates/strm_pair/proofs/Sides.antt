@@ -1,5 +1,5 @@
 -- The queues of both sides beside their store, where one of them changed.
-use Rattle.strm_pair.proofs.Prelude.{ℕ, zero, suc, ◌≡◌, ◌≢◌, ◌≤◌, ◌<◌, ◌+◌, Bool, true, false, cond, List, [], ◌∷◌, map, refl, sym, ap, subst, ◌∙◌}
+use Rattle.strm_pair.proofs.Prelude.{ℕ, zero, suc, ◌≡◌, ◌≤◌, ◌<◌, ◌+◌, Bool, true, false, cond, List, [], ◌∷◌, map, refl, sym, ap, subst, ◌∙◌}
 use Rattle.strm_pair.proofs.Prelude.{arith, replicate, slice_index_or, get-map, get-set-same, map-set, set-all, ready-same}
 use Rattle.strm_pair.proofs.Prelude.{all-gone}
 use Rattle.strm_pair.specs.Prelude.{LISTS, Openness, Side, Master, Slave, is_data_kind, of_all, emptied, none_goes, queue_behind, set, map_both, new_head}

@@ -1,7 +1,7 @@
 -- The modules of a text, placed one on top of the other.
-use Rattle.strm_pair.proofs.Prelude.{ℕ, zero, suc, ◌≡◌, ◌≢◌, ◌≤◌, ◌<◌, ◌+◌, ◌*◌, List, [], ◌∷◌, length, map, refl, sym, ap, subst, ◌∙◌, arith, sum_by, Option, None, Some}
+use Rattle.strm_pair.proofs.Prelude.{ℕ, zero, suc, ◌≡◌, ◌≤◌, ◌<◌, ◌+◌, ◌*◌, List, [], ◌∷◌, length, map, refl, sym, ap, subst, ◌∙◌, arith, sum_by, Option, None, Some}
 use Rattle.strm_pair.proofs.Prelude.{length-map, sum_by-cons, once-self, is_some}
-use Rattle.strm_pair.specs.Prelude.{LISTS, Standing, stood, have_queues, kind_name, StoreValue, list_at, HasRoom, SameOwn, once, stack-stays}
+use Rattle.strm_pair.specs.Prelude.{Standing, stood, have_queues, kind_name, StoreValue, list_at, HasRoom, SameOwn, once, stack-stays}
 use Rattle.strm_pair.specs.Prelude.{all_of, AreHeld, ModuleText, module_now, modules_now, QueuePair, queues_in}
 use Rattle.strm_pair.specs.Prelude.{IsPairReady, owns, pair_in, queues_own, standing}
 use Rattle.strm_image.specs.declared.modules.QueuesText.{QueuesText}
@@ -12,11 +12,10 @@ use Rattle.strm_pair.specs.AnyModules.{AnyStanding, IsHeld, IsKindHeld, any-fram
 use Rattle.strm_pair.specs.ModuleLists.{Lines, Spans, for-lines, pairs-same, spans}
 use Rattle.strm_pair.specs.Placing.{ArePlaced, AreStacked, IsFreeFor, IsModuleText, IsPlaced, module_blocks, queues_pair, text_pair}
 use Rattle.strm_pair.specs.Runs.{Spent}
-use Rattle.strm_pair.specs.Shelves.{Restocks, room_on, tables_on}
+use Rattle.strm_pair.specs.Shelves.{room_on, tables_on}
 use Rattle.strm_pair.specs.Shows.{one_pair, pairs_of}
 use Rattle.strm_pair.specs.Standing.{FillsTwo, pair_blocks}
-use Rattle.strm_pair.specs.Streams.{AreFor}
-use Rattle.strm_pair.proofs.StackTops.{no-pair, top-for, top-held}
+use Rattle.strm_pair.proofs.StackTops.{top-for, top-held}
 
 -- ---- how many have queues
 

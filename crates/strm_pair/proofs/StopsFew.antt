@@ -144,7 +144,7 @@ pub acted-stands : (K : Behaviour) (here : Spot) (again : Bool) (stop : Option �
     → stands_of (module_acted here (called here K again stop (stream here.side s).modules) s).state ≡ stands_of s
 acted-stands K here again stop s =
     let t = called here K again stop (stream here.side s).modules in
-    acted-holds (Stand (stands_of s)) (λ names v adds is. is) (λ dir n v is. is) here t s
+    acted-holds (Stand (stands_of s)) (λ names v is. is) (λ dir n v is. is) here t s
     (same-names here.side (record (stream here.side s) { modules = t.state }) s
     (serve-names K plain here 0 again stop (here.at - 1) (stream here.side s).modules))
 

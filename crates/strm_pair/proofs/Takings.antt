@@ -1,6 +1,6 @@
 -- The module on top of a side's stream, taken off it.
 use Rattle.strm_pair.proofs.Prelude.{ℕ, zero, suc, ◌≡◌, ◌≤◌, ◌<◌, ◌+◌, List, [], ◌∷◌, ◌++◌, length, map, refl, sym, ap, subst, ◌∙◌, arith}
-use Rattle.strm_pair.proofs.Prelude.{Option, None, Some, get-set-same, ready-same}
+use Rattle.strm_pair.proofs.Prelude.{None, Some, get-set-same, ready-same}
 use Rattle.strm_pair.specs.Prelude.{QueueName, Side, Fates, Rule, Note, Carried, Fate, tallied, top_name, without_module, other, place_of, all_taken}
 use Rattle.strm_pair.specs.Prelude.{top_taken, with_modules, earlier_at, noted, Standing, module_name, State, Stream, stream, with_stream, StoreValue}
 use Rattle.strm_pair.specs.Prelude.{free_d, free_m, list_at, queue_in, HoldsReadable}

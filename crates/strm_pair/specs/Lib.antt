@@ -27,6 +27,7 @@ pub mod Shelves
 pub mod Shows
 pub mod Pool
 pub mod Parts
+pub mod Makes
 pub mod ModuleTurned
 pub mod ModuleServed
 pub mod Starts

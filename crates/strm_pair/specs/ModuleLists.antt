@@ -4,8 +4,8 @@ use Rattle.std.specs.List.{AllByRecursion}
 use Rattle.std.proofs.Common.{arith, cond, refl, ap, sym, ◌∙◌}
 use Rattle.std.proofs.lemmas.Bool.Decides.{nat_tests}
 use Rattle.std.proofs.lemmas.List.Sums.{sum_by-cons}
-use Rattle.strm_pair.specs.Prelude.{rank_of, IsOrdered, Queue, queues_of_modules, Block, StoreValue, list_at, message_of, messages_on}
-use Rattle.strm_pair.specs.Prelude.{Standing, QueuePair, once, all_of, AreHeld, IsPairReady, owns, queues_in, queues_own, standing}
+use Rattle.strm_pair.specs.Prelude.{rank_of, IsOrdered, queues_of_modules, Block, StoreValue, list_at, message_of, messages_on}
+use Rattle.strm_pair.specs.Prelude.{Standing, QueuePair, once, all_of, AreHeld, owns, queues_in, standing}
 use Rattle.strm_types.specs.Ranked as ranked
 use Rattle.strm_blocks.specs.Blocks as blocks
 use Rattle.strm_msg.proofs.Chains.{rank-same}

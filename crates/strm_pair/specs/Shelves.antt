@@ -1,7 +1,7 @@
 -- The tables of bands for the queues of modules. As many pairs are made with a pair of streams as modules with queues may stand on both: those of the
 -- modules that stand are with their queues, and the others on the shelf.
 use Rattle.std.specs.Prelude.{ℕ, ◌≡◌, ◌≤◌, ◌+◌, ◌*◌, Bool, true, false, if◌then◌else◌, List, length, sum_by, vec_capacity}
-use Rattle.strm_pair.specs.Prelude.{MODULES, Master, Slave, ModuleName, have_queues, Standing}
+use Rattle.strm_pair.specs.Prelude.{MODULES, Master, Slave, ModuleName, have_queues}
 use Rattle.strm_laws.specs.StackCosts.{Stands, stands_on}
 use Rattle.strm_pair.specs.declared.shelves.Shelf.{Shelf}
 use Rattle.strm_pair.specs.declared.streams.Streams.{Streams}

@@ -7,7 +7,7 @@ ghost use Rattle.strm_types.specs.declared.entries.Entry.TheVariants.{Called, Tu
 ghost use Rattle.strm_laws.specs.Earlier.{modules_on};
 ghost use Rattle.strm_laws.specs.Based.{based};
 ghost use Rattle.strm_laws.specs.Pair.{new_pair, call_refused, call_verdict, queue_refused, AddsEntry, Stops};
-ghost use Rattle.strm_types.specs.Journal.{entries_in, entry_len, reply_in, answer_len};
+ghost use Rattle.strm_types.specs.Journal.{entries_in, entry_len};
 ghost use Rattle.strm_laws.specs.Refusals.{enough, has_room};
 ghost use Rattle.strm_laws.specs.Step.{replay, IsLegal};
 ghost use Rattle.strm_laws.specs.Kept.{told_by};
@@ -21,9 +21,9 @@ ghost use Rattle.strm_laws.specs.Restorable.{Restorable};
 ghost use Rattle.strm_laws.specs.State.{AreOrdered, book, messages_in, stream};
 ghost use Rattle.strm_blocks.specs.Blocks.{empty_store};
 ghost use Rattle.strm_frame.specs.Hands.{IsWide};
+ghost use Rattle.strm_pair.specs.Makes.{Makes};
 ghost use Rattle.strm_pair.specs.OwnSettings.{settings_among};
 ghost use Rattle.strm_pair.specs.Shows.{Shows, count_at, first_at, full_at, messages_at};
-ghost use Rattle.strm_pair.specs.Parts.{longest_part};
 ghost use Rattle.strm_pair.specs.Pool.{IsPoolOf};
 ghost use Rattle.strm_image.specs.HasImage.{imaged};
 ghost use Rattle.strm_image.specs.Image.{image};
@@ -46,7 +46,7 @@ use strm_image::{IMAGE_BLOCK, IMAGE_FIXED};
 use strm_own::{NoModule, OwnModule};
 use strm_types::{
     Answer, Band, Caller, Config, Content, Dir, Entry, Event, Fates, LISTS, Ledger, NoMemory,
-    Place, QueueName, READ_MAX, ReadBytes, Refusal, Side, Turn, Verdict, turn_blocks, unless,
+    Place, QueueName, ReadBytes, Refusal, Side, Turn, Verdict, turn_blocks, unless,
 };
 
 /// A pair of a master and a slave, whose messages stand in a store of its own. Contracts see it as its plain state, its
@@ -409,12 +409,7 @@ impl<B: Blocks + Drop, M: OwnModule> Pair<B, M> {
         event: &Event<&[u8]>,
         out: &mut Content,
     ) -> Result<Answer<u32>, Refusal>
-        ensures refused { MatchOption (call_refused M.does self.old caller (request event.now)) (IsOk result)
-            (λ r. (result ≡ Err r) × ((self.new ≡ self.old) × (out.new ≡ out.old))) }
-        ensures adds { IfOk result (λ answer.
-            AddsEntry M.does self.old self.new (Called caller (request event.now) (reply_in answer out.new.items))) }
-        ensures filled { IfOk result (λ answer. answer_len answer ≡ length out.new.items) }
-        ensures parts { IfOk result (λ answer. longest_part answer ≤ READ_MAX) }
+        ensures { Makes M.does self.old self.new caller (request event.now) result out.old out.new }
     {
         match event {
             Event::Write { bytes } => self.write_apart(caller, bytes, out),
@@ -422,7 +417,7 @@ impl<B: Blocks + Drop, M: OwnModule> Pair<B, M> {
             Event::Put { .. } => self.put_apart(caller, event, out),
             Event::Get { .. } => self.get_apart(caller, event, out),
             Event::Ioctl { .. } => self.ioctl_apart(caller, event, out),
-            _ => self.call_apart(caller, event, out),
+            _ => self.open_apart(caller, event, out),
         }
     }
 

@@ -9,12 +9,13 @@ use Rattle.strm_blocks.specs.Blocks.{Block, StoreValue, rank_of, list_at}
 use Rattle.strm_raw.specs.Numbered.{Nodes, Row, row_at, IsMsgOrNone}
 use Rattle.strm_raw.specs.Roster.{Msg, Roster}
 use Rattle.strm_raw.specs.Raw.{value_of, chain_of}
-use Rattle.strm_raw.specs.Lists.{AreListed, IsList, IsTied, no_ends, on, back, ahead_of, behind_of, ends_at, queue_at}
+use Rattle.strm_raw.specs.Lists.{AreListed, IsList, IsTied, kept, no_ends, opened, on, back, ahead_of, behind_of, ends_at, queue_at}
 use Rattle.strm_raw.specs.declared.neighbours.Ends.{Ends}
+use Rattle.strm_raw.specs.declared.neighbours.KeptEnds.{KeptEnds}
 use Rattle.strm_raw.specs.declared.msg_nodes.MsgLink.{MsgLink}
 use Rattle.strm_raw.proofs.Relinking.{row-keeps}
 
-module _ {v : Nodes} {ends : List Ends} {b : Roster} (is : AreListed v ends b) (v' : Nodes) (b' : Roster)
+module _ {v : Nodes} {ends : List KeptEnds} {b : Roster} (is : AreListed v ends b) (v' : Nodes) (b' : Roster)
     (mat : v'.mat ≡ v.mat) (i : ℕ) (within : i < length v.rows) (r : Row) (ahead : r.ahead ≡ (row_at i v.rows).ahead) (behind : r.behind ≡ (row_at i v.rows).behind)
     (rows : v'.rows ≡ set v.rows i r) (lists : b'.lists ≡ b.lists) (s : StoreValue) (value : value_of v' b' ≡ s) (same : s.lists ≡ (value_of v b).lists) where
   ahead-same : ahead_of v'.rows ≡ ahead_of v.rows
@@ -50,9 +51,9 @@ module _ {A : Type 0} (x : A) where
 none-linked : (v : Nodes) → IsList v no_ends []
 none-linked v = (refl, refl)
 
-pub listed-none : (v : Nodes) (b : Roster) → b.lists ≡ replicate LISTS [] → AreListed v (replicate LISTS no_ends) b
+pub listed-none : (v : Nodes) (b : Roster) → b.lists ≡ replicate LISTS [] → AreListed v (replicate LISTS (kept no_ends)) b
 listed-none v b lists =
-    let ends : (k : ℕ) → ends_at k (replicate LISTS no_ends) ≡ no_ends = each-same no_ends LISTS in
+    let ends : (k : ℕ) → ends_at k (replicate LISTS (kept no_ends)) ≡ no_ends = λ k. ap opened (each-same (kept no_ends) LISTS k) in
     let none : List Msg = [] in
     let queues : (k : ℕ) → queue_at k b.lists ≡ [] = λ k. ap (queue_at k) lists ∙ each-same none LISTS k in
     let chains : List (List Block) = [] in

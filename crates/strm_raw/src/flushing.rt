@@ -6,6 +6,7 @@ ghost use Rattle.strm_blocks.specs.Outcomes.{flushed};
 ghost use Rattle.strm_raw.specs.Flushing.{Gathers};
 
 use crate::lists::unseat;
+use crate::neighbours::open;
 use crate::raw::RawStore;
 use crate::tails::hang;
 use strm_blocks::{FlushWhat, InHand, is_flushed};
@@ -19,7 +20,7 @@ impl RawStore {
             MatchOption result (self.new ≡ left) (λ m. Gathers s left self.new (token m)) }
     {
         let mut taken = None;
-        let mut at = self.ends[list].first;
+        let mut at = open(self.ends[list]).first;
         let mut left = self.memory.messages();
         while left > 0 {
             let Some(link) = at else {

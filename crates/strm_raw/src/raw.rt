@@ -8,7 +8,7 @@ use crate::data_nodes::DataLink;
 use crate::ledger::Ledger;
 use crate::memory::Memory;
 use crate::msg_nodes::MsgLink;
-use crate::neighbours::{Ends, NO_ENDS};
+use crate::neighbours::{KeptEnds, NO_ENDS, keep};
 use std::alloc::{AllocError, Global};
 use std::marker::Model;
 use std::ptr::null_mut;
@@ -23,7 +23,7 @@ use strm_types::LISTS;
 #[derive(Drop)]
 pub struct RawStore {
     pub(crate) memory: Memory,
-    pub(crate) ends: [Ends; LISTS],
+    pub(crate) ends: [KeptEnds; LISTS],
     pub(crate) free_msg: Option<MsgLink>,
     pub(crate) free_data: Option<DataLink>,
     pub(crate) spare_m: usize,
@@ -60,7 +60,7 @@ impl RawStore {
         ledger.note(message.at, datum.at, 0, 0);
         Ok(RawStore {
             memory,
-            ends: [NO_ENDS; LISTS],
+            ends: [keep(NO_ENDS); LISTS],
             free_msg: None,
             free_data: None,
             spare_m: mblks,

@@ -1,5 +1,5 @@
 -- The first note is done, and then the rest.
-use Rattle.strm_pair.proofs.Prelude.{◌≡◌, ◌≤◌, ◌∙◌, List, length, ap, sym, subst, arith, Option}
+use Rattle.strm_pair.proofs.Prelude.{◌≤◌, ◌∙◌, List, length, ap, sym, subst, arith, Option}
 use Rattle.strm_pair.specs.Prelude.{QueueName, Note, noted}
 use Rattle.strm_types.specs.Names.{enable_found}
 use Rattle.strm_pair.specs.Nearest.{earlier_of, queue_noted}
@@ -23,7 +23,7 @@ enable_found-requires t c =
     }
 
 pub note-requires : goal.note-requires
-note-requires t c κs within =
+note-requires t c =
     let names = c.args.enabled.now in
     let earlier = earlier_of c.args.earlier in
     let n = c.in-Some.first.now in
@@ -33,11 +33,8 @@ note-requires t c κs within =
     let enabled = c.enable_found.ensures ∙ ap (λ (o : Option QueueName). enable_found o names) c.queue_noted.ensures in
     let less = ap (λ (ms : List Note). length ms) c.in-Some.ensures.cases.0 in (
       omega (arith, less),
-      (
-        within,
-        subst (λ (xs : List QueueName). length (noted c.args.side c.args.place earlier ns xs) ≤ 14) (sym enabled)
-            (subst (λ (xs : List QueueName). length xs ≤ 14) is all),
-      ),
+      subst (λ (xs : List QueueName). length (noted c.args.side c.args.place earlier ns xs) ≤ 14) (sym enabled)
+          (subst (λ (xs : List QueueName). length xs ≤ 14) is all),
     )
 
 pub returns : goal.returns

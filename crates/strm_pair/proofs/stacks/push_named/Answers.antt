@@ -1,5 +1,5 @@
 -- What is pushed stands on top, on lists that are no other module's.
-use Rattle.strm_pair.proofs.Prelude.{ℕ, ◌≡◌, ◌≤◌, ◌+◌, ◌*◌, ◌∙◌, List, length, false, true, ap, arith, sym, subst, sum_by, false≢true, MatchOption, Option, None, Some}
+use Rattle.strm_pair.proofs.Prelude.{ℕ, ◌≡◌, ◌≤◌, ◌+◌, ◌*◌, ◌∙◌, List, length, false, ap, arith, sym, subst, sum_by, false≢true, MatchOption, Option, None, Some}
 use Rattle.strm_pair.specs.Prelude.{Behaviour, ModuleName, QueuePair, standing}
 use Rattle.strm_laws.specs.Pushes.{is_known}
 use Rattle.strm_pair.proofs.ModulePushed.{few-below, pushed-held, pushed-keeps, pushed-lists, pushed-modules, pushed-shelf}

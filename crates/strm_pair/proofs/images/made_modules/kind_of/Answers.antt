@@ -1,5 +1,5 @@
 -- Each kind is what its text says, fits queues where it has some and fits none else, and keeps nothing.
-use Rattle.strm_pair.proofs.Prelude.{refl, sym, ap, ◌∙◌}
+use Rattle.strm_pair.proofs.Prelude.{sym, ap, ◌∙◌}
 use Rattle.strm_pair.specs.Prelude.{OfLdterm, OfOwn, have_queues, kind_name}
 use Rattle.strm_types.specs.declared.names.ModuleName.TheVariants as names
 use Rattle.strm_types.specs.Owns.{Own}

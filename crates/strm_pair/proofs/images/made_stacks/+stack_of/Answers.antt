@@ -1,12 +1,11 @@
 -- The one on top stands behind those below it.
-use Rattle.strm_pair.proofs.Prelude.{ℕ, ◌≡◌, ◌≤◌, ◌<◌, ◌+◌, ◌*◌, ◌∙◌, List, [], ◌∷◌, length, length-map, map, ap, arith, subst, sum_by, sum_by-cons, sym}
-use Rattle.strm_pair.specs.Prelude.{HasRoom, ModuleText, list_at, module_now, names_now}
-use Rattle.std.specs.List.{AllByRecursion}
+use Rattle.strm_pair.proofs.Prelude.{◌≤◌, ◌+◌, ◌*◌, ◌∙◌, List, ◌∷◌, length, ap, arith, subst, sum_by, sum_by-cons, sym}
+use Rattle.strm_pair.specs.Prelude.{HasRoom, ModuleText, module_now, names_now}
 use Rattle.std.proofs.lemmas.List.{nil_from_length}
 use Rattle.strm_laws.proofs.StackOnce.{pop-once}
 use Rattle.strm_laws.specs.Stacked.{module_name}
 use Rattle.strm_pair.specs.AnyModules.{AnyStanding}
-use Rattle.strm_pair.specs.Placing.{AreModuleTexts, AreStacked, IsFreeFor, IsModuleText, IsPlaced, module_blocks, text_pair}
+use Rattle.strm_pair.specs.Placing.{AreModuleTexts, AreStacked, IsFreeFor, IsPlaced, module_blocks, text_pair}
 use Rattle.strm_pair.specs.Shelves.{tables_on}
 use Rattle.strm_pair.specs.Shows.{one_pair}
 use Rattle.strm_pair.proofs.StacksMade.{free-next, room-next, room-rest, stacked-length, stacked-none, stacked-top}
@@ -60,6 +59,12 @@ module_of-module-requires-clause-room g t c =
     let s = g.B.Blocks.value c.args.store.now in
     let u = g.B.Blocks.value c.stack_of-stack.new.store in
     room-next s u c.in-Some.text.now c.in-Some.rest.now (subst (λ ms. HasRoom s (sum_by module_blocks ms)) c.in-Some.ensures.cases.0 c.requires.room) c.stack_of-stack.ensures.spent
+
+pub insert-requires : goal.insert-requires
+insert-requires g t c =
+    let good = subst AreModuleTexts c.in-Some.ensures.cases.0 c.requires.good in
+    let long = stacked-length c.stack_of-stack.ensures in
+    (omega arith, (omega arith, omega (arith, long, good.few)))
 
 pub returns : goal.returns
 returns g t c =

@@ -1,6 +1,6 @@
 -- Each kind is new, fits queues where it has some and fits none else, and keeps nothing.
-use Rattle.strm_pair.proofs.Prelude.{◌≡◌, true, false, refl, sym, ap, ◌∙◌, subst, false≢true, MatchOption, Option, None, Some, is_some}
-use Rattle.strm_pair.specs.Prelude.{OfLdterm, OfOwn, OfPtem, StoreValue, QueuePair, HasInHand, have_queues}
+use Rattle.strm_pair.proofs.Prelude.{◌≡◌, true, false, refl, sym, ap, ◌∙◌, subst, MatchOption, Option}
+use Rattle.strm_pair.specs.Prelude.{OfLdterm, OfOwn, OfPtem, have_queues}
 use Rattle.strm_types.specs.declared.names.ModuleName.TheVariants as names
 use Rattle.strm_types.specs.Owns.{Own}
 use Rattle.strm_laws.specs.Behaviours.{fresh_own}

@@ -62,6 +62,6 @@ pub returns-in-Own : goal.returns-in-Own
 returns-in-Own g c =
     let by = own_by g.M.Behaves.does plain in
     let x = stood c.in-Own.own (queues_in (g.B.Blocks.value c.args.store.now) c.args.queues.now) in
-    rw c.in-Own.is (rw c.in-Own.is (kind-serves _ _ _ _ _ own-kind (λ p. turn_room) (kind_cost c.args.here true)
+    rw c.in-Own.is (kind-serves _ _ _ _ _ own-kind (λ p. turn_room) (kind_cost c.args.here true)
     (λ n x. ⊥) (λ n x. Ends c.args.here.way c.args.again (discipline_of x) n) (λ n x never. absurd never)
-    _ _ _ _ _ _ _ _ _ _ (λ on p. absurd (false≢true (sym (own-once by c.args.here x) ∙ on))) c.serve-in-Own.ensures))
+    _ _ _ _ _ _ _ _ _ _ (λ on p. absurd (false≢true (sym (own-once by c.args.here x) ∙ on))) c.serve-in-Own.ensures)

@@ -1,9 +1,6 @@
 -- What is told is the list that the pair holds.
-use Rattle.strm_pair.proofs.Prelude.{subst}
 use Rattle.std.proofs.Common.{rules}
-use Rattle.strm_pair.specs.Prelude.{PairState}
 use Rattle.strm_pair.specs.BaseTexts.{start_in}
-use Rattle.strm_pair.specs.Enabling.{AreKnownThere}
 use Rattle.strm_pair.specs.Pairs.{state_in}
 use Rattle.strm_pair.proofs.EnabledKnown.{enabled-known}
 use Rattle.strm_pair.proofs.Steps.{kept-base}

@@ -56,7 +56,7 @@ invariant_of-result g c =
     record {
       kept = fresh-kept g.M.Behaves.does s _ _ _ l _ start blank as_new j.empty j.most_entries j.most_bytes c.none-fates.ensures;
       wide = c.requires.wide;
-      stocked = stocked-new g.M.OwnModule.queued _ (state_in s c.new-streams.result) (ap (λ v. state_in v c.new-streams.result) blank ∙ as_new.state) c.in-Ok-queue_tables.ensures;
+      stocked = stocked-new g.M.OwnModule.queued _ (state_in s c.new-streams.result) (ap (λ v. state_in v c.new-streams.result) blank ∙ as_new.state) c.in-Ok.ensures;
       written = is-written c.at-base.result _ _ _ l c.at-base.ensures.start c.at-base.ensures.text (omega (arith, c.in-Ok-with_capacity.ensures.capacity, c.at-base.ensures.memory));
     }
 

@@ -9,12 +9,12 @@ note_one-requires t c =
     record { few = (s, noted-front s c.args.side c.args.place c.args.at c.in-Some.first.now c.in-Some.rest.now c.args.notes.now c.args.self.now c.in-Some.ensures.cases.0 c.requires.few.1) }
 
 pub note_each-requires : goal.note_each-requires
-note_each-requires t c κs within =
+note_each-requires t c =
     let s = c.requires.few.0 in
     let less = ap (λ (ms : List Note). length ms) c.in-Some.ensures.cases.0 in
     let few = noted-rest s c.args.side c.args.place c.args.at c.in-Some.first.now c.in-Some.rest.now c.args.notes.now c.args.self.now c.note_one.new.self
     c.in-Some.ensures.cases.0 (c.note_one.ensures s) c.requires.few.1 in
-    (omega (arith, less), (within, (s, few)))
+    (omega (arith, less), (s, few))
 
 pub returns : goal.returns
 returns t c = λ s.

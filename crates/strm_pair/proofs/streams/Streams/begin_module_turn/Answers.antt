@@ -42,6 +42,24 @@ overflow_cast-here g c =
     let low = found-low c.args.name.place (stream c.args.name.side st).modules c.in-Some.at (sym (c.module_named.ensures (g.B.Blocks.value c.args.store.now)) ∙ c.in-Some.is) in
     omega (arith, low.2)
 
+pub stay-requires-clause-inside : goal.stay-requires-clause-inside
+stay-requires-clause-inside g c =
+    let s = g.B.Blocks.value c.args.store.now in
+    let st = state_in s c.args.self.now in
+    (found-low c.args.name.place (stream c.args.name.side st).modules c.in-Some.at (sym (c.module_named.ensures s) ∙ c.in-Some.is)).0
+
+pub stay-requires-clause-within : goal.stay-requires-clause-within
+stay-requires-clause-within g c =
+    let s = g.B.Blocks.value c.args.store.now in
+    let st = state_in s c.args.self.now in
+    (found-low c.args.name.place (stream c.args.name.side st).modules c.in-Some.at (sym (c.module_named.ensures s) ∙ c.in-Some.is)).1
+
+pub stay-requires-in-Held-clause-inside : goal.stay-requires-in-Held-clause-inside
+stay-requires-in-Held-clause-inside g c =
+    let s = g.B.Blocks.value c.args.store.now in
+    let st = state_in s c.args.self.now in
+    (found-low c.args.name.place (stream c.args.name.side st).modules c.in-Some.at (sym (c.module_named.ensures s) ∙ c.in-Some.is)).0
+
 pub stay-requires-in-Room-clause-held : goal.stay-requires-in-Room-clause-held
 stay-requires-in-Room-clause-held g c = c.wait_past.ensures.held (g.B.Blocks.value c.args.store.now) c.requires.held
 

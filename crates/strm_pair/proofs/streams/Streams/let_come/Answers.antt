@@ -1,5 +1,5 @@
 -- The queue before it is enabled where messages wait there.
-use Rattle.strm_pair.proofs.Prelude.{◌≡◌, ◌≤◌, Bool, true, false, length, sym, ap, subst, ◌∙◌, List}
+use Rattle.strm_pair.proofs.Prelude.{◌≤◌, Bool, length, sym, ap, subst, ◌∙◌, List}
 use Rattle.strm_pair.specs.Prelude.{Up, QueueName, before_at, enable_some}
 use Rattle.strm_laws.specs.Pushes.{let_come}
 use Rattle.strm_pair.specs.Pairs.{state_in}

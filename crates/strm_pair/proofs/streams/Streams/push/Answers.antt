@@ -1,8 +1,8 @@
 -- The head is told its mode, the module stands there, and what waits before it may come.
-use Rattle.strm_pair.proofs.Prelude.{ℕ, ◌≡◌, ◌≤◌, ◌∷◌, length, ap, refl, sym, subst, ◌∙◌, Option, Some, IfSome}
+use Rattle.strm_pair.proofs.Prelude.{ℕ, ◌≡◌, ◌≤◌, ◌∷◌, length, ap, sym, subst, ◌∙◌, Option, Some, IfSome}
 use Rattle.strm_pair.specs.Prelude.{Up, Carried, tallied, may_stand, mode_put, module_named, named_by, with_modules, have_queues, State, stream, before_at}
 use Rattle.strm_pair.specs.Prelude.{enable_some, stands_of}
-use Rattle.strm_laws.specs.Pushes.{let_come, mode_on_push}
+use Rattle.strm_laws.specs.Pushes.{let_come}
 use Rattle.strm_pair.specs.declared.streams.Streams.{Streams}
 use Rattle.strm_pair.specs.Pairs.{state_in, AreHeld}
 use Rattle.strm_pair.specs.Enabling.{AreFewEnabled}

@@ -31,7 +31,8 @@ note-requires g c =
     let did : StreamEnd → Acted ℕ (Queue ℕ) = λ x. driver_put side c.across-across.result (record c.args.to { at = at })
     (message_in s (token c.args.message)) (queue_in s x.driver) in
     let said = c.as_slice.ensures.value ∙ subst (λ (x : StreamEnd). c.put-acts.result.notes.items ≡ (did x).notes) c.get_mut.ensures.value c.put-acts.ensures.notes in
-    let fine = subst (λ ns. AreNoted (stands_of st) side (Some Driver) ns) (sym said) (driver-noted st side _ _ _ _) in
+    let fine = subst (λ ns. AreNoted (stands_of st) side (Some Driver) ns) (sym said) (driver-noted st side c.across-across.result (record c.args.to { at = at })
+    (message_in s (token c.args.message)) (queue_in s (end_at side p).driver)) in
     rw c.get_mut.ensures.value (record { few = (s, noted-few s s p one side (Some Driver) at notes c.requires.enabled (stands-stack s s p side end refl) refl fine) })
 
 pub returns-clause-does : goal.returns-clause-does

@@ -26,8 +26,8 @@ returns-clause-held c = λ s mblks dblks beside.
 pub renew-requires : goal.renew-requires
 renew-requires c = omega (arith, c.requires)
 
-pub renew-2-requires : goal.renew-2-requires
-renew-2-requires c = omega (arith, c.requires, c.renew.ensures.shelf.tables, c.renew.ensures.shelf.room)
+pub renew-requires-2 : goal.renew-requires-2
+renew-requires-2 c = omega (arith, c.requires, c.renew.ensures.shelf.tables, c.renew.ensures.shelf.room)
 
 pub returns-clause-shelf : goal.returns-clause-shelf
 returns-clause-shelf c = record {

@@ -1,7 +1,8 @@
 -- The M_IOCTL is alone in hand.
 use Rattle.strm_pair.proofs.Prelude.{ℕ, ◌≡◌, ◌≤◌, List, [], ◌∷◌, refl, sym, ap, subst, ◌∙◌, arith, range-spare}
 use Rattle.strm_pair.specs.Prelude.{Side, Down, Spot, plain, AreIdle, Message, delivered, spare, most_of, State, in_hand, token, StoreValue}
-use Rattle.strm_pair.specs.Prelude.{message_of}
+use Rattle.strm_pair.specs.Prelude.{message_of, stream}
+use Rattle.strm_laws.specs.Prelude.{Waiting}
 use Rattle.strm_types.specs.declared.ioctls.Ioc.{Ioc}
 use Rattle.strm_laws.specs.Calls.{ioctl_begun}
 use Rattle.strm_types.specs.Ioctls.{asking, ioctl_message}
@@ -24,7 +25,7 @@ begun-idle side command s idle = idle-with side _ s (idle side) idle
 -- and enabled queues
 begun-few : (side : Side) (command : ℕ) (s : State ℕ) → AreFewEnabled s → AreFewEnabled (ioctl_begun side command s)
 begun-few side command s e =
-    let few = with-few s e side (record (stream side s) { head = _ }) refl in
+    let few = with-few s e side (record (stream side s) { head = record (stream side s).head { ioctl = Waiting s.next_ioctl command } }) refl in
     record { all = few.all; few = few.few; among = few.among; names = few.names }
 
 -- an M_IOCTL on its way down

@@ -4,7 +4,8 @@ use Rattle.strm_types.specs.declared.limits.TheConstants.{LISTS}
 use Rattle.strm_blocks.specs.Blocks.{StoreValue}
 use Rattle.strm_raw.specs.Roster.{Roster}
 use Rattle.strm_raw.specs.Raw.{IsRaw, value_of}
-use Rattle.strm_raw.specs.Lists.{AreListed, no_ends}
+use Rattle.strm_raw.specs.Lists.{AreListed}
+use Rattle.strm_raw.specs.declared.neighbours.KeptEnds.{KeptEnds}
 use Rattle.strm_raw.proofs.Listed.{listed-none}
 use Rattle.strm_raw.proofs.Wiping.{wiped-none}
 use Rattle.strm_raw.proofs.Fresh.{empty-raw}
@@ -18,7 +19,7 @@ invariant_of-self c =
       raw = subst (λ (b : Roster). IsRaw v None None c.room.result.0 c.room.result.1 b) (sym c.note.ensures)
           (empty-raw v _ _ clear.rows clear.datas c.begins.ensures.messages c.begins.ensures.data most_m most_d _ _ (ap (λ (r : ℕ × ℕ). r.0) c.room.ensures) (ap (λ (r : ℕ × ℕ). r.1) c.room.ensures));
       wiped = wiped-none v.datas clear.datas;
-      listed = subst (λ (b : Roster). AreListed v (replicate LISTS no_ends) b) (sym c.note.ensures) (listed-none v _ refl);
+      listed = subst (λ (x : KeptEnds × Roster). AreListed v (replicate LISTS x.0) x.1) (λ j. (sym c.keep-self-inside.ensures j, sym c.note.ensures j)) (listed-none v _ refl);
     }
 
 pub returns : goal.returns
