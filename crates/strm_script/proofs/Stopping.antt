@@ -56,11 +56,11 @@ module _ (side : Side) (at : ℕ) where
   -- one of a user's own treats one message
   own-once : (way : Way) (o : Own) (queues : Option (QueuePair ℕ)) → (own_serves (own_by no_own plain) (there way) (record { part = o; queues = queues })).again ≡ false
   own-once way o None = refl
-  own-once way o (Some pair) = at (way_queue way pair).messages
+  own-once way o (Some pair) = by (way_queue way pair).messages
     where
-      at : (ms : List (Message ℕ)) → (own_served (own_by no_own plain) (there way) (record { part = o; queues = Some pair }) pair ms).again ≡ false
-      at [] = refl
-      at (m ∷ rest) = refl
+      by : (ms : List (Message ℕ)) → (own_served (own_by no_own plain) (there way) (record { part = o; queues = Some pair }) pair ms).again ≡ false
+      by [] = refl
+      by (m ∷ rest) = refl
 
   serves-once : (way : Way) (made : ℕ) (p : Standing ℕ) → (module_serves no_own plain (there way) made false (Some 0) p).again ≡ false
   serves-once way made p = by way p.part
