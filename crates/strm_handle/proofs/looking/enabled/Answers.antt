@@ -2,5 +2,5 @@
 use Rattle.strm_handle.proofs.Numbered.{numbered}
 use Rattle.strm_handle.proofs.looking.enabled.Goals as goal
 
-pub number_at-requires : goal.number_at-requires
-number_at-requires c = numbered c.enabled.result.now c.enabled.ensures.queues c.enabled.ensures.known
+pub number_at-queue-requires : goal.number_at-queue-requires
+number_at-queue-requires c = numbered c.enabled.result.now c.enabled.ensures.queues c.enabled.ensures.known
