@@ -1,5 +1,5 @@
 -- The behaviour of a counter of bytes, with what it owes.
-use Rattle.std.specs.Prelude.{false, ◌==◌}
+use Rattle.std.specs.Prelude.{true, false, ◌==◌}
 use Rattle.strm_laws.specs.Behaviours.{Behaviour}
 use Rattle.byte_counter.specs.ByteCounter.{byte_counter_number, byte_counter_puts, none_counted}
 use Rattle.byte_counter.specs.ByteCounterLaws.{byte_counter-forgets, byte_counter-good, byte_counter-put}

@@ -1,5 +1,5 @@
 -- The behaviour of code_page: what it does, with what it owes the stream on which it stands.
-use Rattle.std.specs.Prelude.{true}
+use Rattle.std.specs.Prelude.{true, false}
 use Rattle.strm_laws.specs.Behaviours.{Behaviour}
 use Rattle.code_page.specs.CodePages.{knows_page, no_page, ours, page_puts}
 use Rattle.code_page.specs.PageLaws.{page-forgets, page-good, page-put}
