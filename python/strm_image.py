@@ -16,6 +16,7 @@ KINDS = {
 }  # fmt: skip
 STATES = ("not open", "open", "closed")
 PLACES = ("head", "ldterm", "drv")
+OWN_QUEUED = 128  # modules of a user's own have queues from this number on
 
 
 class Standing(NamedTuple):
@@ -39,7 +40,8 @@ class Queue(NamedTuple):
 
 
 class Stream(NamedTuple):
-    """A side's stream. `modules` from the top; `line`, `stopped` and `termios` are those of its ldterm, `window` is that of its ptem."""
+    """A side's stream. `modules` from the top, one of a user's own by its number and 16, as the library names it; `line`, `stopped` and `termios`
+    are those of its ldterm, `window` is that of its ptem."""
 
     state: str
     modules: list
@@ -120,6 +122,11 @@ class Reader:
             self.take(5)
             self.take(self.number(4))
 
+    def queue_name(self):
+        side, place = self.number(), self.number()
+        name = str(16 + self.number()) if place == 3 else PLACES[place]
+        return f"{'ms'[side]}.{name}.{'rw'[self.number()]}"
+
     def ledger(self):
         written, made, *gone = struct.unpack(">23Q", self.take(184))
         return written, made, {rule: count for rule, count in zip(RULES, gone) if count}
@@ -131,13 +138,18 @@ class Reader:
             told["stopped"], _ = self.flag(), self.flag()
             self.take(4)
             told["line"] = self.take(self.number())
-            queues[f"{letter}.ldterm.r"], queues[f"{letter}.ldterm.w"] = self.queue(version), self.queue(version)
         elif kind == 2:
             self.take(35)
             told["window"] = Winsize.of_wire(self.take(8))
+        elif kind == 4 and version == 2:
+            number = self.number()
+            self.take(self.number(2))
         elif kind != 3:
             raise ValueError("a module without a name")
-        return MODULES[kind]
+        name = str(16 + number) if kind == 4 else MODULES[kind]
+        if kind == 1 or kind == 4 and number >= OWN_QUEUED:
+            queues[f"{letter}.{name}.r"], queues[f"{letter}.{name}.w"] = self.queue(version), self.queue(version)
+        return name
 
     def stream(self, letter, state, version, queues):
         told = {"line": b"", "stopped": False, "termios": None, "window": None}
@@ -154,8 +166,8 @@ class Reader:
 def _books(ledgers, queues, streams):
     """The ledgers, with what stands on queues and in lines now."""
     for side, written, read in ((MASTER, "m", "s"), (SLAVE, "s", "m")):
-        names = (f"{written}.ldterm.w", f"{written}.drv.w", f"{read}.head.r", f"{read}.ldterm.r")
-        standing = [message for name in names if name in queues for message in queues[name].messages]
+        names = [name for name in queues if name[0] == written and name[-1] == "w" or name[0] == read and name[-1] == "r"]
+        standing = [message for name in names for message in queues[name].messages]
         counted = [message for message in standing if message.kind in ("M_DATA", "M_PROTO", "M_PCPROTO")]
         queued = sum(len(message.control or b"") + len(message.data or b"") for message in counted)
         made, lines = ledgers[side], len(streams[SLAVE if side == MASTER else MASTER].line)
@@ -172,7 +184,7 @@ def read_image(text):
         raise ValueError("a side is neither open nor closed")
     locked, next_ioctl, queues = reader.flag(), reader.number(4), {}
     streams = {side: reader.stream("ms"[side], STATES[states[side]], version, queues) for side in (MASTER, SLAVE)}
-    enabled = [f"{'ms'[side]}.{PLACES[place]}.{'rw'[way]}" for side, place, way in (reader.take(3) for _ in range(reader.number()))]
+    enabled = [reader.queue_name() for _ in range(reader.number())]
     ledgers = {side: reader.ledger() for side in (MASTER, SLAVE)}
     if reader.at != len(reader.text):
         raise ValueError("bytes are left over")

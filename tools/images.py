@@ -11,6 +11,8 @@ STANDS = {
     "driver": {DATA, PROTO, PCPROTO, IOCTL, IOCACK, IOCNAK, STOP, START},
 }
 LDTERM, PTEM, PCKT, OWN = 1, 2, 3, 4
+OWN_QUEUED = 128  # modules of a user's own have queues from this number on
+HEAD, LINE, DRIVER, OWN_PLACE = 0, 1, 2, 3
 
 
 class Fault(Exception):
@@ -73,6 +75,13 @@ class Module:
         self.read = self.read or Queue("read")
         self.write = self.write or Queue("write")
 
+    def queued(self):
+        return self.kind == LDTERM or self.kind == OWN and self.own >= OWN_QUEUED
+
+    def place(self):
+        """How an enabled queue of it is named, between side and way."""
+        return (OWN_PLACE, self.own) if self.kind == OWN else (LINE,)
+
 
 @dataclasses.dataclass
 class Stream:
@@ -89,11 +98,11 @@ class Stream:
         self.head = self.head or Queue("head")
         self.driver = self.driver or Queue("driver")
 
-    def ldterms(self):
-        return [m for m in self.modules if m.kind == LDTERM]
+    def queued(self):
+        return [m for m in self.modules if m.queued()]
 
     def queues(self):
-        return [self.head, *(q for m in self.ldterms() for q in (m.read, m.write)), self.driver]
+        return [self.head, *(q for m in self.queued() for q in (m.read, m.write)), self.driver]
 
 
 @dataclasses.dataclass
@@ -118,8 +127,8 @@ class Image:
     def standing(self, writer):
         """How many bytes stand on the queues and in the lines of what a side writes."""
         from_, to = self.streams[writer], self.streams[1 - writer]
-        down = from_.driver.counted() + sum(m.write.counted() for m in from_.ldterms())
-        return down + to.head.counted() + sum(m.read.counted() + len(m.line) for m in to.ldterms())
+        down = from_.driver.counted() + sum(m.write.counted() for m in from_.queued())
+        return down + to.head.counted() + sum(m.read.counted() + len(m.line) for m in to.queued())
 
 
 # ---- writing
@@ -148,12 +157,14 @@ def write_queue(q, version):
 
 
 def write_module(m, version):
+    text = bytes([m.kind])
     if m.kind == LDTERM:
-        rest = m.termios + bytes(m.flags) + number(m.column, 4) + bytes([len(m.line)]) + m.line
-        return bytes([m.kind]) + rest + write_queue(m.read, version) + write_queue(m.write, version)
+        text += m.termios + bytes(m.flags) + number(m.column, 4) + bytes([len(m.line)]) + m.line
+    if m.kind == PTEM:
+        text += m.termios + m.window
     if m.kind == OWN:
-        return bytes([m.kind, m.own]) + number(len(m.settings), 2) + m.settings
-    return bytes([m.kind]) + (m.termios + m.window if m.kind == PTEM else b"")
+        text += bytes([m.own]) + number(len(m.settings), 2) + m.settings
+    return text + (write_queue(m.read, version) + write_queue(m.write, version) if m.queued() else b"")
 
 
 def write_slot(slot):
@@ -180,8 +191,8 @@ def write(image, version=2):
 # ---- reading
 
 class Reader:
-    def __init__(self, text):
-        self.text, self.at, self.version = text, 0, 0
+    def __init__(self, text, owns):
+        self.text, self.at, self.version, self.owns = text, 0, 0, owns
 
     def bytes(self, count):
         if len(self.text) - self.at < count:
@@ -251,11 +262,17 @@ def read_queue(r, at):
 
 
 def read_module(r, above):
-    kind = r.number(1)
-    need(kind in (LDTERM, PTEM, PCKT), "module")  # the programs that are compared have none of a user's own
-    need(kind not in [m.kind for m in above], "module twice")
-    m = Module(kind)
-    if kind != PCKT:
+    m = Module(r.number(1))
+    kind = m.kind
+    need(kind in (LDTERM, PTEM, PCKT, OWN), "module")
+    if kind == OWN:
+        need(r.version == 2, "module of a user's own in version 1")
+        m.own, length = r.number(1), r.number(2)
+        need(length <= 320, "settings' length")
+        m.settings = r.bytes(length)
+        need(m.own in r.owns, "module of a user's own of a number that there isn't")
+    need((kind, m.own) not in [(other.kind, other.own) for other in above], "module twice")
+    if kind in (LDTERM, PTEM):
         m.termios = r.bytes(35)
     if kind == PTEM:
         m.window = r.bytes(8)
@@ -263,6 +280,7 @@ def read_module(r, above):
         m.flags, m.column = (r.upto(1, "stopped"), r.upto(1, "behind LNEXT")), r.number(4)
         need(m.column <= 65535, "column")
         m.line = r.bytes(r.number(1))
+    if m.queued():
         m.read, m.write = read_queue(r, "read"), read_queue(r, "write")
     return m
 
@@ -293,6 +311,14 @@ def read_stream(r, side):
     return s
 
 
+def read_name(r):
+    side, place = r.upto(1, "side"), (r.upto(3, "place"),)
+    if place == (OWN_PLACE,):
+        place = (OWN_PLACE, r.number(1))
+        need(place[1] >= OWN_QUEUED, "place of a module that has no queues")
+    return (side, *place, r.upto(1, "way"))
+
+
 def read_ledger(r):
     ledger = Ledger(r.number(8), r.number(8), [r.number(8) for _ in range(RULES)])
     need(ledger.written < 2**63 and ledger.made < 2**63, "booked")
@@ -305,22 +331,23 @@ def check_whole(image):
         shut = not s.modules and not s.signals and s.slot == (0,) and not s.head.messages
         need(image.opened[side] == 1 or shut, "side that isn't open")
         need(ledger.written + ledger.made == image.standing(side) + sum(ledger.gone), "sums")
-    for side, place, way in image.enabled:
-        there = image.streams[side].ldterms() if place == 1 else (place, way) == (2, 1)
+    for side, *place, way in image.enabled:
+        there = tuple(place) in [m.place() for m in image.streams[side].queued()] or (*place, way) == (DRIVER, 1)
         need(there, "enabled queue that isn't there")
     need(len(set(image.enabled)) == len(image.enabled), "enabled twice")
 
 
-def read(text):
-    """The image that a text is, and its version; or a Fault."""
-    r = Reader(text)
+def read(text, owns=()):
+    """The image that a text is, and its version; or a Fault. `owns` are the numbers of the modules of a user's own that the program has, which
+    are none in those that the tools compare."""
+    r = Reader(text, owns)
     need(r.bytes(4) == b"STPI", "first bytes")
     r.version = r.number(1)
     need(r.version in (1, 2), "version")
     image = Image((r.upto(2, "master"), r.upto(2, "slave")), r.upto(1, "locked"), r.number(4))
     need(image.next_ioctl > 0, "next ioctl 0")
     image.streams = [read_stream(r, side) for side in (0, 1)]
-    image.enabled = [(r.upto(1, "side"), r.upto(2, "place"), r.upto(1, "way")) for _ in range(r.number(1))]
+    image.enabled = [read_name(r) for _ in range(r.number(1))]
     image.ledgers = [read_ledger(r), read_ledger(r)]
     need(r.at == len(text), "bytes left over")
     check_whole(image)

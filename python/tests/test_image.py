@@ -7,8 +7,9 @@ from strm_image import Standing, read_image
 from strm_library import Library
 from tests.test_pair import any_call
 
+QUEUE = b"\x01\0\0\0\0\0\0"  # a new one
 # Nobody opened a side, the slave is locked, and the next ioctl is the first one; no queue is enabled, and the ledgers are empty.
-NEW = b"STPI\x02\0\0\x01\0\0\0\x01" + (b"\0\0\0\0\0\0" + b"\x01\0\0\0\0\0\0" * 2) * 2 + b"\0" + bytes(368)
+NEW = b"STPI\x02\0\0\x01\0\0\0\x01" + (b"\0\0\0\0\0\0" + QUEUE * 2) * 2 + b"\0" + bytes(368)
 
 
 class Readers(unittest.TestCase):
@@ -18,6 +19,14 @@ class Readers(unittest.TestCase):
         self.assertEqual([stream.state for stream in told.streams.values()], ["not open", "not open"])
         self.assertEqual(sorted(told.queues), ["m.drv.w", "m.head.r", "s.drv.w", "s.head.r"])
         self.assertTrue(all(queue.wants_read and not queue.messages for queue in told.queues.values()))
+
+    def test_a_module_of_a_users_own_that_has_queues(self):
+        stands = QUEUE[:-1] + b"\1" + b"\0\0" + bytes(5) + b"\1\0\0\0\2hi"
+        module = b"\4\x80\0\3set" + QUEUE + stands
+        told = read_image(NEW[:12] + b"\0\0\0\0\0\1" + module + QUEUE * 2 + bytes(6) + QUEUE * 2 + b"\1" + b"\0\3\x80\1" + bytes(368))
+        self.assertEqual((told.streams[MASTER].modules, told.enabled), (["144"], ["m.144.w"]))
+        self.assertEqual(told.queues["m.144.w"].messages, [Standing("M_DATA", 0, None, b"hi")])
+        self.assertEqual((told.queues["m.144.r"].messages, told.ledgers[MASTER].queued), ([], 2))
 
     def test_what_is_no_image(self):
         for text in (b"", NEW[:-1], NEW + b"x", b"x" + NEW[1:], NEW[:4] + b"\x03" + NEW[5:], NEW[:5] + b"\x03" + NEW[6:], NEW[:7] + b"\x02" + NEW[8:]):

@@ -1,17 +1,19 @@
 -- What a counter of bytes owes: what it is set to are eight bytes, and it counts as many of any cells.
-use Rattle.std.proofs.Common.{ℕ, zero, suc, ◌≡◌, ◌<◌, false, true, List, length, map, refl, ap, arith}
+use Rattle.std.proofs.Common.{ℕ, zero, suc, ◌≡◌, ◌<◌, false, true, List, length, map, refl, ap, arith, sym, ◌∙◌}
 use Rattle.std.specs.Prelude.{Option, None, Some, option_map, ◌==◌}
 use Rattle.std.specs.List.{AllByRecursion}
 use Rattle.std.specs.Int.{byte_at, bytes_high_first}
 use Rattle.std.proofs.lemmas.Bool.Decides.{nat_tests}
 use Rattle.std.proofs.lemmas.List.{length-map}
+use Rattle.strm_types.specs.declared.names.ModuleName.TheVariants as modules
 use Rattle.strm_types.specs.declared.spots.Spot.{Spot}
 use Rattle.strm_types.specs.Cells.{AreCells, Cells, plain}
 use Rattle.strm_types.specs.Message.{Message, map_message, part}
+use Rattle.strm_types.specs.Names.{have_queues}
 use Rattle.strm_types.specs.Origins.{map_acted}
 use Rattle.strm_types.specs.Owns.{Own}
 use Rattle.strm_laws.specs.Behaviours.{GoodOwn, OwnPut, passes_all}
-use Rattle.strm_pair.proofs.OwnPassing.{sets-put}
+use Rattle.strm_own.proofs.OwnPassing.{sets-put}
 use Rattle.byte_counter.specs.ByteCounter.{byte_counter_number, byte_counter_puts, counted_on, data_length, none_counted}
 
 -- bytes of a number are below 256
@@ -40,3 +42,7 @@ pub byte_counter-forgets : {C : Type 0} (cells : Cells C) → AreCells cells →
 unfolding map_message
 byte_counter-forgets cells are here m x =
     ap (λ n. passes_all here (map_message cells.byte m) (record x { settings = counted_on x.settings n })) (mapped-length cells.byte m.body)
+
+-- and it has no queues
+pub byte_counter-queues : (n : ℕ) → (n == byte_counter_number) ≡ true → have_queues (modules.Own n) ≡ true → false ≡ true
+byte_counter-queues n is has = let e : n ≡ byte_counter_number = grind (arith, nat_tests) in ap (λ m. have_queues (modules.Own m)) (sym e) ∙ has

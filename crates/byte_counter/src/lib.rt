@@ -14,7 +14,8 @@ use strm_frame::Outbox;
 use strm_laws::Behaves;
 use strm_msg::msgdsize;
 use strm_pair::{Own, OwnModule, pass_on};
-use strm_types::{Fates, Spot};
+use strm_queue::Queue;
+use strm_types::{Fates, Spot, Way};
 
 /// The number by which the module is pushed, as `ModuleName::Own(NUMBER)`.
 pub const NUMBER: u8 = 2;
@@ -76,8 +77,17 @@ impl Behaves for ByteCounter {
 
 impl OwnModule for ByteCounter {
     ghost use Rattle.std.specs.Prelude.{false};
+    ghost use Rattle.byte_counter.specs.ByteCounterLaws.{byte_counter-queues};
 
     ghost wide = { false };
+
+    ghost queued = { false };
+
+    ghost queues = { byte_counter-queues };
+
+    fn queued() -> bool {
+        false
+    }
 
     fn made(number: u8) -> Option<Own> {
         if number == NUMBER {
@@ -96,5 +106,13 @@ impl OwnModule for ByteCounter {
     ) -> Outbox {
         count_on(own, data_length(store, &message));
         pass_on(here, message)
+    }
+
+    fn holds<B: Blocks>(_own: &Own, _store: &B, _here: Spot, _message: &InHand) -> bool {
+        false
+    }
+
+    fn goes<B: Blocks>(_own: &Own, _store: &B, _way: Way, _queue: &Queue) -> bool {
+        true
     }
 }

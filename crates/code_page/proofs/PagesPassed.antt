@@ -13,7 +13,7 @@ use Rattle.strm_frame.specs.Outboxes.{message_in}
 use Rattle.strm_frame.proofs.WidePools.{room-wide}
 use Rattle.strm_pty.specs.Beside.{MayPass}
 use Rattle.strm_laws.specs.Behaviours.{passes_all}
-use Rattle.strm_pair.specs.OwnPuts.{OwnPuts}
+use Rattle.strm_own.specs.OwnPuts.{OwnPuts}
 
 module _ (s t : StoreValue) (here : Spot) (i j : ℕ) (page : List ℕ) (done : Translated s t i j page) where
   pub may-on : MayPass s i here → MayPass t j here

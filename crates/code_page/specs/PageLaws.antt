@@ -8,6 +8,7 @@ use Rattle.std.proofs.lemmas.List.Sums.{sum_by-cons}
 use Rattle.std.specs.List.{AllByRecursion}
 use Rattle.std.specs.Prelude.{◌&&◌, ◌||◌, ◌%◌, count_by, not, slice_index_or, sum_by, None, Option, Some, option_map}
 use Rattle.strm_types.specs.declared.ioctls.Ioc.{Ioc}
+use Rattle.strm_types.specs.declared.names.ModuleName.TheVariants as modules
 use Rattle.strm_types.specs.declared.names.Way.{Way}
 use Rattle.strm_types.specs.declared.names.Way.TheVariants.{Up, Down}
 use Rattle.strm_types.specs.declared.spots.Spot.{Spot}
@@ -18,7 +19,7 @@ use Rattle.strm_types.specs.Commands.{is_asked, is_ioctl}
 use Rattle.strm_types.specs.Deliver.{onward, toward}
 use Rattle.strm_types.specs.Ioctls.{ioc_bytes, nak_message, read_ioc, refused}
 use Rattle.strm_types.specs.Message.{Message, cells_of, has_parts, is_part, map_message, part, weight_of}
-use Rattle.strm_types.specs.Names.{direction_at}
+use Rattle.strm_types.specs.Names.{direction_at, have_queues}
 use Rattle.strm_types.specs.Origins.{map_acted}
 use Rattle.strm_types.specs.Owns.{Own}
 use Rattle.strm_types.specs.Shapes.{Asking, shape_by, shape_of}
@@ -275,3 +276,7 @@ module _ {C : Type 0} (cells : Cells C) (are : AreCells cells) (x : Own) where
 -- one as it is pushed can be in an image
 pub page-good : (n : ℕ) → knows_page n ≡ true → GoodOwn (record { number = n; settings = no_page })
 page-good n is = let e : n ≡ 1 = grind (arith, nat_tests) in record { number = omega (arith, e); few = omega arith; bytes = tt }
+
+-- and has no queues
+pub page-queues : (n : ℕ) → knows_page n ≡ true → have_queues (modules.Own n) ≡ true → false ≡ true
+page-queues n is has = let e : n ≡ 1 = grind (arith, nat_tests) in ap (λ m. have_queues (modules.Own m)) (sym e) ∙ has

@@ -12,7 +12,7 @@ ghost use Rattle.strm_msg.specs.Messages.{IsChain};
 ghost use Rattle.strm_frame.specs.Hands.{IsWide};
 ghost use Rattle.strm_frame.specs.Outboxes.{message_in};
 ghost use Rattle.strm_pty.specs.Beside.{MayPass};
-ghost use Rattle.strm_pair.specs.OwnPuts.{OwnPuts};
+ghost use Rattle.strm_own.specs.OwnPuts.{OwnPuts};
 ghost use Rattle.code_page.specs.CodePages.{is_page, ours, page_command, page_of, page_puts};
 
 use crate::{PAGE_SIZE, SETPAGE};

@@ -15,7 +15,8 @@ use strm_blocks::{Blocks, InHand};
 use strm_frame::Outbox;
 use strm_laws::Behaves;
 use strm_pair::{Own, OwnModule};
-use strm_types::{Fates, Spot};
+use strm_queue::Queue;
+use strm_types::{Fates, Spot, Way};
 
 /// The number of the module among a user's own: `ModuleName::Own(CODE_PAGE)` is pushed.
 pub const CODE_PAGE: u8 = 1;
@@ -40,9 +41,18 @@ impl Behaves for CodePage {
 }
 
 impl OwnModule for CodePage {
-    ghost use Rattle.std.specs.Prelude.{true};
+    ghost use Rattle.std.specs.Prelude.{true, false};
+    ghost use Rattle.code_page.specs.PageLaws.{page-queues};
 
     ghost wide = { true };
+
+    ghost queued = { false };
+
+    ghost queues = { page-queues };
+
+    fn queued() -> bool {
+        false
+    }
 
     fn made(number: u8) -> Option<Own> {
         if number == CODE_PAGE {
@@ -63,5 +73,13 @@ impl OwnModule for CodePage {
             Some(ioc) => answer(own, store, here, ioc, message),
             None => pass(own, store, here, message),
         }
+    }
+
+    fn holds<B: Blocks>(_own: &Own, _store: &B, _here: Spot, _message: &InHand) -> bool {
+        false
+    }
+
+    fn goes<B: Blocks>(_own: &Own, _store: &B, _way: Way, _queue: &Queue) -> bool {
+        true
     }
 }

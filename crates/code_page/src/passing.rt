@@ -7,7 +7,7 @@ ghost use Rattle.strm_blocks.specs.Blocks.{token};
 ghost use Rattle.strm_frame.specs.Hands.{IsWide};
 ghost use Rattle.strm_frame.specs.Outboxes.{message_in};
 ghost use Rattle.strm_pty.specs.Beside.{MayPass};
-ghost use Rattle.strm_pair.specs.OwnPuts.{OwnPuts};
+ghost use Rattle.strm_own.specs.OwnPuts.{OwnPuts};
 ghost use Rattle.code_page.specs.CodePages.{page_puts};
 
 use crate::PAGE_SIZE;

@@ -3,6 +3,7 @@ use Rattle.std.proofs.Common.{ℕ, ◌≡◌, ◌≤◌, ◌+◌, cond, ltb, Lis
 use Rattle.std.specs.Prelude.{sum_by, replicate}
 use Rattle.std.proofs.lemmas.Bool.Decides.{nat_tests}
 use Rattle.std.proofs.lemmas.List.Sums.{sum_by_push}
+use Rattle.strm_types.specs.declared.limits.TheConstants.{LISTS}
 use Rattle.strm_blocks.specs.Message.{named}
 use Rattle.strm_blocks.specs.Table.{IsTable}
 use Rattle.strm_blocks.specs.declared.message.Message.{Message}
@@ -18,7 +19,7 @@ names-next idle m k e all i =
     grind (arith, nat_tests)
 
 -- what holds of its fields
-pub IsTable-new : (mblks dblks : ℕ) (idle : List Message) (spare : List MessageBlock) (counts : List ℕ) → mblks ≤ 65536 → length idle ≡ mblks → length spare ≡ mblks → ((i : ℕ) → sum_by (named i) idle ≡ cond (ltb i mblks) 1 0) → counts ≡ replicate dblks 0 → IsTable mblks (replicate 8 []) [] idle spare counts
+pub IsTable-new : (mblks dblks : ℕ) (idle : List Message) (spare : List MessageBlock) (counts : List ℕ) → mblks ≤ 65536 → length idle ≡ mblks → length spare ≡ mblks → ((i : ℕ) → sum_by (named i) idle ≡ cond (ltb i mblks) 1 0) → counts ≡ replicate dblks 0 → IsTable mblks (replicate LISTS []) [] idle spare counts
 IsTable-new mblks dblks idle spare counts few messages blocks names none = record {
   eight = refl;
   few = few;
@@ -28,5 +29,5 @@ IsTable-new mblks dblks idle spare counts few messages blocks names none = recor
   apart = λ i. (let a = names i in grind (arith, nat_tests));
   referenced = λ d. ap (λ (counts : List ℕ). get_or counts d 0) none ∙ get_or-zeros dblks d;
   straight = refl;
-  ordered = AreOrdered-empty 8;
+  ordered = AreOrdered-empty LISTS;
 }

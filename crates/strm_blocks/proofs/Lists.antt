@@ -19,6 +19,7 @@ use Rattle.strm_blocks.proofs.Orders.{put-value, put_back-value, Ordered-without
 use Rattle.strm_blocks.proofs.Stores.{value, value-same}
 use Rattle.strm_blocks.proofs.ListParts.{sum-filter}
 use Rattle.std.proofs.lemmas.Bool.Decides.{nat_tests}
+use Rattle.strm_types.specs.declared.limits.TheConstants.{LISTS}
 use Rattle.strm_blocks.specs.declared.asked.FlushWhat.{FlushWhat}
 use Rattle.strm_blocks.proofs.Moves.{IsTable-moved}
 use Rattle.strm_blocks.proofs.Found.{chain-is}
@@ -67,7 +68,7 @@ filter-value bytes what (m ∷ q) =
       | false ↦ filter-value bytes what q
     ])
 
-module _ (t : Inside) {s : StoreValue} (is : value_of t ≡ s) (holds : IsTableStore t) (k : ℕ) (eight : k < 8) where
+module _ (t : Inside) {s : StoreValue} (is : value_of t ≡ s) (holds : IsTableStore t) (k : ℕ) (eight : k < LISTS) where
   abbrev pub list : List Message
   list = get_or t.lists k []
 

@@ -6,6 +6,7 @@ use Rattle.strm_blocks.proofs.ListParts.{sums-empty}
 use Rattle.std.proofs.lemmas.Bool.Decides.{nat_tests}
 use Rattle.std.proofs.lemmas.List.{length-drop, length-append}
 use Rattle.std.proofs.lemmas.List.Sums.{sum_by-cons, sum_by-append}
+use Rattle.strm_types.specs.declared.limits.TheConstants.{LISTS}
 use Rattle.strm_blocks.specs.Message.{message_at, without_at, with_blocks, weigh, named, naming, lacking, block_count, askew, AreOrdered}
 use Rattle.strm_blocks.specs.Table.{IsTable}
 use Rattle.strm_blocks.specs.declared.message.Message.{Message}
@@ -39,7 +40,7 @@ module _ {mblks : ℕ} {lists : List (List Message)} {hand idle : List Message} 
       omega arith
 
   -- messages that move between the lists and the hand
-  pub IsTable-moved : (lists' : List (List Message)) (hand' : List Message) → length lists' ≡ 8 → AreOrdered lists' → ((g : Message → ℕ) → weigh g lists' hand' ≡ weigh g lists hand) → IsTable mblks lists' hand' idle spare counts
+  pub IsTable-moved : (lists' : List (List Message)) (hand' : List Message) → length lists' ≡ LISTS → AreOrdered lists' → ((g : Message → ℕ) → weigh g lists' hand' ≡ weigh g lists hand) → IsTable mblks lists' hand' idle spare counts
   IsTable-moved lists' hand' eight ordered' same = record {
     eight = eight;
     few = is.few;
@@ -88,7 +89,7 @@ module _ {mblks : ℕ} {lists : List (List Message)} {hand idle : List Message} 
       }
 
   -- messages that are taken out and give back their blocks
-  pub IsTable-freed : (lists' : List (List Message)) (hand' taken idle' : List Message) (spare' : List MessageBlock) (counts' : List ℕ) → length lists' ≡ 8 → AreOrdered lists' → ((g : Message → ℕ) → weigh g lists' hand' + sum_by g taken ≡ weigh g lists hand) → length spare' ≡ length spare + sum_by block_count taken → length idle' ≡ length idle + length taken → ((i : ℕ) → sum_by (named i) idle' ≡ sum_by (named i) idle + sum_by (named i) taken) → ((d : ℕ) → get_or counts' d 0 + sum_by (naming d) taken ≡ get_or counts d 0) → IsTable mblks lists' hand' idle' spare' counts'
+  pub IsTable-freed : (lists' : List (List Message)) (hand' taken idle' : List Message) (spare' : List MessageBlock) (counts' : List ℕ) → length lists' ≡ LISTS → AreOrdered lists' → ((g : Message → ℕ) → weigh g lists' hand' + sum_by g taken ≡ weigh g lists hand) → length spare' ≡ length spare + sum_by block_count taken → length idle' ≡ length idle + length taken → ((i : ℕ) → sum_by (named i) idle' ≡ sum_by (named i) idle + sum_by (named i) taken) → ((d : ℕ) → get_or counts' d 0 + sum_by (naming d) taken ≡ get_or counts d 0) → IsTable mblks lists' hand' idle' spare' counts'
   IsTable-freed lists' hand' taken idle' spare' counts' eight ordered' same rows nodes names fewer = record {
     eight = eight;
     few = is.few;
@@ -121,9 +122,9 @@ module _ {mblks : ℕ} {lists : List (List Message)} {hand idle : List Message} 
       omega arith
 
   -- all messages taken out
-  pub freed-all : (lists' : List (List Message)) (hand' taken : List Message) → lists' ≡ replicate 8 [] → hand' ≡ [] → ((g : Message → ℕ) → sum_by g taken ≡ weigh g lists hand) → (g : Message → ℕ) → weigh g lists' hand' + sum_by g taken ≡ weigh g lists hand
+  pub freed-all : (lists' : List (List Message)) (hand' taken : List Message) → lists' ≡ replicate LISTS [] → hand' ≡ [] → ((g : Message → ℕ) → sum_by g taken ≡ weigh g lists hand) → (g : Message → ℕ) → weigh g lists' hand' + sum_by g taken ≡ weigh g lists hand
   freed-all lists' hand' taken el eh all g =
-      let l = ap (λ (lists : List (List Message)). sum_by (λ q. sum_by g q) lists) el ∙ sums-empty g 8 in
+      let l = ap (λ (lists : List (List Message)). sum_by (λ q. sum_by g q) lists) el ∙ sums-empty g LISTS in
       let h = ap (λ (q : List Message). sum_by g q) eh in
       let a = all g in
       omega arith

@@ -23,6 +23,7 @@ use Rattle.strm_blocks.proofs.Moves.{askew_row}
 use Rattle.strm_blocks.proofs.Shown.{length-range}
 use Rattle.strm_blocks.proofs.FreeList.{named-within}
 use Rattle.std.proofs.lemmas.Bool.Decides.{nat_tests}
+use Rattle.strm_types.specs.declared.limits.TheConstants.{LISTS}
 
 -- a block shows as many bytes as lie between its places
 abbrev pub IsLong : List (List ℕ) → MessageBlock → Type 0
@@ -67,7 +68,7 @@ counted kind band bytes = record { kind = kind; band = band; bytes = bytes }
 counted-same : {k k' : MsgKind} {b b' : Band} {n n' : ℕ} → k ≡ k' → b ≡ b' → n ≡ n' → counted k b n ≡ counted k' b' n'
 counted-same {k} {k'} {b} {b'} {n} {n'} ek eb en = ap (λ (x : MsgKind). counted x b n) ek ∙ ap (λ (x : Band). counted k' x n) eb ∙ ap (λ (x : ℕ). counted k' b' x) en
 
-module _ (t : Inside) {s : StoreValue} (is : value_of t ≡ s) (holds : IsTableStore t) (k : ℕ) (eight : k < 8) where
+module _ (t : Inside) {s : StoreValue} (is : value_of t ≡ s) (holds : IsTableStore t) (k : ℕ) (eight : k < LISTS) where
   -- the messages of a list weigh no more than all
   list-weigh : (g : Message → ℕ) → sum_by g (list t is holds k eight) ≤ weigh g t.lists t.hand
   list-weigh g =

@@ -1,5 +1,6 @@
 -- What the fields of a table store stand for, and what holds of them.
 use Rattle.std.specs.Prelude.{ℕ, ◌≡◌, ◌≤◌, ◌<◌, ◌+◌, ◌-◌, List, [], length, map, sum_by, slice_index_or, slice_range}
+use Rattle.strm_types.specs.declared.limits.TheConstants.{LISTS}
 use Rattle.strm_blocks.specs.Blocks.{Block, Held, StoreValue}
 use Rattle.strm_blocks.specs.Message.{weigh, block_count, lacking, named, naming, askew, AreOrdered}
 use Rattle.strm_blocks.specs.declared.message.Message.{Message}
@@ -43,11 +44,11 @@ pub record IsShown (pool : Pool) (b : MessageBlock) : Type 0 where
   pub ordered : b.start ≤ b.end
   pub within : b.end ≤ 256
 
--- There are eight lists. Each message block is spare or a message's, and each message is idle, on a list or in hand.
+-- There are `LISTS` lists. Each message block is spare or a message's, and each message is idle, on a list or in hand.
 -- Those that aren't idle have a block. No name is that of two messages. The references of a data block are the blocks
 -- that name it. Each block's places are in order, within its data block. Each list is in order of rank.
 pub record IsTable (mblks : ℕ) (lists : List (List Message)) (hand idle : List Message) (spare : List MessageBlock) (references : List ℕ) : Type 0 where
-  pub eight : length lists ≡ 8
+  pub eight : length lists ≡ LISTS
   pub few : mblks ≤ 65536
   pub blocks : length spare + weigh block_count lists hand ≡ mblks
   pub messages : length idle + weigh (λ _. 1) lists hand ≡ mblks

@@ -1,5 +1,6 @@
 //! The calls of a store of message blocks and data blocks.
 ghost use Rattle.std.specs.Prelude.{true, ◌≡◌, ◌≢◌, ◌==◌, ℕ, ◌<◌, ◌≤◌, [], ◌++◌, length, take, MatchResult, MatchOption};
+ghost use Rattle.strm_types.specs.declared.limits.TheConstants.{LISTS};
 ghost use Rattle.strm_blocks.specs.Blocks.{StoreValue, IsStore, IsInHand, in_hand, list_at, held, dropped, changed, placed, empty_store, block_at, filled_block, with_block, put, put_back, trimmed_head, trimmed_tail, taken_by, extended, of_kind, banded, free_m, free_d, token};
 ghost use Rattle.strm_blocks.specs.Outcomes.{Allocated, Duplicated, Copied, NoneFree, NoneShared, Unlinked, UnlinkedLast, Popped, PoppedLast, Unpopped, PeekedFirst, summary_of, seen_in, seen_on, told, flushed};
 
@@ -11,7 +12,7 @@ use strm_types::{Band, MsgKind};
 /// A store of message blocks and data blocks, as one pair of streams has it (STREAMS Programming Guide, "Message
 /// Structure"). A message is a chain of message blocks, and each of these names a data block of 256 bytes, of which it
 /// shows the bytes from its read place to its write place. A data block may be named by up to 255 message blocks.
-/// Messages stand on eight lists, numbered from 0, or are in hand.
+/// Messages stand on `LISTS` lists, numbered from 0, or are in hand.
 ///
 /// Each call changes the one list or the message in hand that it is given, and nothing else. No call takes memory.
 pub trait Blocks {
@@ -160,18 +161,18 @@ pub trait Blocks {
 
     /// Whether no message stands on a list.
     fn is_empty(&self, list: usize) -> bool
-        requires { list < 8 }
+        requires { list < LISTS }
         ensures { result ≡ (length (list_at (value self.now) list) == 0) };
 
     /// How many messages stand on a list: `qsize(9F)`.
     fn messages(&self, list: usize) -> usize
-        requires { list < 8 }
+        requires { list < LISTS }
         ensures { result ≡ length (list_at (value self.now) list) };
 
     /// Puts a message on a list, behind all of at least its rank: `putq(9F)`. It takes one step where the last message of
     /// the list has at least the new one's rank, and else a step for each message that is passed.
     fn insert_back(&mut self, list: usize, message: InHand)
-        requires list { list < 8 }
+        requires list { list < LISTS }
         requires in_hand { IsInHand (value self.old) (token message) }
         ensures { let s = value self.old in
             value self.new ≡ placed (dropped s (token message)) list
@@ -179,7 +180,7 @@ pub trait Blocks {
 
     /// Puts a message on a list, in front of all of at most its rank: `putbq(9F)`.
     fn insert_front(&mut self, list: usize, message: InHand)
-        requires list { list < 8 }
+        requires list { list < LISTS }
         requires in_hand { IsInHand (value self.old) (token message) }
         ensures { let s = value self.old in
             value self.new ≡ placed (dropped s (token message)) list
@@ -187,21 +188,21 @@ pub trait Blocks {
 
     /// Takes the first message of a list, if there is one: `getq(9F)`.
     fn pop(&mut self, list: usize) -> Option<InHand>
-        requires { list < 8 }
+        requires { list < LISTS }
         ensures { MatchOption result
             (Unpopped (value self.old) (value self.new) list)
             (λ m. Popped (value self.old) (value self.new) list (token m)) };
 
     /// Takes the last message of a list, if there is one.
     fn pop_last(&mut self, list: usize) -> Option<InHand>
-        requires { list < 8 }
+        requires { list < LISTS }
         ensures { MatchOption result
             (Unpopped (value self.old) (value self.new) list)
             (λ m. PoppedLast (value self.old) (value self.new) list (token m)) };
 
     /// What can be seen of the first message of a list, if there is one.
     fn peek(&self, list: usize) -> Option<Peek>
-        requires { list < 8 }
+        requires { list < LISTS }
         ensures { MatchOption result
             (list_at (value self.now) list ≡ [])
             (λ peek. PeekedFirst (value self.now) list peek) };
@@ -209,7 +210,7 @@ pub trait Blocks {
     /// Tells a visitor of the blocks of the messages of a list in their order, until it wants no more. It takes a step for
     /// each block of which the visitor is told.
     fn visit<V: Visitor>(&self, list: usize, visitor: &mut V)
-        requires { list < 8 }
+        requires { list < LISTS }
         ensures { visitor.new ≡ told V.after V.goes_on visitor.old (seen_on (list_at (value self.now) list)) };
 
     /// Tells a visitor of the blocks of a message in hand in their order, until it wants no more. It takes a step for each
@@ -221,7 +222,7 @@ pub trait Blocks {
 
     /// Frees the messages of a list that a flush takes: `flushq(9F)`, `flushband(9F)`.
     fn drop_where(&mut self, list: usize, what: FlushWhat)
-        requires { list < 8 }
+        requires { list < LISTS }
         ensures { let s = value self.old in
             value self.new ≡ placed s list (flushed what (list_at s list)) };
 

@@ -5,7 +5,7 @@ ghost use Rattle.strm_blocks.specs.Message.{message_at, row_at, without_at, with
 
 use std::collections::LinkedList;
 use std::mem::swap;
-use strm_types::MsgKind;
+use strm_types::{LISTS, MsgKind};
 
 /// A message block: the number of its data block, and of that the read place and the write place.
 #[derive(Clone, Copy)]
@@ -306,18 +306,18 @@ pub(crate) fn first_block(chain: &LinkedList<MessageBlock>) -> MessageBlock
     }
 }
 
-/// Takes all messages off eight lists and out of the hand.
+/// Takes all messages off the lists and out of the hand.
 pub(crate) fn gather(
-    lists: &mut [LinkedList<Message>; 8],
+    lists: &mut [LinkedList<Message>; LISTS],
     hand: &mut LinkedList<Message>,
 ) -> LinkedList<Message>
     requires { weigh (λ _. 1) lists.old hand.old < 2 ^ 63 }
-    ensures lists { lists.new ≡ replicate 8 [] }
+    ensures lists { lists.new ≡ replicate LISTS [] }
     ensures hand { hand.new ≡ [] }
     ensures taken { (g : Message → ℕ) → sum_by g result ≡ weigh g lists.old hand.old }
 {
     let mut taken = hand.split_off(0).unwrap();
-    for list in 0..8 {
+    for list in 0..LISTS {
         taken.append(&mut lists[list]).unwrap();
     }
     taken

@@ -1,5 +1,5 @@
 //! The plain store of blocks.
-ghost use Rattle.std.specs.Prelude.{◌≡◌, ◌<◌, ◌≤◌, length, IfOk, MatchResult};
+ghost use Rattle.std.specs.Prelude.{[], ◌≡◌, ◌<◌, ◌≤◌, length, replicate, IfOk, MatchResult};
 ghost use Rattle.strm_blocks.specs.Blocks.{empty_store};
 ghost use Rattle.strm_blocks.specs.Pool.{Reserves, ReservesNone};
 
@@ -18,13 +18,13 @@ use crate::visitor::Visitor;
 use std::alloc::{AllocError, Global};
 use std::collections::LinkedList;
 use std::marker::Model;
-use strm_types::{BLOCK_SIZE, Band, MsgKind};
+use strm_types::{BLOCK_SIZE, Band, LISTS, MsgKind};
 
 /// A store of message blocks and data blocks in linked lists and tables. All of its memory is reserved when it is made:
 /// its blocks and messages are nodes, which move from list to list.
 #[derive(Drop)]
 pub struct TableStore {
-    lists: [LinkedList<Message>; 8],
+    lists: [LinkedList<Message>; LISTS],
     hand: LinkedList<Message>,
     idle: LinkedList<Message>,
     spare: LinkedList<MessageBlock>,
@@ -71,16 +71,7 @@ impl TableStore {
             })?;
         }
         Ok(TableStore {
-            lists: [
-                LinkedList::new(alloc),
-                LinkedList::new(alloc),
-                LinkedList::new(alloc),
-                LinkedList::new(alloc),
-                LinkedList::new(alloc),
-                LinkedList::new(alloc),
-                LinkedList::new(alloc),
-                LinkedList::new(alloc),
-            ],
+            lists: no_lists(alloc),
             hand: LinkedList::new(alloc),
             idle,
             spare,
@@ -88,6 +79,30 @@ impl TableStore {
             mblks,
         })
     }
+}
+
+// Lists with no message.
+fn no_lists(alloc: Global) -> [LinkedList<Message>; LISTS]
+    ensures { result ≡ replicate LISTS [] }
+{
+    [
+        LinkedList::new(alloc),
+        LinkedList::new(alloc),
+        LinkedList::new(alloc),
+        LinkedList::new(alloc),
+        LinkedList::new(alloc),
+        LinkedList::new(alloc),
+        LinkedList::new(alloc),
+        LinkedList::new(alloc),
+        LinkedList::new(alloc),
+        LinkedList::new(alloc),
+        LinkedList::new(alloc),
+        LinkedList::new(alloc),
+        LinkedList::new(alloc),
+        LinkedList::new(alloc),
+        LinkedList::new(alloc),
+        LinkedList::new(alloc),
+    ]
 }
 
 // Takes a data block, where a message block is spare for it.

@@ -30,18 +30,23 @@ impl Member {
             return not_done(Refusal::NoMemory);
         };
         let Ok(cut) = self.host.at(system).try_cut(&NoBell, alloc, end) else {
+            drop(room);
             return Err(NotDone::Busy);
         };
         let Cut {
-            visit: _visit,
+            visit,
             trace: given,
         } = cut;
+        drop(visit);
         match given {
             Ok(made) => {
                 room.put(made, trace);
                 Ok(())
             }
-            Err(NoMemory) => not_done(Refusal::NoMemory),
+            Err(NoMemory) => {
+                drop(room);
+                not_done(Refusal::NoMemory)
+            }
         }
     }
 

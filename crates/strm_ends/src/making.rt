@@ -27,6 +27,7 @@ fn first(alloc: Global, pairs: u32, sizes: Config) -> Result<Box<Member, Global>
     let (host, opener) = host(alloc, pairs, sizes)?;
     let _ = host.systems();
     let Ok(host) = Arc::new(alloc, host) else {
+        drop(opener);
         return Err(Refusal::NoMemory);
     };
     let member = Member {
@@ -118,6 +119,7 @@ impl Member {
         };
         match self.host.split_opener(alloc, opener) {
             Err(back) => {
+                drop(second);
                 self.opener = Some(back);
                 not_done(Refusal::NoMemory)
             }

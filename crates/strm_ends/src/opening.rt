@@ -75,8 +75,14 @@ impl Member {
         let opened = self.host.at(system).try_open_slave(&NoBell, &mut end);
         self.hold = Hold::End { system, end };
         match opened {
-            Err(Busy) => Err(NotDone::Busy),
-            Ok(Err(why)) => not_done(why),
+            Err(Busy) => {
+                drop(second);
+                Err(NotDone::Busy)
+            }
+            Ok(Err(why)) => {
+                drop(second);
+                not_done(why)
+            }
             Ok(Ok(slave)) => {
                 second.as_mut().have(Hold::End { system, end: slave });
                 made.put(second);

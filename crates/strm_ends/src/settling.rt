@@ -19,7 +19,7 @@ use std::alloc::Global;
 use std::mem::replace;
 use strm_handle::{Books, refused};
 use strm_hosts::HostMinor;
-use strm_locks::{Busy, NoBell, PairEnd, Told};
+use strm_locks::{Busy, Closed, NoBell, PairEnd, Told};
 use strm_types::{Ledger, Refusal};
 
 // A ledger, as a C program is told it.
@@ -63,7 +63,8 @@ impl Member {
                 not_done(Refusal::StillShared)
             }
             Ok(Ok((closed, minor))) => {
-                let settled = closed.settled;
+                let Closed { settled, visit } = closed;
+                drop(visit);
                 *told = account(&settled.told, &settled.ms, &settled.sm);
                 self.hold = Hold::Minor(HostMinor { system, minor });
                 Ok(())
@@ -92,7 +93,10 @@ impl Member {
             return not_done(Refusal::Einval);
         };
         match self.host.at(*system).try_restart(&NoBell, end) {
-            Ok(_visit) => Ok(()),
+            Ok(visit) => {
+                drop(visit);
+                Ok(())
+            }
             Err(Busy) => Err(NotDone::Busy),
         }
     }

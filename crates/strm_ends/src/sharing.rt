@@ -170,6 +170,7 @@ impl Member {
                 Ok(())
             }
             Err(end) => {
+                drop(second);
                 self.hold = Hold::End { system, end };
                 not_done(Refusal::Erange)
             }
@@ -218,6 +219,7 @@ pub fn join(alloc: Global, handle: &mut Handle, other: &mut Handle) -> u32
     let joined = first.as_mut().join(second.as_mut());
     handle.put(first);
     if joined {
+        drop(second);
         return 0;
     }
     other.put(second);

@@ -102,6 +102,7 @@ impl Member {
         match system.try_turn(&NoBell, pair) {
             Ok(made) => {
                 *told = visit(made.made());
+                drop(made);
                 Ok(())
             }
             Err(Busy) => Err(NotDone::Busy),
@@ -120,7 +121,8 @@ impl Member {
         };
         let look = |object: &Object| prospect(object, side);
         match system.try_look(&NoBell, pair, look) {
-            Ok((_visit, seen)) => {
+            Ok((visit, seen)) => {
+                drop(visit);
                 *told = seen;
                 Ok(())
             }

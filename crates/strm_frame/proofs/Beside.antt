@@ -6,7 +6,7 @@ use Rattle.std.proofs.Math.ListN.{set}
 use Rattle.std.specs.List.{AllByRecursion, refill}
 use Rattle.std.proofs.lemmas.List.Sums.{sum_by-set}
 use Rattle.strm_frame.specs.Hands.{AreIn, Handles, SamePool, SameOwn, OnlyOwn}
-use Rattle.strm_frame.specs.Stacks.{all_of, AreHeld}
+use Rattle.strm_frame.specs.Stacks.{all_of, AreHeld, LieInOrder}
 use Rattle.strm_frame.specs.StackLaws.{each-frame}
 
 -- one has no more than all
@@ -49,16 +49,27 @@ set-each Q [] i y each new = tt
 set-each Q (z ∷ xs) zero y each new = (new, each.1)
 set-each Q (z ∷ xs) (suc i) y each new = (each.0, set-each Q xs i y each.1 new)
 
+-- one takes the place of another that counts as much of each
+pub set-same : {X : Type 0} (f : X → ℕ → ℕ) (xs : List X) (i : ℕ) (x d y : X) → i < length xs → x ≡ get_or xs i d → ((k : ℕ) → f y k ≡ f x k) → (k : ℕ) → all_of f (set xs i y) k ≡ all_of f xs k
+set-same f xs i x d y within is same k = let a = sum_by-set (λ w. f w k) xs i y d within in let e = ap (λ w. f w k) is in let g = same k in omega arith
+
+-- and so their lists come in the same order
+set-order : {X : Type 0} (owns : X → ℕ → ℕ) (xs : List X) (i : ℕ) (x d y : X) → i < length xs → x ≡ get_or xs i d → ((k : ℕ) → owns y k ≡ owns x k) → LieInOrder owns xs → LieInOrder owns (set xs i y)
+set-order owns [] i x d y within is same order = tt
+set-order owns (z ∷ xs) zero x d y within is same order =
+    (λ j k below own. order.0 j k below (let e = ap (λ w. owns w k) is in let g = same k in omega arith), order.1)
+set-order owns (z ∷ xs) (suc i) x d y within is same order = (
+  λ j k below own. order.0 j k (let e = set-same owns xs i x d y (omega arith) is same j in omega arith) own,
+  set-order owns xs i x d y (omega arith) is same order.1,
+)
+
 pub change-held : {X : Type 0} (IsHeld : StoreValue → X → Type 0) (owns : X → ℕ → ℕ) (s : StoreValue) (xs : List X) (i : ℕ) (x d y : X) → i < length xs → x ≡ get_or xs i d →
     ((k : ℕ) → owns y k ≡ owns x k) → AreHeld IsHeld owns s xs → IsHeld s y → AreHeld IsHeld owns s (set xs i y)
 change-held IsHeld owns s xs i x d y within is same held new = record {
   each = set-each (IsHeld s) xs i y held.each new;
   apart = λ j. let a = held.apart j in let e = sum_by-set (λ w. owns w j) xs i y d within in let f = ap (λ w. owns w j) is in let g = same j in omega arith;
+  order = set-order owns xs i x d y within is same held.order;
 }
-
--- one takes the place of another that counts as much of each
-pub set-same : {X : Type 0} (f : X → ℕ → ℕ) (xs : List X) (i : ℕ) (x d y : X) → i < length xs → x ≡ get_or xs i d → ((k : ℕ) → f y k ≡ f x k) → (k : ℕ) → all_of f (set xs i y) k ≡ all_of f xs k
-set-same f xs i x d y within is same k = let a = sum_by-set (λ w. f w k) xs i y d within in let e = ap (λ w. f w k) is in let g = same k in omega arith
 
 -- nothing is in hand, and one that clears its queues keeps nothing
 pub rest-in : (s : StoreValue) (keeps : ℕ → ℕ) → ((i : ℕ) → keeps i ≡ 0) → AreIn s (λ _. 0) keeps
@@ -133,6 +144,7 @@ module _ {X P : Type 0} (plain : StoreValue → X → P) (IsHeld : StoreValue �
     row-held = record {
       each = (set-plain xs i within is held.apart can.apart held.each new).1;
       apart = λ j. let a = held.apart j in let e = sum_by-set (λ w. owns w j) xs i y d within in let f = ap (λ w. owns w j) is in let g = own.owns_same j in omega arith;
+      order = set-order owns xs i x d y within is own.owns_same held.order;
     }
 
     pub row-hands : Handles s t gone (all_of keeps xs) (all_of keeps (set xs i y)) sent

@@ -4,7 +4,7 @@ use Rattle.strm_frame.proofs.Prelude.{cases_eq, nat_tests, sum_by-cons}
 use Rattle.strm_frame.specs.Prelude.{Block, StoreValue, IsStore, IsInHand, in_hand, dropped, times_in, token, Parcel, IsChain, beyond, cost_of, most}
 use Rattle.strm_frame.specs.Prelude.{At, FreesBlocks}
 use Rattle.std.proofs.Common.{◌≢◌, eqb}
-use Rattle.strm_blocks.specs.Blocks.{Held, without, names_of}
+use Rattle.strm_blocks.specs.Blocks.{Held, held, without, names_of}
 use Rattle.strm_blocks.proofs.Laws.{in_hand-dropped, total-dropped, used-is, free_m-is, free_d-more, references-is}
 use Rattle.strm_msg.proofs.Hands.{other-name}
 use Rattle.strm_frame.specs.declared.parcels.Sent.{Sent}
@@ -24,9 +24,27 @@ once-self i = ap (λ v. cond {A = ℕ} v 1 0) (same-name i)
 pub once-apart : (i j : ℕ) → once i j ≡ 0 → i ≢ j
 once-apart i j none = λ e. (let t = ap (once i) (sym e) in let u = once-self i in absurd (omega arith))
 
+pub once-none : (i j : ℕ) → i ≢ j → once i j ≡ 0
+unfolding once
+once-none i j ne = ap (λ v. cond {A = ℕ} v 1 0) (other-name i j ne)
+
 -- what is put is in hand
 pub can-in_hand : (s : StoreValue) (i : ℕ) (keeps : ℕ → ℕ) → IsStore s → CanPut s i keeps → IsInHand s i
 can-in_hand s i keeps st can = let a = can.apart i in let o = once-self i in let few = st.apart i in omega arith
+
+-- and what is in hand may be put where nothing is kept
+pub can-of : (s : StoreValue) (i : ℕ) → IsInHand s i → CanPut s i (λ _. 0)
+can-of s i is = record {
+  apart = λ j. elim (cases_eq i j) [
+    | inl e ↦ (let t = ap (λ k. times_in k s.hand) e in let o = ap (λ k. once i k) e in let u = once-self i in omega arith)
+    | inr ne ↦ (let o = once-none i j ne in omega arith)
+  ];
+}
+
+-- a message that came
+pub times-held : (s : StoreValue) (i : ℕ) (chain : List Block) (j : ℕ) → times_in j (held s i chain).hand ≡ once i j + times_in j s.hand
+unfolding once
+times-held s i chain j = sum_by-cons (λ (h : Held). cond (eqb h.name j) 1 0) (record { name = i; chain = chain }) s.hand
 
 -- the message that is freed goes, and no other
 times-without : (i j : ℕ) (hand : List Held) → 0 < times_in i hand → times_in j (without i hand) + once i j ≡ times_in j hand

@@ -14,5 +14,6 @@ pub mod Asked
 pub mod Seeking
 mod Staying
 pub mod Pairs
-mod Letting
+pub mod Letting
 pub mod Flags
+mod Queued

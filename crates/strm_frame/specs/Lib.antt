@@ -4,6 +4,9 @@ pub mod Hands
 pub mod Serves
 pub mod Standings
 pub mod Stacks
+pub mod Queued
 pub mod StandingLaws
 pub mod StackLaws
 pub mod Does
+pub mod MayEnable
+pub mod NoOwn

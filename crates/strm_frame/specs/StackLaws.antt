@@ -31,4 +31,4 @@ module _ {X P : Type 0} (plain : StoreValue → X → P) (IsHeld : StoreValue �
   -- and all together
   pub stack-stays : (s t : StoreValue) (xs : List X) → SameOwn s t (all_of owns xs) (all_of keeps xs) → AreHeld IsHeld owns s xs →
       (map (plain t) xs ≡ map (plain s) xs) × AreHeld IsHeld owns t xs
-  stack-stays s t xs same held = let r = each-frame s t xs same held.each in (r.0, record { each = r.1; apart = held.apart })
+  stack-stays s t xs same held = let r = each-frame s t xs same held.each in (r.0, record { each = r.1; apart = held.apart; order = held.order })

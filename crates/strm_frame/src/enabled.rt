@@ -1,18 +1,20 @@
 //! The list of enabled queues.
 
-ghost use Rattle.std.specs.Prelude.{◌≡◌, ◌≤◌, [], length};
+ghost use Rattle.std.specs.Prelude.{◌≡◌, ◌≤◌, true, [], length, IfSome};
 ghost use Rattle.std.specs.Bool.{OnTrue};
 ghost use Rattle.strm_types.specs.Names.{AreQueues, is_enabled, enable, enable_if, enable_found, without};
 ghost use Rattle.strm_types.specs.Modules.{without_module};
+ghost use Rattle.strm_frame.specs.MayEnable.{MayEnable};
 
 use arrayvec::ArrayVec;
 use std::marker::Model;
 use strm_types::{ModuleName, Place, QueueName, Side, Way};
 
-/// The enabled queues, in order of enabling, each once, and none of a place without queues. Contracts see their names as a list.
+/// The enabled queues, in order of enabling, each once, and none of a place without queues: 14 at most, as two of a driver, and two of each of three
+/// modules on either side. Contracts see their names as a list.
 #[derive(Drop)]
 pub struct Enabled {
-    names: ArrayVec<QueueName, 12>,
+    names: ArrayVec<QueueName, 14>,
 }
 
 impl Model for Enabled {
@@ -52,7 +54,7 @@ impl Enabled {
     /// The names, in order of enabling.
     pub fn as_slice(&self) -> &[QueueName]
         ensures names { result.now ≡ self.now }
-        ensures few { length result.now ≤ 12 }
+        ensures few { length result.now ≤ 14 }
         ensures queues { AreQueues result.now }
     {
         self.names.as_slice()
@@ -69,9 +71,11 @@ impl Enabled {
         }
     }
 
-    /// Enables a queue, behind all others, unless it is enabled. A place without queues has none that could be.
+    /// Enables a queue, behind all others, unless it is enabled: `qenable(9F)`. A place without queues has none that could be. There is room for
+    /// 14.
     #[inline(always)]
     pub fn enable(&mut self, name: QueueName)
+        requires room { MayEnable self.old name }
         ensures { self.new ≡ enable name self.old }
     {
         if name.place.has_queues() && !self.contains(name) {
@@ -82,6 +86,7 @@ impl Enabled {
     /// Enables a queue, if there is one.
     #[inline(always)]
     pub fn enable_found(&mut self, name: Option<QueueName>)
+        requires room { IfSome name (MayEnable self.old) }
         ensures { self.new ≡ enable_found name self.old }
     {
         if let Some(name) = name {
@@ -92,6 +97,7 @@ impl Enabled {
     /// Enables a queue on a condition.
     #[inline(always)]
     pub fn enable_if(&mut self, condition: bool, name: QueueName)
+        requires room { condition ≡ true → MayEnable self.old name }
         ensures { self.new ≡ enable_if condition name self.old }
     {
         if condition {

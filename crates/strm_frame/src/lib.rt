@@ -3,8 +3,10 @@
 
 mod carrying;
 mod enabled;
+pub mod flushes;
 pub mod ioctls;
 mod modules;
+mod notes;
 mod parcels;
 mod places;
 mod popping;
@@ -18,11 +20,12 @@ mod standing;
 
 pub use carrying::{deliver, deliver_all};
 pub use enabled::Enabled;
-pub use modules::{Acts, LetGo, Module, PutProcedure};
+pub use modules::{Acts, LetGo, Module, Procedures};
+pub use notes::{note_if, rooms};
 pub use parcels::{Outbox, Sent};
 pub use places::Stations;
 pub use queue_pair::{QueuePair, Tables, direction_at};
-pub use queues::{Emptied, clear_queue, end_queue_turn};
+pub use queues::{Emptied, clear_queue, end_queue_turn, flush_queue};
 pub use service::{Served, TurnEnd};
 pub use stack::Stack;
 pub use standing::Standing;

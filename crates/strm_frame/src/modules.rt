@@ -11,7 +11,7 @@ ghost use Rattle.strm_types.specs.declared.keys.TheConstants.{LINE_MAX};
 ghost use Rattle.strm_types.specs.declared.limits.TheConstants.{MODULES};
 ghost use Rattle.strm_types.specs.Budgets.{Table, Within, emits_at, own_at};
 ghost use Rattle.strm_types.specs.Deliver.{Acted};
-ghost use Rattle.strm_types.specs.Owns.{Own};
+ghost use Rattle.strm_types.specs.OwnStands.{OwnActs};
 ghost use Rattle.strm_types.specs.Shapes.{shape_of};
 ghost use Rattle.strm_types.specs.Service.{Serving};
 ghost use Rattle.strm_types.specs.Standings.{Standing, messages_at, of_part};
@@ -79,19 +79,19 @@ pub trait Module: Drop {
     ghost keeps: { Self → ℕ → ℕ };
 
     /// What a message does that is put here, by what is done at modules of a user's own, where it is one of these.
-    ghost puts: { (Spot → Message ℕ → Own → Acted ℕ Own) → Spot → Message ℕ → Standing Plain ℕ → Acted ℕ (Standing Plain ℕ) };
+    ghost puts: { OwnActs ℕ → Spot → Message ℕ → Standing Plain ℕ → Acted ℕ (Standing Plain ℕ) };
 
     /// Its unfinished line of input, and the same module without it.
     ghost line_of: { Plain → List ℕ };
 
     ghost without_line: { Plain → Plain };
 
-    /// What the first message of its queue of a way asks before it goes on.
-    ghost asks: { Way → Standing Plain ℕ → Asks };
+    /// What the first message of its queue of a way asks before it goes on, by the same.
+    ghost asks: { OwnActs ℕ → Way → Standing Plain ℕ → Asks };
 
-    /// What a call of its service procedure does: the first one of a turn (false), and one more in the same turn (true). Where
-    /// it stops for want of blocks, `Some` says at how many bytes. With `None` it goes as far as it may.
-    ghost serves: { Spot → Bool → Option ℕ → Standing Plain ℕ → Serving ℕ (Standing Plain ℕ) };
+    /// What a call of its service procedure does, by the same: the first one of a turn (false), and one more in the same turn (true).
+    /// Where it stops for want of blocks, `Some` says at how many bytes. With `None` it goes as far as it may.
+    ghost serves: { OwnActs ℕ → Spot → Bool → Option ℕ → Standing Plain ℕ → Serving ℕ (Standing Plain ℕ) };
 
     /// Whether its service procedure may be called for its queue of a way: the first time in a turn (false), when nothing of a
     /// turn is under way there, or once more in it (true).
@@ -115,36 +115,6 @@ pub trait Module: Drop {
     /// Its name.
     fn name(&self) -> ModuleName
         ensures { (s : StoreValue) → result ≡ name_of (plain s self.now) };
-
-    /// What the first message of its queue of a way asks before it goes on. A message has no more bytes than all blocks of a
-    /// store.
-    fn asks<B: Blocks>(&self, queues: &Option<QueuePair>, store: &B, way: Way) -> Asks
-        requires held { Fits IsHeld (B.value store.now) (standing self.now queues.now) }
-        ensures asks { result ≡ asks way (standing_in plain (B.value store.now) (standing self.now queues.now)) }
-        ensures few { first_size (messages_at way (standing_in plain (B.value store.now) (standing self.now queues.now))) ≤ 16777216 };
-
-    /// Treats the first message of its queue of a way: `srv(9E)`. `again` is for one more call in the same turn, once all
-    /// is delivered that the last one sent. It is called so only where the last call asked for that, and for the first time in a
-    /// turn only where nothing of a turn is under way. It may stop within the message only where fewer than `STOP_BLOCKS` blocks of
-    /// some kind are left.
-    fn serve<B: Blocks>(
-        &mut self,
-        queues: &mut Option<QueuePair>,
-        store: &mut B,
-        here: Spot,
-        again: bool,
-        told: &mut Fates,
-    ) -> Served
-        requires held { Fits IsHeld (B.value store.old) (standing self.old queues.old) }
-        requires turn { MayServe here.way again (plain (B.value store.old) self.old) }
-        requires kept { AreIn (B.value store.old) (λ _. 0) (keeps self.old) }
-        requires room { HasRoom (B.value store.old) (turn_cost here again (plain (B.value store.old) self.old)) }
-        requires inside { 0 < here.at }
-        requires small { here.at ≤ MODULES }
-        ensures { let s = B.value store.old in let x = standing self.old queues.old in
-            Serves (standing_in plain) (Fits IsHeld) owns (keeps_of keeps) (of_part (turn_cost here true)) (MayStop here.way again) s
-            (B.value store.new)
-            x (standing self.new queues.new) result told.old told.new (serves here again (stop_of result) (standing_in plain s x)) };
 
     /// How many bytes stand in its unfinished line, at most 255.
     fn line_len(&self) -> usize
@@ -173,21 +143,19 @@ pub trait Module: Drop {
     /// Where a turn of one of its queues may begin, one of the other may.
     ghost either_way: { (way way' : Way) (p : Plain) → MayServe way false p → MayServe way' false p };
 
-    /// Behind a call it may be called once more where it asks for that, and else a turn may begin.
-    ghost turn_goes: { (here : Spot) (again : Bool) (stop : Option ℕ) (x : Standing Plain ℕ) → MayServe here.way again x.part →
-        let t = serves here again stop x in MayServe here.way t.again t.acted.state.part };
-
-    /// So it may without its unfinished line.
+    /// Where it may be called it may without its unfinished line.
     ghost line_stays: { (p : Plain) (way : Way) (again : Bool) → MayServe way again p →
         MayServe way again (without_line p) };
 }
 
-/// The put procedure of a module: `put(9E)`. What is done at modules of a user's own `W` says; that of most kinds is for `()`.
-pub trait PutProcedure<W>: Module {
+/// The put and the service procedure of a module: `put(9E)`, `srv(9E)`; `qinit(9S)`: qi_putp, qi_srvp. What is done at modules of a user's own `W`
+/// says; that of most kinds is for `()`.
+pub trait Procedures<W>: Module {
     /// What is done at modules of a user's own.
-    ghost by: { Spot → Message ℕ → Own → Acted ℕ Own };
+    ghost by: { OwnActs ℕ };
 
-    /// Whether a put may free blocks and take as many anew: then it counts on a store with as many data blocks as message blocks.
+    /// Whether a put or a call of the service procedure may free blocks and take as many anew: then it counts on a store with as many data
+    /// blocks as message blocks.
     ghost wide: { Bool };
 
     /// Puts a message in hand here, on its way up or down, and says what it does: `put(9E)`. Where it holds what it is given an
@@ -213,6 +181,37 @@ pub trait PutProcedure<W>: Module {
             Puts (standing_in Self.plain) (Fits Self.IsHeld) owns (keeps_of Self.keeps) s (B.value store.new) x (standing self.new queues.new)
             (Self.holds p) (token message) (own_at (Self.does p) here m) result told.old told.new (Self.puts Self.by here m (standing_in Self.plain s x)) };
 
+    /// What the first message of its queue of a way asks before it goes on. A message has no more bytes than all blocks of a
+    /// store.
+    fn asks<B: Blocks>(&self, queues: &Option<QueuePair>, store: &B, way: Way) -> Asks
+        requires held { Fits Self.IsHeld (B.value store.now) (standing self.now queues.now) }
+        ensures asks { result ≡ Self.asks Self.by way (standing_in Self.plain (B.value store.now) (standing self.now queues.now)) }
+        ensures few { first_size (messages_at way (standing_in Self.plain (B.value store.now) (standing self.now queues.now))) ≤ 16777216 };
+
+    /// Treats the first message of its queue of a way: `srv(9E)`. `again` is for one more call in the same turn, once all
+    /// is delivered that the last one sent. It is called so only where the last call asked for that, and for the first time in a
+    /// turn only where nothing of a turn is under way. It may stop within the message only where fewer than `STOP_BLOCKS` blocks of
+    /// some kind are left.
+    fn serve<B: Blocks>(
+        &mut self,
+        queues: &mut Option<QueuePair>,
+        store: &mut B,
+        here: Spot,
+        again: bool,
+        told: &mut Fates,
+    ) -> Served
+        requires held { Fits Self.IsHeld (B.value store.old) (standing self.old queues.old) }
+        requires turn { Self.MayServe here.way again (Self.plain (B.value store.old) self.old) }
+        requires kept { AreIn (B.value store.old) (λ _. 0) (Self.keeps self.old) }
+        requires room { HasRoom (B.value store.old) (Self.turn_cost here again (Self.plain (B.value store.old) self.old)) }
+        requires wide { IsWide Self.wide (B.value store.old) }
+        requires inside { 0 < here.at }
+        requires small { here.at ≤ MODULES }
+        ensures { let s = B.value store.old in let x = standing self.old queues.old in
+            Serves (standing_in Self.plain) (Fits Self.IsHeld) owns (keeps_of Self.keeps) (of_part (Self.turn_cost here true))
+            (Self.MayStop here.way again) s (B.value store.new)
+            x (standing self.new queues.new) result told.old told.new (Self.serves Self.by here again (stop_of result) (standing_in Self.plain s x)) };
+
     /// What a put sends on is within its table.
     ghost within: { (here : Spot) (m : Message ℕ) (x : Standing Self.Plain ℕ) →
         Within (Self.puts Self.by here m x).sent (emits_at here (Self.does x.part here.way (shape_of m))) };
@@ -220,4 +219,8 @@ pub trait PutProcedure<W>: Module {
     /// It may be served as before behind a put, as where a message comes back to it between two calls.
     ghost put_stays: { (here : Spot) (m : Message ℕ) (x : Standing Self.Plain ℕ) (way : Way) (again : Bool) →
         Self.MayServe way again x.part → Self.MayServe way again (Self.puts Self.by here m x).state.part };
+
+    /// Behind a call it may be called once more where it asks for that, and else a turn may begin.
+    ghost turn_goes: { (here : Spot) (again : Bool) (stop : Option ℕ) (x : Standing Self.Plain ℕ) → Self.MayServe here.way again x.part →
+        let t = Self.serves Self.by here again stop x in Self.MayServe here.way t.again t.acted.state.part };
 }

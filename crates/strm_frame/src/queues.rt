@@ -3,8 +3,10 @@
 
 ghost use Rattle.std.specs.Prelude.{◌≡◌, not, length};
 ghost use Rattle.strm_types.specs.Dropped.{has_ioctl, is_ioctl_of, is_met};
-ghost use Rattle.strm_types.specs.Emptied.{of_all, cells_gone, emptied, queue_behind, writer_goes};
+ghost use Rattle.strm_types.specs.Deliver.{Goes, counted_with};
+ghost use Rattle.strm_types.specs.Emptied.{of_all, of_data, cells_gone, emptied, queue_behind, writer_goes};
 ghost use Rattle.strm_types.specs.Rules.{told_more};
+ghost use Rattle.strm_types.specs.declared.rules.Rule.TheVariants.{Flushed};
 ghost use Rattle.strm_types.specs.Service.{turn_ended, turn_relieves};
 ghost use Rattle.strm_types.specs.Queue.{is_none_left};
 ghost use Rattle.strm_blocks.specs.Blocks.{IsInHand, in_hand, token};
@@ -18,7 +20,7 @@ use strm_blocks::{Blocks, InHand};
 use strm_queue::Queue;
 use strm_queue::emptying::{Chosen, empty, going};
 use strm_queue::standing::{dequeue, relieve, total};
-use strm_types::{Dir, Fates, Rule};
+use strm_types::{Band, Dir, Fates, Rule};
 
 /// Ends a turn of a queue: it wants to be read where nothing stands there, and where the turn took bytes its waiting writers
 /// are let go.
@@ -134,4 +136,26 @@ pub fn clear_queue<B: Blocks>(
             met: false,
         },
     }
+}
+
+/// Takes from a queue what a flush takes, of one band or of all, and says whether that lets a waiting writer go. Its bytes of a direction are
+/// told as flushed.
+pub fn flush_queue<B: Blocks>(
+    store: &mut B,
+    queue: &mut Queue,
+    direction: Dir,
+    band: Option<Band>,
+    told: &mut Fates,
+) -> bool
+    requires ready { IsReady (B.value store.old) queue.old }
+    ensures queue { queue_in (B.value store.new) queue.new ≡ queue_behind (of_data band) (queue_in (B.value store.old) queue.old) }
+    ensures went { result ≡ writer_goes (of_data band) (queue_in (B.value store.old) queue.old) }
+    ensures told { told.new ≡ counted_with
+        (Goes direction Flushed (cells_gone (of_data band) (messages_on (B.value store.old) queue.old.list))) told.old }
+    ensures changes { Changes (B.value store.old) (B.value store.new) queue.old queue.new }
+    ensures frees { FreesBlocks (B.value store.old) (B.value store.new) }
+{
+    let chosen = Chosen::of_data(band);
+    told.tell(direction, Rule::Flushed, going(store, queue, chosen));
+    empty(store, queue, chosen)
 }

@@ -12,11 +12,11 @@ ghost use Rattle.strm_types.specs.Service.{turn_ended, end_relieves, has_more};
 ghost use Rattle.strm_types.specs.Queue.{first_size};
 ghost use Rattle.strm_frame.specs.Does.{EndsTurn, Serves};
 ghost use Rattle.strm_frame.specs.Standings.{Fits, keeps_of, owns, standing_in};
-ghost use Rattle.strm_frame.specs.Hands.{AreIn, HasRoom};
+ghost use Rattle.strm_frame.specs.Hands.{AreIn, HasRoom, IsWide};
 ghost use Rattle.strm_frame.specs.Serves.{served_among, stop_of};
 ghost use Rattle.strm_frame.specs.Stacks.{all_in, all_of, AreHeld};
 
-use crate::modules::Module;
+use crate::modules::{Module, Procedures};
 use crate::service::{Served, TurnEnd};
 use crate::stack::Stack;
 use crate::standing::Standing;
@@ -24,14 +24,19 @@ use strm_blocks::Blocks;
 use strm_types::{Asks, Fates, Spot, Way};
 
 // What the first message asks, of one of several modules, counted from 0.
-fn asks_among<B: Blocks, M: Module>(store: &B, modules: &[Standing<M>], at: usize, way: Way) -> Asks
+fn asks_among<W, B: Blocks, M: Procedures<W>>(
+    store: &B,
+    modules: &[Standing<M>],
+    at: usize,
+    way: Way,
+) -> Asks
     requires within { at < length modules.now }
     requires held { AreHeld (Fits M.IsHeld) owns (B.value store.now) modules.now }
-    ensures asks { result ≡ slice_index_or (map (M.asks way) (map (standing_in M.plain (B.value store.now)) modules.now)) at Empty }
+    ensures asks { result ≡ slice_index_or (map (M.asks M.by way) (map (standing_in M.plain (B.value store.now)) modules.now)) at Empty }
     ensures few { slice_index_or (map (λ p. first_size (messages_at way p))
         (map (standing_in M.plain (B.value store.now)) modules.now)) at 0 ≤ 16777216 }
 {
-    modules[at].asks(store, way)
+    modules[at].asks::<W, B>(store, way)
 }
 
 // Ends a turn, of one of several modules, counted from 0.
@@ -55,7 +60,7 @@ fn end_turn_among<B: Blocks, M: Module>(
 }
 
 // Treats the first message, of one of several modules, counted from 0.
-fn serve_among<B: Blocks, M: Module>(
+fn serve_among<W, B: Blocks, M: Procedures<W>>(
     store: &mut B,
     modules: &mut [Standing<M>],
     at: usize,
@@ -69,6 +74,7 @@ fn serve_among<B: Blocks, M: Module>(
     requires kept { AreIn (B.value store.old) (λ _. 0) (all_of (keeps_of M.keeps) modules.old) }
     requires room { HasRoom (B.value store.old) (slice_index_or (map (of_part (M.turn_cost here again))
         (map (standing_in M.plain (B.value store.old)) modules.old)) at 0) }
+    requires wide { IsWide M.wide (B.value store.old) }
     requires inside { 0 < here.at }
     requires small { here.at ≤ MODULES }
     ensures length { length modules.new ≡ length modules.old }
@@ -76,37 +82,41 @@ fn serve_among<B: Blocks, M: Module>(
         Serves (all_in (standing_in M.plain)) (AreHeld (Fits M.IsHeld) owns) (all_of owns) (all_of (keeps_of M.keeps))
         (λ ps. slice_index_or (map (of_part (M.turn_cost here true)) ps) at 0) (λ bytes ps. HoldsAt (M.MayStop here.way again bytes) ps at)
         s (B.value store.new) modules.old modules.new result told.old told.new
-        (served_among (M.serves here again (stop_of result)) at (all_in (standing_in M.plain) s modules.old)) }
+        (served_among (M.serves M.by here again (stop_of result)) at (all_in (standing_in M.plain) s modules.old)) }
 {
     store.audit();
-    modules[at].serve(store, here, again, told)
+    modules[at].serve::<W, B>(store, here, again, told)
 }
 
 impl<M: Module + Default> Stack<M> {
     /// What the first message asks of a module's queue of a way, at a place.
-    pub fn asks<B: Blocks>(&self, store: &B, place: usize, way: Way) -> Asks
+    pub fn asks<W, B: Blocks>(&self, store: &B, place: usize, way: Way) -> Asks
+    where
+        M: Procedures<W>,
         requires inside { 0 < place }
         requires within { place ≤ length self.now.modules.items }
         requires held { AreHeld (Fits M.IsHeld) owns (B.value store.now) self.now.modules.items }
-        ensures asks { result ≡ at_place (M.asks way) Empty place
+        ensures asks { result ≡ at_place (M.asks M.by way) Empty place
             (map (standing_in M.plain (B.value store.now)) self.now.modules.items) }
         ensures few { at_place (λ p. first_size (messages_at way p)) 0 place
             (map (standing_in M.plain (B.value store.now)) self.now.modules.items) ≤ 16777216 }
     {
-        asks_among(store, self.modules.as_slice(), place - 1, way)
+        asks_among::<W, B, M>(store, self.modules.as_slice(), place - 1, way)
     }
 
     /// Calls the service procedure of a module's queue, at a place: `srv(9E)`. `again` is for one more call in the same turn,
     /// once all is delivered that the last one sent. It is called so only where the last call asked for that, and for the first
     /// time in a turn only where nothing of a turn is under way in the module. It may stop within its message only where fewer
     /// than `STOP_BLOCKS` blocks of some kind are left.
-    pub fn serve<B: Blocks>(
+    pub fn serve<W, B: Blocks>(
         &mut self,
         store: &mut B,
         here: Spot,
         again: bool,
         told: &mut Fates,
     ) -> Served
+    where
+        M: Procedures<W>,
         requires inside { 0 < here.at }
         requires within { here.at ≤ length self.old.modules.items }
         requires held { AreHeld (Fits M.IsHeld) owns (B.value store.old) self.old.modules.items }
@@ -115,14 +125,15 @@ impl<M: Module + Default> Stack<M> {
         requires kept { AreIn (B.value store.old) (λ _. 0) (all_of (keeps_of M.keeps) self.old.modules.items) }
         requires room { HasRoom (B.value store.old) (at_place (of_part (M.turn_cost here again)) 0 here.at
             (map (standing_in M.plain (B.value store.old)) self.old.modules.items)) }
+        requires wide { IsWide M.wide (B.value store.old) }
         ensures length { length self.new.modules.items ≡ length self.old.modules.items }
         ensures does { let s = B.value store.old in let xs = self.old.modules.items in
             Serves (all_in (standing_in M.plain)) (AreHeld (Fits M.IsHeld) owns) (all_of owns) (all_of (keeps_of M.keeps))
             (at_place (of_part (M.turn_cost here true)) 0 here.at) (λ bytes ps. HoldsAt (M.MayStop here.way again bytes) ps (here.at - 1))
             s (B.value store.new) xs self.new.modules.items result told.old told.new
-            (served_among (M.serves here again (stop_of result)) (here.at - 1) (all_in (standing_in M.plain) s xs)) }
+            (served_among (M.serves M.by here again (stop_of result)) (here.at - 1) (all_in (standing_in M.plain) s xs)) }
     {
-        serve_among(
+        serve_among::<W, B, M>(
             store,
             self.modules.as_mut_slice(),
             here.at as usize - 1,

@@ -15,7 +15,7 @@ ghost use Rattle.strm_types.specs.ModuleQueues.{at_place};
 ghost use Rattle.strm_frame.specs.Outboxes.{message_in};
 ghost use Rattle.strm_frame.specs.Hands.{CanPut, HasRoom, IsWide};
 
-use crate::modules::{Acts, Module, PutProcedure};
+use crate::modules::{Acts, Module, Procedures};
 use crate::standing::Standing;
 use arrayvec::ArrayVec;
 use strm_blocks::{Blocks, InHand};
@@ -50,7 +50,7 @@ fn line_lens<M: Module>(modules: &[Standing<M>]) -> usize
 }
 
 // Puts a message at one of several modules, counted from 0.
-fn put_among<W, B: Blocks, M: PutProcedure<W>>(
+fn put_among<W, B: Blocks, M: Procedures<W>>(
     store: &mut B,
     modules: &mut [Standing<M>],
     at: usize,
@@ -146,7 +146,7 @@ impl<M: Module + Default> Stack<M> {
         told: &mut Fates,
     ) -> Acts
     where
-        M: PutProcedure<W>,
+        M: Procedures<W>,
         requires inside { 0 < to.at }
         requires within { to.at ≤ length self.old.modules.items }
         requires held { AreHeld (Fits M.IsHeld) owns (B.value store.old) self.old.modules.items }

@@ -1,10 +1,9 @@
 //! A module where it stands on a stream, with the queues that the stream gives it, where it has queues (STREAMS Programming Guide,
 //! "Modules"). What is asked of its queues, and done with them, is said here once for all modules.
 
-ghost use Rattle.std.specs.Prelude.{ℕ, ◌≡◌, ◌<◌, ◌≤◌, ◌++◌, if◌then◌else◌, true, List, [], ◌∷◌, length, IfSome};
+ghost use Rattle.std.specs.Prelude.{ℕ, ◌≡◌, ◌<◌, ◌≤◌, true, List, length, IfSome};
 ghost use Rattle.strm_types.specs.declared.limits.TheConstants.{MODULES};
 ghost use Rattle.strm_types.specs.declared.names.Way.TheVariants.{Up, Down};
-ghost use Rattle.strm_types.specs.declared.spots.Note.TheVariants.{Room};
 ghost use Rattle.strm_types.specs.Budgets.{own_at};
 ghost use Rattle.strm_types.specs.Deliver.{tallied};
 ghost use Rattle.strm_types.specs.ModuleQueues.{full_at, waits};
@@ -20,14 +19,14 @@ ghost use Rattle.strm_frame.specs.Outboxes.{message_in};
 ghost use Rattle.strm_frame.specs.Serves.{stop_of};
 ghost use Rattle.strm_frame.specs.Standings.{Fits, IsPairReady, keeps_of, owns, standing_in};
 
-use crate::modules::{Acts, LetGo, Module, PutProcedure};
+use crate::modules::{Acts, LetGo, Module, Procedures};
+use crate::notes::rooms;
 use crate::queue_pair::{QueuePair, direction_at};
 use crate::queues::Emptied;
 use crate::service::{Served, TurnEnd};
-use arrayvec::ArrayVec;
 use strm_blocks::{Blocks, InHand};
 use strm_queue::{lengths, standing};
-use strm_types::{Asks, Band, Fates, Note, Rule, Side, Spot, Way};
+use strm_types::{Asks, Band, Fates, Rule, Side, Spot, Way};
 
 /// A module and its queues.
 #[derive(Drop)]
@@ -48,20 +47,6 @@ impl<M: Module + Default> Default for Standing<M> {
             queues: None,
         }
     }
-}
-
-// Which queues have room again, for those before them.
-fn rooms(up: bool, down: bool) -> ArrayVec<Note, 4>
-    ensures { result.items ≡ (if up then Room Up ∷ [] else []) ++ (if down then Room Down ∷ [] else []) }
-{
-    let mut notes = ArrayVec::new();
-    if up {
-        notes.push(Note::Room(Way::Up));
-    }
-    if down {
-        notes.push(Note::Room(Way::Down));
-    }
-    notes
 }
 
 // The cells of an unfinished line go by a rule. They came up; where there are none, nothing is told.
@@ -179,7 +164,7 @@ impl<M: Module> Standing<M> {
         told: &mut Fates,
     ) -> Acts
     where
-        M: PutProcedure<W>,
+        M: Procedures<W>,
         requires held { Fits M.IsHeld (B.value store.old) self.old }
         requires can_put { CanPut (B.value store.old) (token message) (keeps_of M.keeps self.old) }
         requires chain { IsChain (in_hand (B.value store.old) (token message)) }
@@ -197,31 +182,37 @@ impl<M: Module> Standing<M> {
     }
 
     /// What the first message of its queue of a way asks before it goes on; nothing stands there without queues.
-    pub fn asks<B: Blocks>(&self, store: &B, way: Way) -> Asks
+    pub fn asks<W, B: Blocks>(&self, store: &B, way: Way) -> Asks
+    where
+        M: Procedures<W>,
         requires held { Fits M.IsHeld (B.value store.now) self.now }
-        ensures asks { result ≡ M.asks way (standing_in M.plain (B.value store.now) self.now) }
+        ensures asks { result ≡ M.asks M.by way (standing_in M.plain (B.value store.now) self.now) }
         ensures few { first_size (messages_at way (standing_in M.plain (B.value store.now) self.now)) ≤ 16777216 }
     {
         self.module.asks(&self.queues, store, way)
     }
 
     /// Calls the service procedure of its queue of a way: `srv(9E)`.
-    pub fn serve<B: Blocks>(
+    pub fn serve<W, B: Blocks>(
         &mut self,
         store: &mut B,
         here: Spot,
         again: bool,
         told: &mut Fates,
     ) -> Served
+    where
+        M: Procedures<W>,
         requires held { Fits M.IsHeld (B.value store.old) self.old }
         requires turn { M.MayServe here.way again (M.plain (B.value store.old) self.old.module) }
         requires kept { AreIn (B.value store.old) (λ _. 0) (keeps_of M.keeps self.old) }
         requires room { HasRoom (B.value store.old) (M.turn_cost here again (M.plain (B.value store.old) self.old.module)) }
+        requires wide { IsWide M.wide (B.value store.old) }
         requires inside { 0 < here.at }
         requires small { here.at ≤ MODULES }
         ensures { let s = B.value store.old in
             Serves (standing_in M.plain) (Fits M.IsHeld) owns (keeps_of M.keeps) (of_part (M.turn_cost here true)) (M.MayStop here.way again)
-            s (B.value store.new) self.old self.new result told.old told.new (M.serves here again (stop_of result) (standing_in M.plain s self.old)) }
+            s (B.value store.new) self.old self.new result told.old told.new
+            (M.serves M.by here again (stop_of result) (standing_in M.plain s self.old)) }
     {
         self.module
             .serve(&mut self.queues, store, here, again, told)

@@ -9,6 +9,7 @@ pub mod Fits
 pub mod ImageRows
 pub mod NeverFull
 pub mod NoBytes
+pub mod Numbered
 pub mod Opens
 pub mod RestoreRefused
 pub mod RestoredWithin

@@ -1,5 +1,7 @@
 -- What the numbers of include/strm.h stand for: one that stands for nothing is None.
-use Rattle.std.specs.Prelude.{ℕ, ◌-◌, ◌==◌, nat_lt, nat_le, if◌then◌else◌, List, length, take, drop, Option, None, Some, option_map}
+use Rattle.std.specs.Prelude.{ℕ, ◌≡◌, ◌-◌, ◌==◌, nat_lt, nat_le, Bool, true, false, if◌then◌else◌, List, length, take, drop, Option, None, Some}
+use Rattle.std.specs.Prelude.{option_map}
+use Rattle.std.specs.List.{AllByRecursion}
 use Rattle.strm_types.specs.declared.answers.Turn.{Turn}
 use Rattle.strm_types.specs.declared.answers.Turn.TheVariants as turns
 use Rattle.strm_types.specs.declared.events.FlushQueues.{FlushQueues}
@@ -41,8 +43,16 @@ module_at n =
     if n == 1 then Some modules.Ldterm else (if n == 2 then Some modules.Ptem else (if n == 3 then Some modules.Pckt
     else (if nat_lt n 16 then None else own_at (n - 16))))
 
--- A queue of a place where queues stand: of the master 0 to 5, of the slave 6 to 11, from the head down, each place's read queue before its write
--- queue. Of modules ldterm alone has queues.
+-- the places whose queues calls take by a number: of modules ldterm's alone, as of those of a user's own none stands on a handle's pair
+abbrev pub has_number : Place → Bool
+has_number (Module modules.Ldterm) = true
+has_number (Module _) = false
+has_number _ = true
+
+abbrev pub AreNumbered : List QueueName → Type 0
+AreNumbered names = AllByRecursion (λ (name : QueueName). has_number name.place ≡ true) names
+
+-- A queue of such a place: of the master 0 to 5, of the slave 6 to 11, from the head down, each place's read queue before its write queue.
 abbrev queue_of : Side → Place → Way → Option QueueName
 queue_of side place way = Some (record { side = side; place = place; way = way })
 
@@ -63,8 +73,8 @@ queue_of_own n =
     else (if nat_lt n 1024 then queue_of Slave (Module (modules.Own (n - 768))) Up
     else (if nat_lt n 1280 then queue_of Slave (Module (modules.Own (n - 1024))) Down else None)))
 
--- What a number in an answer stands for. No call takes those from 16 on, which are of modules that have no queues: 16 to 19 of ptem, 20 to 23 of
--- pckt, and from 256 on of a user's own.
+-- What a number in an answer stands for. No call takes those from 16 on, which are of modules that have no queues or don't stand on a handle's pair:
+-- 16 to 19 of ptem, 20 to 23 of pckt, and from 256 on of a user's own.
 abbrev pub queue_told : ℕ → Option QueueName
 queue_told n =
     if nat_le 256 n then queue_of_own n

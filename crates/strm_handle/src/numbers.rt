@@ -1,7 +1,6 @@
 //! The numbers of `include/strm.h`, and what they stand for.
 
 ghost use Rattle.std.specs.Prelude.{◌≡◌, ◌<◌, ◌≤◌, Some, slice_get, true};
-ghost use Rattle.strm_types.specs.Names.{AreQueues, has_queues_at};
 ghost use Rattle.strm_handle.specs.Numbers as codes;
 
 use crate::replies::Went;
@@ -101,11 +100,11 @@ pub(crate) fn queue_of(number: u32) -> Option<QueueName>
     Some(QueueName { side, place, way })
 }
 
-/// The number of a queue: one that calls take, where queues stand at its place.
+/// The number of a queue: one that calls take, where it is a head's, a driver's or of `ldterm`.
 pub fn queue_number(name: QueueName) -> u32
     ensures name { codes.queue_told result ≡ Some name }
-    ensures taken { has_queues_at name.place ≡ true → codes.queue_at result ≡ Some name }
-    ensures few { has_queues_at name.place ≡ true → result < 12 }
+    ensures taken { codes.has_number name.place ≡ true → codes.queue_at result ≡ Some name }
+    ensures few { codes.has_number name.place ≡ true → result < 12 }
 {
     match (name.side, name.place, name.way) {
         (Side::Master, Place::Head, Way::Up) => 0,
@@ -141,7 +140,7 @@ pub fn queue_number(name: QueueName) -> u32
 
 /// The number of the queue at a place of a list, and `NO_QUEUE` behind the last one.
 pub fn number_at(names: &[QueueName], place: usize) -> u32
-    requires { AreQueues names.now }
+    requires { codes.AreNumbered names.now }
     ensures told { codes.queue_at result ≡ slice_get names.now place }
     ensures few { result ≤ 12 }
 {

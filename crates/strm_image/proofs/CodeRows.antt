@@ -1,5 +1,5 @@
 -- The values that stand as one byte, or as one and a number behind it, are exact.
-use Rattle.strm_image.proofs.Prelude.{◌≡◌, ◌∙◌, Bool, true, false, eqb, [], ◌∷◌, Some, refl, sym, ap, and_parts, eqb-true}
+use Rattle.strm_image.proofs.Prelude.{◌≡◌, ◌∙◌, ℕ, Bool, true, false, eqb, [], ◌∷◌, Some, refl, sym, ap, subst, and_parts, eqb-true}
 use Rattle.std.proofs.lemmas.Option.{same_Some}
 use Rattle.strm_image.specs.Prelude.{MsgKind, Data, Proto, Sig, Ctl, Ioctl, Setopts, Iocack, Iocnak, Pcproto, Pcsig, Read, Flush, Stop, Start, Hangup}
 use Rattle.strm_image.specs.Prelude.{Error, ControlMode, ReadMode, ModuleName, Openness, Never, Open, Closed, Place, Side, Master, Slave, Way, Up}
@@ -10,14 +10,16 @@ use Rattle.strm_types.specs.declared.names.ModuleName.TheVariants as modules
 use Rattle.strm_types.specs.declared.names.Place.TheVariants as places
 use Rattle.strm_image.specs.declared.versions.NameKind.{NameKind}
 use Rattle.strm_image.specs.declared.versions.NameKind.TheVariants as name_kinds
+use Rattle.strm_image.specs.declared.versions.PlaceKind.{PlaceKind}
+use Rattle.strm_image.specs.declared.versions.PlaceKind.TheVariants as place_kinds
 use Rattle.strm_image.specs.declared.versions.Version.{Version}
 use Rattle.strm_image.specs.declared.versions.Version.TheVariants.{First, Second}
-use Rattle.strm_image.specs.Codes.{all_kinds, all_names, control_code, control_mode, flag, flag_code, is_name_of, kind, kind_of_name, module_kind}
-use Rattle.strm_image.specs.Codes.{name_body, name_code, name_kind, no_number, number_of, openness, openness_code, own_name, place, place_code}
-use Rattle.strm_image.specs.Codes.{read_mode, side, side_code, the_name, version, version_code, way, way_code}
-use Rattle.strm_image.specs.Format.{IsExact, byte, nothing, with_code}
-use Rattle.strm_types.proofs.EnabledNames.{queues-ldterm}
-use Rattle.strm_image.proofs.Formats.{IsMade, byte_exact, coded_exact, coded_where_exact, made_exact, nothing_exact, tagged_exact}
+use Rattle.strm_image.specs.Codes.{all_kinds, all_names, all_places, control_code, control_mode, flag, flag_code, is_name_of, is_place_of, is_queued}
+use Rattle.strm_image.specs.Codes.{kind, kind_of_name, kind_of_place, module_kind, name_body, name_code, name_kind, no_number, no_place_parts}
+use Rattle.strm_image.specs.Codes.{number_at, number_of, openness, openness_code, own_name, own_place, place, place_body, place_code, place_kind}
+use Rattle.strm_image.specs.Codes.{read_mode, side, side_code, the_name, the_place, version, version_code, way, way_code}
+use Rattle.strm_image.specs.Format.{IsExact, byte, nothing, only, with_code}
+use Rattle.strm_image.proofs.Formats.{IsMade, byte_exact, coded_exact, made_exact, nothing_exact, only_exact, tagged_exact}
 
 -- Each value is the first one with its code.
 
@@ -72,14 +74,71 @@ pub side_exact : IsExact side
 unfolding side
 side_exact = coded_exact side_code (Master ∷ Slave ∷ []) side_listed
 
-place_listed : (x : Place) → has_queues_at x ≡ true → with_code place_code (place_code x) (places.Head ∷ places.Module modules.Ldterm ∷ places.Driver ∷ []) ≡ Some x
-place_listed places.Head has = refl
-place_listed (places.Module name) has = ap (λ name. Some (places.Module name)) (sym (queues-ldterm name has))
-place_listed places.Driver has = refl
+place_listed : (x : PlaceKind) → with_code place_code (place_code x) all_places ≡ Some x
+place_listed place_kinds.Head = refl
+place_listed place_kinds.Ldterm = refl
+place_listed place_kinds.Driver = refl
+place_listed place_kinds.Own = refl
+
+place_kind_exact : IsExact place_kind
+unfolding place_kind
+place_kind_exact = coded_exact place_code all_places place_listed
+
+same_place_kind : (a b : PlaceKind) → eqb (place_code a) (place_code b) ≡ true → a ≡ b
+same_place_kind a b e = same_Some a b (sym (place_listed a) ∙ ap (λ code. with_code place_code code all_places) (eqb-true _ _ e) ∙ place_listed b)
+
+-- a place where queues stand is told by its kind and a number
+place_told : PlaceKind → ℕ → Place
+place_told place_kinds.Head n = places.Head
+place_told place_kinds.Ldterm n = places.Module modules.Ldterm
+place_told place_kinds.Driver n = places.Driver
+place_told place_kinds.Own n = own_place n
+
+told_back : (p : Place) → has_queues_at p ≡ true → place_told (kind_of_place p) (number_at p) ≡ p
+unfolding place_told
+told_back places.Head has = refl
+told_back (places.Module modules.Ldterm) has = refl
+told_back (places.Module modules.Ptem) has = absurd cc
+told_back (places.Module modules.Pckt) has = absurd cc
+told_back (places.Module (modules.Own n)) has = refl
+told_back places.Driver has = refl
+
+told_of : (k : PlaceKind) (p : Place) → is_place_of k p ≡ true → place_told k (number_at p) ≡ p
+told_of k p shape =
+    let a = and_parts (eqb (place_code (kind_of_place p)) (place_code k)) (has_queues_at p) shape in
+    subst (λ k. place_told k (number_at p) ≡ p) (same_place_kind (kind_of_place p) k a.0) (told_back p a.1)
+
+head_place : IsMade (is_place_of place_kinds.Head) (the_place places.Head) no_place_parts (nothing tt)
+unfolding place_told
+head_place = record { back = λ x fits. (refl, refl); whole = told_of place_kinds.Head }
+
+ldterm_place : IsMade (is_place_of place_kinds.Ldterm) (the_place (places.Module modules.Ldterm)) no_place_parts (nothing tt)
+unfolding place_told
+ldterm_place = record { back = λ x fits. (refl, refl); whole = told_of place_kinds.Ldterm }
+
+driver_place : IsMade (is_place_of place_kinds.Driver) (the_place places.Driver) no_place_parts (nothing tt)
+unfolding place_told
+driver_place = record { back = λ x fits. (refl, refl); whole = told_of place_kinds.Driver }
+
+own_is_place : IsMade (is_place_of place_kinds.Own) own_place number_at (only is_queued byte)
+unfolding place_told
+own_is_place = record { back = λ n fits. (refl, (and_parts (byte.fits n) (is_queued n) fits).1); whole = told_of place_kinds.Own }
+
+place_body_exact : (k : PlaceKind) → IsExact (place_body k)
+place_body_exact place_kinds.Head = made_exact _ _ _ _ (nothing_exact tt (λ y. refl)) head_place
+place_body_exact place_kinds.Ldterm = made_exact _ _ _ _ (nothing_exact tt (λ y. refl)) ldterm_place
+place_body_exact place_kinds.Driver = made_exact _ _ _ _ (nothing_exact tt (λ y. refl)) driver_place
+place_body_exact place_kinds.Own = made_exact _ _ _ _ (only_exact byte byte_exact is_queued) own_is_place
+
+place_kind_told : (k : PlaceKind) (p : Place) → (place_body k).fits p ≡ true → kind_of_place p ≡ k
+place_kind_told place_kinds.Head p fits = same_place_kind (kind_of_place p) place_kinds.Head (and_parts _ _ (and_parts _ _ fits).0).0
+place_kind_told place_kinds.Ldterm p fits = same_place_kind (kind_of_place p) place_kinds.Ldterm (and_parts _ _ (and_parts _ _ fits).0).0
+place_kind_told place_kinds.Driver p fits = same_place_kind (kind_of_place p) place_kinds.Driver (and_parts _ _ (and_parts _ _ fits).0).0
+place_kind_told place_kinds.Own p fits = same_place_kind (kind_of_place p) place_kinds.Own (and_parts _ _ (and_parts _ _ fits).0).0
 
 pub place_exact : IsExact place
 unfolding place
-place_exact = coded_where_exact has_queues_at place_code (places.Head ∷ places.Module modules.Ldterm ∷ places.Driver ∷ []) (refl, (refl, (refl, tt))) place_listed
+place_exact = tagged_exact kind_of_place place_kind place_body place_kind_exact place_body_exact place_kind_told
 
 way_listed : (x : Way) → with_code way_code (way_code x) (Up ∷ Down ∷ []) ≡ Some x
 way_listed Up = refl

@@ -38,15 +38,6 @@ module _ {A : Type 0} (same : A → A → Bool) (reflexive : (x : A) → same x 
   pub all_new : (xs : List A) → ((x : A) → count x xs ≤ 1) → AreNew same [] xs
   all_new xs once = new_from [] xs (λ x. omega (arith, once x, is.none x))
 
-  -- the first one doesn't stand among the others, nor does one of these twice
-  pub first_absent : (x : A) (xs : List A) → ((y : A) → count y (x ∷ xs) ≤ 1) → list_any (λ y. same y x) xs ≡ false
-  first_absent x xs once =
-      let one : count x (x ∷ xs) ≡ 1 + count x xs = rw (is.more x x xs, reflexive x) refl in
-      absent x xs (omega (arith, once x, one))
-
-  pub others_once : (x : A) (xs : List A) → ((y : A) → count y (x ∷ xs) ≤ 1) → (y : A) → count y xs ≤ 1
-  others_once x xs once y = omega (arith, once y, is.more y x xs)
-
 -- the other way round: where none stands among those before it, each stands there once
 module _ {A : Type 0} (same : A → A → Bool) (is_same : (x y : A) → same x y ≡ true → x ≡ y) (count : A → List A → ℕ) (is : IsCount same count) where
   uncounted : (x : A) (xs : List A) → list_any (λ y. same y x) xs ≡ false → count x xs ≡ 0

@@ -1,27 +1,27 @@
 -- A state that has what an image asks has one.
-use Rattle.strm_image.proofs.Prelude.{◌≡◌, ℕ, ◌<◌, ◌≤◌, true, not, List, [], ◌∷◌, length, map, refl, sym, ap, ◌∙◌, arith, ◌^◌, and_from, and_parts}
-use Rattle.strm_image.proofs.Prelude.{eq-eqb}
+use Rattle.strm_image.proofs.Prelude.{◌≡◌, ℕ, ◌<◌, Bool, true, false, not, List, [], ◌∷◌, length, map, refl, sym, ap, subst, ◌∙◌, arith, ◌^◌}
+use Rattle.strm_image.proofs.Prelude.{and_from, and_parts, eq-eqb}
 use Rattle.strm_image.proofs.Prelude.{lt-ltb}
 use Rattle.strm_image.specs.Prelude.{Book, BANDS, Dir, MasterToSlave, SlaveToMaster, ModuleName, Openness, Never, Open, Closed, Place, QueueName}
-use Rattle.strm_image.specs.Prelude.{Side, Master, Slave, Way, Up, Down, RULES, get, stands, AreQueues, IsOnce, has_queues_at, has_service}
+use Rattle.strm_image.specs.Prelude.{Side, Master, Slave, Way, Up, Down, RULES, get, stands, has_queues_at, has_service}
 use Rattle.strm_image.specs.Prelude.{has_service_at, have_queues, same_module}
-use Rattle.strm_image.specs.Prelude.{same_queue, same_way, times, IsOrdered, Queue, IsThere, is_there_among, stands_of, Standing, module_name, State}
-use Rattle.strm_image.specs.Prelude.{queues_of, stream, stream_queues}
+use Rattle.strm_image.specs.Prelude.{same_queue, times, IsOrdered, Queue, GoodModule, IsThere, Restorable, is_there_among, stands_of, Standing}
+use Rattle.strm_image.specs.Prelude.{module_name, State, queues_of, stream, stream_queues}
 use Rattle.std.specs.Prelude.{◌&&◌, ◌||◌}
 use Rattle.std.specs.List.{AllByRecursion, list_all, list_any}
+use Rattle.strm_types.specs.declared.names.ModuleName.TheVariants as names
 use Rattle.strm_types.specs.declared.names.Place.TheVariants as places
-use Rattle.strm_types.specs.Names.{same_place, same_side}
-use Rattle.strm_laws.specs.StackCosts.{Stands, stands_on}
-use Rattle.strm_types.proofs.EnabledNames.{once-room, same_module-self}
+use Rattle.strm_types.proofs.EnabledNames.{same_module-sound, same_queue-self}
+use Rattle.strm_laws.proofs.EnabledFew.{restorable-few}
 use Rattle.strm_laws.proofs.RestorableSteps.{opening-restorable}
 use Rattle.strm_image.specs.declared.versions.Version.TheVariants.{Second}
-use Rattle.strm_image.specs.Codes.{openness, place, side, version, way}
+use Rattle.strm_image.specs.Codes.{openness, place, place_kind, side, version, way}
 use Rattle.strm_image.specs.Format.{always, byte, keep, u64}
 use Rattle.strm_image.specs.HasImage.{AreFates, Balances, HasImage, HasNumbers, IsBooked, IsLaid, IsShortQueue, new_imaged}
 use Rattle.strm_image.specs.Image.{Imaged, account, body, enabled, enabled_behind, has_queue_at, image, is_there, next_enabled, queue_name, rule_counts}
-use Rattle.strm_image.proofs.EachOnce.{AreNew, IsCount, all_new, first_absent, others_once}
+use Rattle.strm_image.proofs.EachOnce.{AreNew, IsCount, all_new}
 use Rattle.strm_image.proofs.FitQueues.{flag_fits}
-use Rattle.strm_image.proofs.FitStreams.{shut_quiet, stream_fits}
+use Rattle.strm_image.proofs.FitStreams.{IsNumbered, kind_numbered, shut_quiet, stream_fits}
 use Rattle.strm_image.proofs.Fitting.{all_alike, all_back, all_front, chain_fits, counted_fits, u32_fits, u64_fits}
 
 -- ---- enabled queues
@@ -31,45 +31,31 @@ unfolding side
 side_fits Master = refl
 side_fits Slave = refl
 
-place_fits : (p : Place) → has_queues_at p ≡ true → place.fits p ≡ true
-unfolding place
-place_fits p has = has
+-- the number of a place has 8 bits
+abbrev IsPlaced : Place → Type 0
+IsPlaced (places.Module name) = IsNumbered name
+IsPlaced p = Unit {0}
+
+place_fits : (p : Place) → has_queues_at p ≡ true → IsPlaced p → place.fits p ≡ true
+unfolding place place_kind
+place_fits places.Head has low = refl
+place_fits (places.Module names.Ldterm) has low = refl
+place_fits (places.Module names.Ptem) has low = absurd cc
+place_fits (places.Module names.Pckt) has low = absurd cc
+place_fits (places.Module (names.Own n)) has low = and_from _ _ has (and_from _ _ (lt-ltb n 256 low) has)
+place_fits places.Driver has low = refl
 
 way_fits : (w : Way) → way.fits w ≡ true
 unfolding way
 way_fits Up = refl
 way_fits Down = refl
 
-name_fits : (n : QueueName) → has_queues_at n.place ≡ true → queue_name.fits n ≡ true
+name_fits : (n : QueueName) → has_queues_at n.place ≡ true → IsPlaced n.place → queue_name.fits n ≡ true
 unfolding queue_name
-name_fits n has = and_from _ _ (side_fits n.side) (and_from _ _ (place_fits n.place has) (way_fits n.way))
-
-same_sides : (s : Side) → same_side s s ≡ true
-same_sides Master = refl
-same_sides Slave = refl
-
-same_places : (p : Place) → same_place p p ≡ true
-same_places places.Head = refl
-same_places (places.Module name) = same_module-self name
-same_places places.Driver = refl
-
-same_ways : (w : Way) → same_way w w ≡ true
-same_ways Up = refl
-same_ways Down = refl
-
-same_queues : (n : QueueName) → same_queue n n ≡ true
-same_queues n = rw (same_sides n.side, same_places n.place, same_ways n.way) refl
+name_fits n has low = and_from _ _ (side_fits n.side) (and_from _ _ (place_fits n.place has low) (way_fits n.way))
 
 pub is_times : IsCount same_queue times
 is_times = record { none = λ n. refl; more = λ n m ns. refl }
-
--- there are twelve names of places where queues stand
-pub few_names : (ns : List QueueName) → IsOnce ns → AreQueues ns → length ns ≤ 12
-few_names [] once are = omega arith
-few_names (n ∷ ns) once are =
-    let before = others_once same_queue same_queues times is_times n ns once in
-    let room : length ns < 12 = once-room ns n before are.1 are.0 (first_absent same_queue same_queues times is_times n ns once) in
-    omega (arith, room)
 
 -- a queue that is there has service
 served : (p : Place) (w : Way) (ps : List (Standing ℕ)) → is_there_among p w (map module_name ps) ≡ true → has_service_at p ≡ true
@@ -83,9 +69,21 @@ has_there places.Head w on there = refl
 has_there (places.Module name) w on there = (and_parts (have_queues name) (list_any (λ n. same_module n name) on) there).0
 has_there places.Driver w on there = refl
 
-pub are_queues : (all : Stands) (ns : List QueueName) → AllByRecursion (λ n. IsThere all n) ns → AreQueues ns
-are_queues all [] there = tt
-are_queues all (n ∷ ns) there = (has_there n.place n.way (stands_on n.side all) there.0, are_queues all ns there.1)
+-- and its number is that of a module that stands
+named_low : (name : ModuleName) (ps : List (Standing ℕ)) → AllByRecursion GoodModule ps → list_any (λ n. same_module n name) (map module_name ps) ≡ true → IsNumbered name
+named_low name [] good there = absurd cc
+named_low name (p ∷ ps) good there = at (same_module (module_name p) name) refl there (named_low name ps good.1)
+  where
+    at : (same : Bool) → same_module (module_name p) name ≡ same → (same || list_any (λ n. same_module n name) (map module_name ps)) ≡ true
+        → (list_any (λ n. same_module n name) (map module_name ps) ≡ true → IsNumbered name) → IsNumbered name
+    at true is there below = subst IsNumbered (same_module-sound (module_name p) name is) (kind_numbered p.part good.0.kind)
+    at false is there below = below there
+
+placed_low : (p : Place) (w : Way) (ps : List (Standing ℕ)) → AllByRecursion GoodModule ps → is_there_among p w (map module_name ps) ≡ true → IsPlaced p
+placed_low places.Head w ps good there = tt
+placed_low (places.Module name) w ps good there =
+    named_low name ps good (and_parts (have_queues name) (list_any (λ n. same_module n name) (map module_name ps)) there).1
+placed_low places.Driver w ps good there = tt
 
 pub names_stand : (name : ModuleName) (ps : List (Standing ℕ)) → list_any (λ n. same_module n name) (map module_name ps) ≡ stands module_name name ps
 names_stand name [] = refl
@@ -97,37 +95,49 @@ stands_there (places.Module name) w ps there = sym (ap (λ b. have_queues name &
 stands_there places.Driver Up ps there = absurd cc
 stands_there places.Driver Down ps there = refl
 
--- what is said of an enabled queue: it is one of a stream's
-IsStanding : State ℕ → QueueName → Type 0
-IsStanding s n = (has_service n ≡ true) × (is_there s n ≡ true)
+-- what is said of an enabled queue: it is one of a stream's, and its name has a text
+record IsStanding (s : State ℕ) (n : QueueName) : Type 0 where
+  served : has_service n ≡ true
+  there : is_there s n ≡ true
+  fits : queue_name.fits n ≡ true
 
-standing : (s : State ℕ) (n : QueueName) → IsThere (stands_of s) n → IsStanding s n
-unfolding IsStanding
-standing s n there = at n.side there
-  where
-    at : (side : Side) → IsThere (stands_of s) (record n { side = side }) → (has_service n ≡ true) × (has_queue_at n.place n.way (stream side s).modules ≡ true)
-    at Master there = (served n.place n.way (stream Master s).modules there, stands_there n.place n.way (stream Master s).modules there)
-    at Slave there = (served n.place n.way (stream Slave s).modules there, stands_there n.place n.way (stream Slave s).modules there)
+module _ (s : State ℕ) (good : Restorable s) where
+  standing : (n : QueueName) → IsThere (stands_of s) n → IsStanding s n
+  standing n there = at n.side there
+    where
+      on : (side : Side) → is_there_among n.place n.way (map module_name (stream side s).modules) ≡ true → IsStanding s (record n { side = side })
+      on side there = record {
+        served = served n.place n.way (stream side s).modules there;
+        there = stands_there n.place n.way (stream side s).modules there;
+        fits = name_fits (record n { side = side }) (has_there n.place n.way (map module_name (stream side s).modules) there)
+            (placed_low n.place n.way (stream side s).modules (good.streams side).modules.each there);
+      }
 
-all_there : (s : State ℕ) (ns : List QueueName) → AllByRecursion (λ n. IsThere (stands_of s) n) ns → list_all (is_there s) ns ≡ true
-unfolding IsStanding
-all_there s [] all = refl
-all_there s (n ∷ ns) all = and_from _ _ (standing s n all.0).1 (all_there s ns all.1)
+      at : (side : Side) → IsThere (stands_of s) (record n { side = side }) → IsStanding s (record n { side = side })
+      at Master there = on Master there
+      at Slave there = on Slave there
 
--- names that have service, none of which stands before
-record Behind (s : State ℕ) (before ns : List QueueName) : Type 0 where
-  new : AreNew same_queue before ns
-  there : AllByRecursion (λ n. IsThere (stands_of s) n) ns
+  all_there : (ns : List QueueName) → AllByRecursion (λ n. IsThere (stands_of s) n) ns → list_all (is_there s) ns ≡ true
+  all_there [] all = refl
+  all_there (n ∷ ns) all = and_from _ _ (standing n all.0).there (all_there ns all.1)
 
-behind_fits : (s : State ℕ) (before : List QueueName) (n : QueueName) (ns : List QueueName) → Behind s before (n ∷ ns) → ((enabled_behind before).fits n ≡ true) × Behind s (next_enabled n before) ns
-unfolding enabled_behind AreNew IsStanding
-behind_fits s before n ns b = (and_from _ _ (name_fits n (are_queues (stands_of s) (n ∷ ns) b.there).0) (and_from _ _ (standing s n b.there.0).0 (ap not b.new.0)), record { new = b.new.1; there = b.there.1 })
+  -- names that have service, none of which stands before
+  record Behind (before ns : List QueueName) : Type 0 where
+    new : AreNew same_queue before ns
+    there : AllByRecursion (λ n. IsThere (stands_of s) n) ns
 
-enabled_fits : (s : State ℕ) (ns : List QueueName) → IsOnce ns → AllByRecursion (λ n. IsThere (stands_of s) n) ns → enabled.fits ns ≡ true
-unfolding enabled
-enabled_fits s ns once there =
-    counted_fits next_enabled enabled_behind byte [] ns (lt-ltb (length ns) 256 (omega (arith, few_names ns once (are_queues (stands_of s) ns there))))
-    (chain_fits next_enabled enabled_behind (Behind s) (behind_fits s) [] ns (record { new = all_new same_queue same_queues times is_times ns once; there = there }))
+  behind_fits : (before : List QueueName) (n : QueueName) (ns : List QueueName) → Behind before (n ∷ ns) → ((enabled_behind before).fits n ≡ true) × Behind (next_enabled n before) ns
+  unfolding enabled_behind AreNew
+  behind_fits before n ns b =
+      let one = standing n b.there.0 in
+      (and_from _ _ one.fits (and_from _ _ one.served (ap not b.new.0)), record { new = b.new.1; there = b.there.1 })
+
+  enabled_fits : enabled.fits s.enabled ≡ true
+  unfolding enabled
+  enabled_fits =
+      let new = all_new same_queue same_queue-self times is_times s.enabled good.enabled.once in
+      counted_fits next_enabled enabled_behind byte [] s.enabled (lt-ltb (length s.enabled) 256 (omega (arith, restorable-few s good)))
+      (chain_fits next_enabled enabled_behind Behind behind_fits [] s.enabled (record { new = new; there = good.enabled.there }))
 
 -- ---- ledgers
 
@@ -163,10 +173,10 @@ body_fits x h =
     (and_from _ _ (and_from _ _ (u32_fits s.next_ioctl (omega (arith, r.last))) (lt-ltb 0 s.next_ioctl (omega (arith, r.numbered))))
     (and_from _ _ (stream_fits Master s.ends.master (r.streams Master) (r.heads Master) (r.idle Master) (h.numbers Master) above)
     (and_from _ _ (stream_fits Slave s.ends.slave (r.streams Slave) (r.heads Slave) (r.idle Slave) (h.numbers Slave) below)
-    (and_from _ _ (enabled_fits s s.enabled r.enabled.once r.enabled.there)
+    (and_from _ _ (enabled_fits s r)
     (and_from _ _ (account_fits s.books.master x.fates.master (h.booked Master) (h.gone Master)) (account_fits s.books.slave x.fates.slave (h.booked Slave) (h.gone Slave))))))))) in
     and_from _ _ (and_from _ _ (and_from _ _ fields (and_from _ _ (shut_quiet Master s.ends.master (r.streams Master)) (shut_quiet Slave s.ends.slave (r.streams Slave))))
-    (all_there s s.enabled r.enabled.there)) (and_from _ _ (eq-eqb _ _ (h.balanced MasterToSlave)) (eq-eqb _ _ (h.balanced SlaveToMaster)))
+    (all_there s r s.enabled r.enabled.there)) (and_from _ _ (eq-eqb _ _ (h.balanced MasterToSlave)) (eq-eqb _ _ (h.balanced SlaveToMaster)))
 
 pub image_fits : (x : Imaged) → HasImage x → image.fits (Second, x) ≡ true
 unfolding image version

@@ -1,28 +1,27 @@
 -- The modules and the streams of a restorable state fit their formats.
-use Rattle.strm_image.proofs.Prelude.{◌≡◌, ℕ, ◌<◌, ◌≤◌, Bool, true, false, not, ◌&&◌, ◌||◌, eqb, List, [], ◌∷◌, ◌++◌, length, map, refl, sym, ap}
-use Rattle.strm_image.proofs.Prelude.{arith, ◌^◌, nat_lt, and_from, eq-eqb, false≢true, le-leb, lt-ltb, ltb-false, signals-fit, times, times-cons}
-use Rattle.strm_image.proofs.Prelude.{GoodDiscipline, good-with, top-times}
+use Rattle.strm_image.proofs.Prelude.{◌≡◌, ℕ, ◌<◌, ◌≤◌, Bool, true, false, not, ◌&&◌, ◌||◌, eqb, List, [], ◌∷◌, ◌++◌, length, map, refl, ap}
+use Rattle.strm_image.proofs.Prelude.{Option, None, Some, is_some, arith, ◌^◌, nat_lt, and_from, eq-eqb, le-leb, lt-ltb, ltb-false, signals-fit, times}
+use Rattle.strm_image.proofs.Prelude.{times-cons, top-times}
 use Rattle.strm_image.specs.Prelude.{IOCTL_MAX, MODULES, SIGNAL_LAST, ControlMode, ReadMode, ModuleName, Side, COLUMN_MAX, Free, Waiting, Answered}
-use Rattle.strm_image.specs.Prelude.{Termios, Winsize, Discipline, IsIdle, by_itself, discipline, waits_there, is_master, is_open, same_module}
-use Rattle.strm_image.specs.Prelude.{is_none_left, QueuePair, stood, AreSignals, is_signal, PlainSlot, answer_bytes, is_free, ldterm_rests}
-use Rattle.strm_image.specs.Prelude.{GoodModule, GoodModules, GoodStream, IsShut, IsWhole, goes_out, is_part_kind, stands_below, EachOnce}
-use Rattle.strm_image.specs.Prelude.{times_there, IsAtRest, Module, OfLdterm, OfOwn, OfPtem, OfPckt, Standing, module_name, module_queues}
+use Rattle.strm_image.specs.Prelude.{Termios, Winsize, Ldterm, Rests, have_queues, waits_there, is_master, is_open, same_module, is_none_left}
+use Rattle.strm_image.specs.Prelude.{QueuePair, stood, AreSignals, is_signal, PlainSlot, answer_bytes, is_free, ldterm_rests, GoodKind, GoodModule}
+use Rattle.strm_image.specs.Prelude.{GoodModules, GoodPair, GoodStream, IsShut, IsWhole, goes_out, is_part_kind, stands_below, EachOnce, times_there}
+use Rattle.strm_image.specs.Prelude.{IsAtRest, KindRests, Module, OfLdterm, OfOwn, OfPtem, OfPckt, Standing, kind_name, module_name, module_queues}
 use Rattle.strm_image.specs.Prelude.{queues_of_modules, SETTINGS_MAX, Stream, stream_queues, IsWithin}
-use Rattle.std.specs.Prelude.{Option, None, Some}
 use Rattle.std.specs.List.{AllByRecursion}
 use Rattle.strm_types.specs.declared.modes.ControlMode.TheVariants as controls
 use Rattle.strm_types.specs.declared.modes.ReadMode.TheVariants as reads
 use Rattle.strm_types.specs.declared.names.ModuleName.TheVariants as names
 use Rattle.strm_types.proofs.EnabledNames.{same_module-self}
-use Rattle.strm_laws.specs.Stacked.{KindRests}
+use Rattle.strm_laws.specs.Restorable.{GoodLdterm}
 use Rattle.strm_image.specs.declared.versions.QueueKind.TheVariants as queues
 use Rattle.strm_image.specs.declared.versions.Version.TheVariants.{Second}
 use Rattle.strm_image.specs.Codes.{control_mode, module_kind, name_kind, read_mode}
-use Rattle.strm_image.specs.Format.{byte, only, u16, u32}
+use Rattle.strm_image.specs.Format.{byte, if_there, only, u16, u32}
 use Rattle.strm_image.specs.HasImage.{HasHalves, HasKindNumbers, HasModuleNumbers, HasNumbers, HasSlotNumbers, HasWords, IsLaid}
 use Rattle.strm_image.specs.Image.{is_quiet, laid_on}
-use Rattle.strm_image.specs.Modules.{are_few, are_settings, ldterm, module_below, module_format, modules, next_names, ptem, settings}
-use Rattle.strm_image.specs.Modules.{termios, winsize}
+use Rattle.strm_image.specs.Modules.{are_few, are_settings, kind_body, ldterm, may_stand, module_below, module_format, modules, next_names, pair, ptem}
+use Rattle.strm_image.specs.Modules.{settings, termios, winsize}
 use Rattle.strm_image.specs.Streams.{Bits, HeadBits, bits, bits_code, group_if, head_bits, is_answer, laid, signals, signals_behind, slot, slot_kind}
 use Rattle.strm_image.proofs.EachOnce.{AreNew, IsCount, all_new}
 use Rattle.strm_image.proofs.FitQueues.{flag_fits, queue_fits, with_parts}
@@ -39,33 +38,58 @@ winsize_fits : (w : Winsize) → HasHalves w → winsize.fits w ≡ true
 unfolding winsize
 winsize_fits w halves = and_from _ _ (u16_fits w.rows halves.rows) (and_from _ _ (u16_fits w.columns halves.columns) (and_from _ _ (u16_fits w.x_pixels halves.x_pixels) (u16_fits w.y_pixels halves.y_pixels)))
 
-rests : (l : Discipline ℕ) → IsIdle l → ldterm_rests (by_itself l) ≡ true
+rests : (l : Ldterm ℕ) → Rests l → ldterm_rests l ≡ true
 rests l idle = rw (idle.0, idle.1, idle.2, idle.3) refl
 
-ldterm_fits : (l : Discipline ℕ) → GoodDiscipline l → IsIdle l → HasWords l.termios → IsLaid l.read_queue → IsLaid l.write_queue → (ldterm Second).fits l ≡ true
+ldterm_fits : (l : Ldterm ℕ) → GoodLdterm l → Rests l → HasWords l.termios → ldterm.fits l ≡ true
 unfolding ldterm
-ldterm_fits l good idle words reads writes =
+ldterm_fits l good idle words =
     and_from _ _ (rests l idle) (and_from _ _ (termios_fits l.termios good.termios words) (and_from _ _ (flag_fits l.stopped) (and_from _ _ (flag_fits l.after_lnext)
-    (and_from _ _ (and_from _ _ (u32_fits l.column (omega (arith, good.column))) (le-leb l.column COLUMN_MAX good.column)) (and_from _ _ (bytes_fit byte l.line (lt-ltb (length l.line) 256 (omega (arith, good.line))))
-    (and_from _ _ (queue_fits queues.LdtermRead waits_there (λ k. refl) l.read_queue good.read_queue reads) (queue_fits queues.LdtermWrite goes_out (λ k. refl) l.write_queue good.write_queue writes)))))))
+    (and_from _ _ (and_from _ _ (u32_fits l.column (omega (arith, good.column))) (le-leb l.column COLUMN_MAX good.column))
+    (bytes_fit byte l.line (lt-ltb (length l.line) 256 (omega (arith, good.line))))))))
 
-kind_fits : (part : Module ℕ) (queues : Option (QueuePair ℕ)) → GoodModule (stood part queues) → KindRests part → HasKindNumbers part → AllByRecursion IsLaid (module_queues (stood part queues))
-    → (module_format Second).fits (stood part queues) ≡ true
-unfolding module_format module_kind name_kind ptem settings
-kind_fits (OfLdterm l) None good idle words laid = absurd (false≢true good.has)
-kind_fits (OfLdterm l) (Some pair) good idle words laid = ldterm_fits (discipline l pair) (good-with l (Some pair) good.kind good.queues) idle words laid.0 laid.1.0
-kind_fits (OfPtem p) None good idle words laid = and_from _ _ (termios_fits p.termios good.kind words.0) (winsize_fits p.window words.1)
-kind_fits (OfPtem p) (Some pair) good idle words laid = absurd (false≢true (sym good.has))
-kind_fits (OfPckt p) None good idle words laid = refl
-kind_fits (OfPckt p) (Some pair) good idle words laid = absurd (false≢true (sym good.has))
-kind_fits (OfOwn o) None good idle words laid =
-    let few = and_from _ _ (u16_fits (length o.settings) (omega (arith, good.kind.few))) (le-leb (length o.settings) SETTINGS_MAX good.kind.few) in
-    and_from _ _ (and_from _ _ (lt-ltb o.number 256 good.kind.number) refl)
-    (and_from _ _ (and_from _ _ (same_module-self (names.Own o.number)) refl) (octets_fit (only are_settings u16) o.settings few good.kind.bytes))
-kind_fits (OfOwn o) (Some pair) good idle words laid = absurd (false≢true (sym good.has))
+-- the number of a name has 8 bits
+abbrev pub IsNumbered : ModuleName → Type 0
+IsNumbered (names.Own n) = n < 256
+IsNumbered name = Unit {0}
+
+pub kind_numbered : (x : Module ℕ) → GoodKind x → IsNumbered (kind_name x)
+kind_numbered (OfLdterm l) good = tt
+kind_numbered (OfPtem p) good = tt
+kind_numbered (OfPckt p) good = tt
+kind_numbered (OfOwn o) good = good.number
+
+name_fits : (name : ModuleName) → IsNumbered name → (only (may_stand Second) module_kind).fits name ≡ true
+unfolding module_kind name_kind
+name_fits names.Ldterm low = refl
+name_fits names.Ptem low = refl
+name_fits names.Pckt low = refl
+name_fits (names.Own n) low = and_from _ _ (lt-ltb n 256 low) refl
+
+kind_fits : (x : Module ℕ) → GoodKind x → KindRests x → HasKindNumbers x → (kind_body (kind_name x)).fits x ≡ true
+unfolding ptem settings
+kind_fits (OfLdterm l) good idle words = ldterm_fits l good idle words
+kind_fits (OfPtem p) good idle words = and_from _ _ (termios_fits p.termios good words.0) (winsize_fits p.window words.1)
+kind_fits (OfPckt p) good idle words = refl
+kind_fits (OfOwn o) good idle words =
+    let few = and_from _ _ (u16_fits (length o.settings) (omega (arith, good.few))) (le-leb (length o.settings) SETTINGS_MAX good.few) in
+    and_from _ _ (same_module-self (names.Own o.number)) (octets_fit (only are_settings u16) o.settings few good.bytes)
+
+-- the queues of a module, where it has any
+pair_fits : (x : Module ℕ) (own : Option (QueuePair ℕ)) (has : Bool) → is_some own ≡ has → GoodPair own → AllByRecursion IsLaid (module_queues (stood x own))
+    → (if_there has (pair Second)).fits own ≡ true
+unfolding pair
+pair_fits x None false is good laid = refl
+pair_fits x None true is good laid = absurd cc
+pair_fits x (Some both) false is good laid = absurd cc
+pair_fits x (Some both) true is good laid =
+    and_from _ _ (queue_fits queues.ModuleRead waits_there (λ k. refl) both.read good.0 laid.0) (queue_fits queues.ModuleWrite goes_out (λ k. refl) both.write good.1 laid.1.0)
 
 module_fits : (p : Standing ℕ) → GoodModule p → IsAtRest p → HasModuleNumbers p → AllByRecursion IsLaid (module_queues p) → (module_format Second).fits p ≡ true
-module_fits p good idle words laid = kind_fits p.part p.queues good idle words laid
+unfolding module_format
+module_fits p good idle words laid =
+    and_from _ _ (name_fits (module_name p) (kind_numbered p.part good.kind))
+    (and_from _ _ (kind_fits p.part good.kind idle words) (pair_fits p.part p.queues (have_queues (module_name p)) good.has good.queues laid))
 
 each_fits : (ps : List (Standing ℕ)) → AllByRecursion GoodModule ps → AllByRecursion (λ p. IsAtRest p) ps → AllByRecursion HasModuleNumbers ps → AllByRecursion (λ p. AllByRecursion IsLaid (module_queues p)) ps
     → AllByRecursion (λ p. (module_format Second).fits p ≡ true) ps

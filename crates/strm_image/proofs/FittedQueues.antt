@@ -63,8 +63,8 @@ apart _ is = absurd cc
 setopts_nowhere : (at : QueueKind) → stands_at at Setopts ≡ false
 unfolding is_data_kind crosses
 setopts_nowhere queues.Head = refl
-setopts_nowhere queues.LdtermRead = refl
-setopts_nowhere queues.LdtermWrite = refl
+setopts_nowhere queues.ModuleRead = refl
+setopts_nowhere queues.ModuleWrite = refl
 setopts_nowhere queues.Driver = refl
 
 no_options : (at : QueueKind) (k : MsgKind) → stands_at at k ≡ true → sets_options k ≡ false

@@ -1,32 +1,32 @@
 -- The modules and the streams that fit their formats are good, at rest, and have their widths: the other way round of FitStreams.
 use Rattle.strm_image.proofs.Prelude.{◌≡◌, ℕ, zero, suc, ◌<◌, ◌≤◌, Bool, true, false, not, ◌&&◌, ◌||◌, eqb, List, [], ◌∷◌, ◌++◌, length, map, Option}
 use Rattle.strm_image.proofs.Prelude.{None, Some, refl, arith, ◌^◌, nat_lt, is_some, and_parts, eqb-true, leb-true, ltb-false, ltb-true, not-true}
-use Rattle.strm_image.proofs.Prelude.{false≢true, times, times-cons, top-times}
-use Rattle.strm_image.specs.Prelude.{IOCTL_MAX, MODULES, ModuleName, Side, COLUMN_MAX, Free, Waiting, Answered, Termios, Winsize, Discipline, Between}
-use Rattle.strm_image.specs.Prelude.{IsIdle, Stage, by_itself, discipline, is_between, waits_there, Message, is_master, is_open, same_module}
-use Rattle.strm_image.specs.Prelude.{is_none_left, AreSignals, has_signal, is_signal, PlainSlot, answer_bytes, is_free, ldterm_rests, QueuePair}
-use Rattle.strm_image.specs.Prelude.{stood, GoodModule, GoodStream, IsShut, IsWhole, goes_out, is_part_kind, stands_below, EachOnce, times_there}
-use Rattle.strm_image.specs.Prelude.{IsAtRest, Module, OfLdterm, OfOwn, OfPtem, OfPckt, Standing, ldterm_stands, module_name, module_queues}
+use Rattle.strm_image.proofs.Prelude.{times, times-cons, top-times}
+use Rattle.strm_image.specs.Prelude.{IOCTL_MAX, MODULES, ModuleName, Side, COLUMN_MAX, Free, Waiting, Answered, Termios, Winsize, Ldterm, Between}
+use Rattle.strm_image.specs.Prelude.{Rests, Stage, have_queues, is_between, waits_there, Message, is_master, is_open, same_module, is_none_left}
+use Rattle.strm_image.specs.Prelude.{AreSignals, has_signal, is_signal, PlainSlot, answer_bytes, is_free, ldterm_rests, QueuePair, stood, GoodKind}
+use Rattle.strm_image.specs.Prelude.{GoodModule, GoodPair, GoodStream, IsShut, IsWhole, goes_out, is_part_kind, stands_below, EachOnce, times_there}
+use Rattle.strm_image.specs.Prelude.{IsAtRest, KindRests, Module, OfLdterm, OfOwn, OfPtem, OfPckt, Standing, kind_name, module_name, module_queues}
 use Rattle.strm_image.specs.Prelude.{queues_of_modules, SETTINGS_MAX, Stream, stream_queues, IsWithin}
 use Rattle.std.specs.List.{AllByRecursion}
 use Rattle.strm_types.specs.declared.names.ModuleName.TheVariants as names
 use Rattle.strm_types.proofs.EnabledNames.{same_module-sound}
-use Rattle.strm_laws.specs.Behaviours.{GoodOwn}
 use Rattle.strm_laws.specs.Restorable.{IsWork}
 use Rattle.strm_laws.proofs.StackOnce.{nothing-there}
 use Rattle.strm_image.specs.declared.versions.QueueKind.TheVariants as queues
 use Rattle.strm_image.specs.declared.versions.Version.TheVariants.{Second}
 use Rattle.strm_image.specs.Codes.{control_mode, flag, module_kind, name_kind, read_mode}
-use Rattle.strm_image.specs.Format.{byte, bytes_of, counted, only, u16, u32}
-use Rattle.strm_image.specs.HasImage.{HasHalves, HasModuleNumbers, HasNumbers, HasSlotNumbers, HasWords, IsLaid}
+use Rattle.strm_image.specs.Format.{byte, bytes_of, counted, if_there, only, u16, u32}
+use Rattle.strm_image.specs.HasImage.{HasHalves, HasKindNumbers, HasModuleNumbers, HasNumbers, HasSlotNumbers, HasWords, IsLaid}
 use Rattle.strm_image.specs.Image.{is_quiet, laid_on}
-use Rattle.strm_image.specs.Modules.{are_few, are_settings, has_name, is_column, is_named, ldterm, may_stand, module_below, module_format, modules}
-use Rattle.strm_image.specs.Modules.{next_names, ptem, settings, termios, winsize}
+use Rattle.strm_image.specs.Modules.{are_few, are_settings, has_name, is_column, is_kind_of, kind_body, ldterm, may_stand, module_below, module_format}
+use Rattle.strm_image.specs.Modules.{modules, next_names, pair, ptem, settings, termios, winsize}
 use Rattle.strm_image.specs.Queues.{queue}
-use Rattle.strm_image.specs.Streams.{HeadBits, are_signals, bits, bits_of, group_if, head_bits, is_answer, laid, may_have_group, signals, signals_behind, slot, slot_kind}
+use Rattle.strm_image.specs.Streams.{HeadBits, are_signals, bits, bits_of, group_if, head_bits, is_answer, laid, may_have_group, signals}
+use Rattle.strm_image.specs.Streams.{signals_behind, slot, slot_kind}
 use Rattle.strm_image.proofs.EachOnce.{AreNew, new_once}
 use Rattle.strm_image.proofs.FitQueues.{with_parts}
-use Rattle.strm_image.proofs.FitStreams.{is_names_count, names_count}
+use Rattle.strm_image.proofs.FitStreams.{IsNumbered, is_names_count, names_count}
 use Rattle.strm_image.proofs.Fitted.{all_flattened, all_join, all_so, bytes_count, chain_holds, counted_parts, octets_parts, u16_below, u32_below}
 use Rattle.strm_image.proofs.FittedQueues.{queue_told}
 
@@ -76,69 +76,86 @@ between : (s : Stage ℕ) → is_between s ≡ true → s ≡ Between
 between Between e = refl
 between _ e = absurd cc
 
-idle_told : (l : Discipline ℕ) → ldterm_rests (by_itself l) ≡ true → IsIdle l
+idle_told : (l : Ldterm ℕ) → ldterm_rests l ≡ true → Rests l
 idle_told l rests =
     let a = and_parts (not (is_some l.in_work)) _ rests in
     let b = and_parts (is_none_left l.gathered) _ a.1 in
     let c = and_parts (not l.echoing) (is_between l.stage) b.1 in
     (none_there l.in_work a.0, nothing_left l.gathered b.0, not-true l.echoing c.0, between l.stage c.1)
 
-ldterm_told : (l : Discipline ℕ) → (ldterm Second).fits l ≡ true → IsTold (ldterm_stands l)
+-- what is told of a module by itself
+record KindTold (x : Module ℕ) : Type 0 where
+  good : GoodKind x
+  rests : KindRests x
+  words : HasKindNumbers x
+
+ldterm_told : (l : Ldterm ℕ) → ldterm.fits l ≡ true → KindTold (OfLdterm l)
 unfolding ldterm
 ldterm_told l fits =
-    let rests = and_parts (ldterm_rests (by_itself l)) _ fits in
+    let rests = and_parts (ldterm_rests l) _ fits in
     let set = and_parts (termios.fits l.termios) _ rests.1 in
     let stopped = and_parts (flag.fits l.stopped) _ set.1 in
     let after = and_parts (flag.fits l.after_lnext) _ stopped.1 in
-    let column = and_parts ((only is_column u32).fits l.column) _ after.1 in
-    let line = and_parts ((counted byte bytes_of).fits l.line) _ column.1 in
-    let both = and_parts ((queue Second queues.LdtermRead).fits l.read_queue) ((queue Second queues.LdtermWrite).fits l.write_queue) line.1 in
-    let reads = queue_told queues.LdtermRead waits_there (λ k. refl) l.read_queue both.0 in
-    let writes = queue_told queues.LdtermWrite goes_out (λ k. refl) l.write_queue both.1 in
+    let column = and_parts ((only is_column u32).fits l.column) ((counted byte bytes_of).fits l.line) after.1 in
     let terminal = termios_told l.termios set.0 in
     let idle = idle_told l rests.0 in
-    let short : length l.line < 256 = ltb-true (length l.line) 256 (bytes_count byte l.line line.0) in
+    let short : length l.line < 256 = ltb-true (length l.line) 256 (bytes_count byte l.line column.1) in
     record {
       good = record {
-        kind = record {
-          termios = terminal.0;
-          column = leb-true l.column COLUMN_MAX (and_parts (u32.fits l.column) _ column.0).1;
-          line = omega (arith, short);
-          work = no_work l.in_work idle.0;
-        };
-        queues = (reads.0, writes.0);
-        has = refl;
+        termios = terminal.0;
+        column = leb-true l.column COLUMN_MAX (and_parts (u32.fits l.column) _ column.0).1;
+        line = omega (arith, short);
+        work = no_work l.in_work idle.0;
       };
       rests = idle;
       words = terminal.1;
-      laid = (reads.1, (writes.1, tt));
     }
 
-kind_told : (part : Module ℕ) (queues : Option (QueuePair ℕ)) → (module_format Second).fits (stood part queues) ≡ true → IsTold (stood part queues)
-unfolding module_format module_kind name_kind ptem settings
-kind_told (OfLdterm l) (Some pair) fits = ldterm_told (discipline l pair) fits
-kind_told (OfLdterm l) None fits = absurd cc
-kind_told (OfPtem p) None fits =
+name_told : (name : ModuleName) → (only (may_stand Second) module_kind).fits name ≡ true → IsNumbered name
+unfolding module_kind name_kind
+name_told names.Ldterm fits = tt
+name_told names.Ptem fits = tt
+name_told names.Pckt fits = tt
+name_told (names.Own n) fits = ltb-true n 256 (and_parts (byte.fits n) true fits).0
+
+kind_told : (x : Module ℕ) → IsNumbered (kind_name x) → (kind_body (kind_name x)).fits x ≡ true → KindTold x
+unfolding ptem settings
+kind_told (OfLdterm l) low fits = ldterm_told l fits
+kind_told (OfPtem p) low fits =
     let a = and_parts (termios.fits p.termios) (winsize.fits p.window) fits in
     let set = termios_told p.termios a.0 in
-    record { good = record { kind = set.0; queues = tt; has = refl }; rests = tt; words = (set.1, winsize_told p.window a.1); laid = tt }
-kind_told (OfPtem p) (Some pair) fits = absurd cc
-kind_told (OfPckt p) None fits = record { good = record { kind = tt; queues = tt; has = refl }; rests = tt; words = tt; laid = tt }
-kind_told (OfPckt p) (Some pair) fits = absurd cc
-kind_told (OfOwn o) None fits =
-    let a = and_parts ((only (may_stand Second) module_kind).fits (names.Own o.number)) _ fits in
-    let number = and_parts (byte.fits o.number) true a.0 in
-    let b = octets_parts (only are_settings u16) o.settings (and_parts (is_named (names.Own o.number) (stood (OfOwn o) None)) _ a.1).1 in
-    let few = and_parts (u16.fits (length o.settings)) (are_settings (length o.settings)) b.0 in
-    let kind : GoodOwn o = record { number = ltb-true o.number 256 number.0; few = leb-true (length o.settings) SETTINGS_MAX few.1; bytes = b.1 } in
-    record { good = record { kind = kind; queues = tt; has = refl }; rests = tt; words = tt; laid = tt }
-kind_told (OfOwn o) (Some pair) fits =
-    let a = and_parts ((only (may_stand Second) module_kind).fits (names.Own o.number)) _ fits in
-    let shape = and_parts (is_named (names.Own o.number) (stood (OfOwn o) (Some pair))) _ a.1 in
-    absurd (false≢true (and_parts (same_module (names.Own o.number) (names.Own o.number)) false shape.0).1)
+    record { good = set.0; rests = tt; words = (set.1, winsize_told p.window a.1) }
+kind_told (OfPckt p) low fits = record { good = tt; rests = tt; words = tt }
+kind_told (OfOwn o) low fits =
+    let a = octets_parts (only are_settings u16) o.settings (and_parts (is_kind_of (names.Own o.number) (OfOwn o)) _ fits).1 in
+    let few = and_parts (u16.fits (length o.settings)) (are_settings (length o.settings)) a.0 in
+    record { good = record { number = low; few = leb-true (length o.settings) SETTINGS_MAX few.1; bytes = a.1 }; rests = tt; words = tt }
+
+-- what is told of the queues of a module
+record PairTold (x : Module ℕ) (own : Option (QueuePair ℕ)) (has : Bool) : Type 0 where
+  there : is_some own ≡ has
+  good : GoodPair own
+  laid : AllByRecursion IsLaid (module_queues (stood x own))
+
+pair_told : (x : Module ℕ) (own : Option (QueuePair ℕ)) (has : Bool) → (if_there has (pair Second)).fits own ≡ true → PairTold x own has
+unfolding pair
+pair_told x None false fits = record { there = refl; good = tt; laid = tt }
+pair_told x None true fits = absurd cc
+pair_told x (Some both) false fits = absurd cc
+pair_told x (Some both) true fits =
+    let a = and_parts ((queue Second queues.ModuleRead).fits both.read) ((queue Second queues.ModuleWrite).fits both.write) fits in
+    let reads = queue_told queues.ModuleRead waits_there (λ k. refl) both.read a.0 in
+    let writes = queue_told queues.ModuleWrite goes_out (λ k. refl) both.write a.1 in
+    record { there = refl; good = (reads.0, writes.0); laid = (reads.1, (writes.1, tt)) }
 
 module_told : (p : Standing ℕ) → (module_format Second).fits p ≡ true → IsTold p
-module_told p fits = kind_told p.part p.queues fits
+unfolding module_format
+module_told p fits =
+    let a = and_parts ((only (may_stand Second) module_kind).fits (module_name p)) _ fits in
+    let b = and_parts ((kind_body (module_name p)).fits p.part) ((if_there (have_queues (module_name p)) (pair Second)).fits p.queues) a.1 in
+    let itself = kind_told p.part (name_told (module_name p) a.0) b.0 in
+    let own = pair_told p.part p.queues (have_queues (module_name p)) b.1 in
+    record { good = record { kind = itself.good; queues = own.good; has = own.there }; rests = itself.rests; words = itself.words; laid = own.laid }
 
 -- A name stands among the first of others no more often than among all.
 among_all : (name : ModuleName) (ns : List ModuleName) (at : ℕ) → times_there name ns at ≤ names_count name ns

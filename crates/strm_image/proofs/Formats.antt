@@ -3,13 +3,13 @@ use Rattle.std.proofs.Common.{◌≡◌, ℕ, zero, suc, ◌+◌, ◌-◌, ◌<�
 use Rattle.std.specs.Int.{Width, w16, w32, w64, byte_len, from_be_bytes, to_be_bytes}
 use Rattle.std.proofs.lemmas.Bool.{and_parts, and_from, ltb-false, ltb-true, le-ltb, lt-ltb, eqb-true, eq-eqb}
 use Rattle.std.proofs.lemmas.List.{take_at, drop_at, take-append-drop, length-append, length-take, get_or-append-add, append-nil, nil_from_length}
-use Rattle.std.specs.List.{AllByRecursion, flat_map, list_all}
+use Rattle.std.specs.List.{flat_map, list_all}
 use Rattle.std.proofs.lemmas.List.Concat.{flat_map-cons}
 use Rattle.std.proofs.lemmas.Nat.{be_bytes_2, be_bytes_4, be_bytes_8, from_be_bytes-to_be_bytes_2, from_be_bytes-to_be_bytes_4, from_be_bytes-to_be_bytes_8}
 use Rattle.std.proofs.lemmas.Option.{cond_some, same_Some}
 use Rattle.strm_image.specs.Format.{Format, IsExact, IsBytes, ◌>>=◌, read_byte, byte, number, u16, u32, u64, nothing, bytes_of, octets_of, only}
 use Rattle.strm_image.specs.Format.{fit_from, text_from, read_from, chain, gather_from, gathered, gathered_of, before, at_end, keep, always, times}
-use Rattle.strm_image.specs.Format.{counted, ◌then◌, made, tagged, with_code, coded, coded_where, whole, IsTextOf, Reads}
+use Rattle.strm_image.specs.Format.{counted, ◌then◌, made, tagged, if_there, fits_there, text_there, read_there, with_code, coded, whole, IsTextOf, Reads}
 
 -- what stands behind bytes is bytes
 pub rest_is_bytes : (bytes a b : List ℕ) → IsBytes bytes → bytes ≡ a ++ b → IsBytes b
@@ -143,27 +143,6 @@ coded_exact code all back = record {
   again = λ x rest fits. rw (back x) refl;
 }
 
--- what has a code is one of them
-pub code_among : {A : Type 0} (P : A → Type 0) (code : A → ℕ) (n : ℕ) (all : List A) (x : A) → AllByRecursion P all → with_code code n all ≡ Some x → P x
-code_among P code n [] x each e = absurd cc
-code_among P code n (y ∷ all) x each e =
-    elim (chosen (eqb n (code y)) (Some y) (with_code code n all) (Some x) e) [
-      | inl h ↦ subst P (same_Some y x h.1) each.0
-      | inr h ↦ code_among P code n all x each.1 h.1
-    ]
-
-pub coded_where_exact : {A : Type 0} (test : A → Bool) (code : A → ℕ) (all : List A) → AllByRecursion (λ x. test x ≡ true) all
-    → ((x : A) → test x ≡ true → with_code code (code x) all ≡ Some x) → IsExact (coded_where test code all)
-coded_where_exact test code all each back = record {
-  takes = λ bytes x h e.
-      let a = bind_some (read_byte bytes) (λ b. with_code code b.0 all >>= λ y. Some (y, b.1)) x e in
-      let b = bind_some (with_code code a.0.0 all) (λ y. Some (y, a.0.1)) x a.2 in
-      let t = byte_exact.takes bytes a.0 h a.1 in
-      subst (λ y. (bytes ≡ code y.0 ∷ y.1) × (test y.0 ≡ true)) (same_Some (b.0, a.0.1) x b.2)
-      (rw (← code_is code a.0.0 all b.0 b.1) t.0, code_among (λ y. test y ≡ true) code a.0.0 all b.0 each b.1);
-  again = λ x rest fits. rw (back x fits) refl;
-}
-
 -- ---- made of others
 
 module _ {A : Type 0} (f : Format A) (exact : IsExact f) where
@@ -178,6 +157,24 @@ module _ {A : Type 0} (f : Format A) (exact : IsExact f) where
         let p = and_parts (f.fits x) (test x) fits in
         rw (exact.again x rest p.0, p.1) refl;
   }
+
+  pub if_there_exact : (there : Bool) → IsExact (if_there there f)
+  if_there_exact there = record { takes = takes there; again = again there }
+    where
+      takes : (there : Bool) (bytes : List ℕ) (x : Option A × List ℕ) → IsBytes bytes → read_there there f bytes ≡ Some x
+          → (bytes ≡ text_there f x.0 ++ x.1) × (fits_there there f x.0 ≡ true)
+      takes true bytes x h e =
+          let b = bind_some (f.read bytes) (λ y. Some (Some y.0, y.1)) x e in
+          subst (λ (y : Option A × List ℕ). (bytes ≡ text_there f y.0 ++ y.1) × (fits_there true f y.0 ≡ true)) (same_Some (Some b.0.0, b.0.1) x b.2)
+          (exact.takes bytes b.0 h b.1)
+      takes false bytes x h e =
+          subst (λ (y : Option A × List ℕ). (bytes ≡ text_there f y.0 ++ y.1) × (fits_there false f y.0 ≡ true)) (same_Some (None, bytes) x e) (refl, refl)
+
+      again : (there : Bool) (o : Option A) (rest : List ℕ) → fits_there there f o ≡ true → read_there there f (text_there f o ++ rest) ≡ Some (o, rest)
+      again true (Some x) rest fits = rw (exact.again x rest fits) refl
+      again true None rest fits = absurd cc
+      again false None rest fits = refl
+      again false (Some x) rest fits = absurd cc
 
 module _ {A S : Type 0} (next : A → S → S) (f : S → Format A) (exact : (s : S) → IsExact (f s)) where
   takes_from : (s : S) (n : ℕ) (bytes : List ℕ) (x : List A × List ℕ) → IsBytes bytes → read_from next f s n bytes ≡ Some x

@@ -1,21 +1,20 @@
 -- What has a text of version 1 has one of version 2.
 use Rattle.strm_image.proofs.Prelude.{◌≡◌, ◌∙◌, ℕ, zero, suc, ◌+◌, ◌-◌, ◌<◌, ◌≤◌, Bool, true, false, not, ◌&&◌, cond, eqb, ltb, leb, List, [], ◌∷◌}
-use Rattle.strm_image.proofs.Prelude.{◌++◌, length, refl, sym, ap, subst, arith, replicate, and_from, and_parts, eqb-true, eq-eqb, le-leb, lt-ltb}
+use Rattle.strm_image.proofs.Prelude.{◌++◌, None, Some, length, refl, sym, ap, subst, arith, replicate, and_from, and_parts, eqb-true, eq-eqb, le-leb, lt-ltb}
 use Rattle.strm_image.proofs.Prelude.{ltb-true, length-append}
-use Rattle.strm_image.specs.Prelude.{BANDS, HIGH_PRIORITY_RANK, ModuleName, Flow, by_itself, ldterm_rests, ldterm_stands, module_name, discipline_of}
+use Rattle.strm_image.specs.Prelude.{BANDS, HIGH_PRIORITY_RANK, ModuleName, Flow, have_queues, module_name}
 use Rattle.std.specs.Prelude.{slice_index_or}
 use Rattle.std.proofs.lemmas.List.{length-replicate}
-use Rattle.strm_types.specs.declared.names.ModuleName.TheVariants as names
 use Rattle.strm_image.specs.declared.versions.QueueKind.{QueueKind}
 use Rattle.strm_image.specs.declared.versions.QueueKind.TheVariants as queues
 use Rattle.strm_image.specs.declared.versions.Version.TheVariants.{First, Second}
 use Rattle.strm_image.specs.declared.versions.TheConstants.{FIRST_BANDS}
 use Rattle.strm_image.specs.Codes.{control_mode, flag, kind, module_kind, openness, read_mode, version}
-use Rattle.strm_image.specs.Format.{Format, always, byte, bytes_of, chain, counted, fit_from, keep, made, only, tagged, times, u32, ◌then◌}
+use Rattle.strm_image.specs.Format.{Format, always, byte, bytes_of, chain, counted, fit_from, if_there, keep, made, only, tagged, times, u32, ◌then◌}
 use Rattle.strm_image.specs.Image.{Imaged, account, are_balanced, are_quiet, are_there, body, enabled, image, imaged_of, imaged_parts, is_mark, is_number, mark, version_of, versioned}
 use Rattle.strm_image.specs.Messages.{Parts, any, is_message, may_follow, message, message_behind, message_of, message_parts, messages, next_rank, part, parts_fit}
-use Rattle.strm_image.specs.Modules.{are_few, has_name, is_column, is_named, ldterm, ldterm_of, ldterm_parts, may_stand, module_below, module_body}
-use Rattle.strm_image.specs.Modules.{module_format, modules, next_names, termios}
+use Rattle.strm_image.specs.Modules.{are_few, has_name, kind_body, may_stand, module_below, module_body, module_format, modules, next_names, pair}
+use Rattle.strm_image.specs.Modules.{pair_of, pair_parts, standing_of, standing_parts}
 use Rattle.strm_image.specs.Queues.{behind_last, entries, few_flows, first_flow, first_ones, flags, flow, flow_parts, flows, is_listed, is_widened, list_out, listed, listed_behind, marks_fit, next_band, no_flow, queue, queue_of, queue_parts, same_flow, widened}
 use Rattle.strm_image.specs.Streams.{head_bits, laid, laid_of, laid_parts, signals, slot}
 use Rattle.strm_image.proofs.BandRows.{widened_is}
@@ -48,6 +47,13 @@ module _ {A : Type 0} where
   only_later : (s t : A → Bool) (f g : Format A) → ((x : A) → s x ≡ true → t x ≡ true) → Later f g → Later (only s f) (only t g)
   unfolding Later
   only_later s t f g more p x fits = let a = and_parts (f.fits x) (s x) fits in and_from _ _ (p x a.0) (more x a.1)
+
+  there_later : (there : Bool) (f g : Format A) → Later f g → Later (if_there there f) (if_there there g)
+  unfolding Later
+  there_later true f g p (Some x) fits = p x fits
+  there_later true f g p None fits = absurd cc
+  there_later false f g p None fits = refl
+  there_later false f g p (Some x) fits = absurd cc
 
   counted_later : (count : Format ℕ) (f g : ℕ → Format (List A)) → ((n : ℕ) → Later (f n) (g n)) → Later (counted count f) (counted count g)
   unfolding Later
@@ -177,16 +183,12 @@ queue_later at = made_later any queue_of queue_parts _ _ (then_later _ _ _ _ (sa
 
 -- ---- modules and streams
 
-ldterm_later : Later (ldterm First) (ldterm Second)
-unfolding ldterm
-ldterm_later = made_later (λ l. ldterm_rests (by_itself l)) ldterm_of ldterm_parts _ _
-    (then_later _ _ _ _ (same termios) (then_later _ _ _ _ (same flag) (then_later _ _ _ _ (same flag) (then_later _ _ _ _ (same (only is_column u32)) (then_later _ _ _ _ (same (counted byte bytes_of)) (then_later _ _ _ _ (queue_later queues.LdtermRead) (queue_later queues.LdtermWrite)))))))
+pair_later : Later (pair First) (pair Second)
+unfolding pair
+pair_later = made_later any pair_of pair_parts _ _ (then_later _ _ _ _ (queue_later queues.ModuleRead) (queue_later queues.ModuleWrite))
 
 body_later : (name : ModuleName) → Later (module_body First name) (module_body Second name)
-body_later names.Ldterm = made_later (is_named names.Ldterm) ldterm_stands discipline_of (ldterm First) (ldterm Second) ldterm_later
-body_later names.Ptem = same (module_body First names.Ptem)
-body_later names.Pckt = same (module_body First names.Pckt)
-body_later (names.Own n) = same (module_body First (names.Own n))
+body_later name = made_later any standing_of standing_parts _ _ (then_later _ _ _ _ (same (kind_body name)) (there_later (have_queues name) (pair First) (pair Second) pair_later))
 
 module_later : Later (module_format First) (module_format Second)
 unfolding module_format

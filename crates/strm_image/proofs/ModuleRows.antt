@@ -1,9 +1,8 @@
 -- The texts of modules are exact.
-use Rattle.strm_image.proofs.Prelude.{◌≡◌, ℕ, Bool, true, false, not, List, [], ◌∷◌, Option, Some, None, refl, ap, sym, is_some, and_from, and_parts}
-use Rattle.strm_image.proofs.Prelude.{eqb-true, false≢true}
-use Rattle.strm_image.specs.Prelude.{ModuleName, Discipline, Stage, Between, by_itself, is_between, Message, is_none_left, QueuePair}
-use Rattle.strm_image.specs.Prelude.{stood, ldterm_rests, Module, OfLdterm, OfOwn, OfPtem, OfPckt, Standing, ldterm_stands, module_name}
-use Rattle.strm_image.specs.Prelude.{discipline_of, same_module}
+use Rattle.strm_image.proofs.Prelude.{◌≡◌, ℕ, Bool, true, false, not, List, [], ◌∷◌, Option, Some, None, refl, ap, sym, is_some, and_parts}
+use Rattle.strm_image.proofs.Prelude.{eqb-true}
+use Rattle.strm_image.specs.Prelude.{ModuleName, Ldterm, Stage, Between, have_queues, is_between, Message, is_none_left, ldterm_rests}
+use Rattle.strm_image.specs.Prelude.{Module, OfLdterm, OfOwn, OfPtem, OfPckt, Standing, kind_name, module_name}
 use Rattle.strm_types.specs.declared.names.ModuleName.TheVariants as names
 use Rattle.strm_types.specs.Ldterms.{Begun, Answered}
 use Rattle.strm_types.proofs.EnabledNames.{same_module-self, same_module-sound}
@@ -13,11 +12,12 @@ use Rattle.strm_image.specs.Codes.{module_kind}
 use Rattle.strm_image.specs.Format.{IsExact, nothing}
 use Rattle.strm_image.specs.Messages.{any}
 use Rattle.strm_image.specs.Modules.{termios, termios_of, termios_parts, winsize, winsize_of, winsize_parts, is_column, ldterm, ldterm_of}
-use Rattle.strm_image.specs.Modules.{ldterm_parts, ptem, ptem_of, ptem_parts, alone, is_named, the_ptem, pckt_of, pckt_parts, are_settings, settings}
-use Rattle.strm_image.specs.Modules.{own_of, settings_of, may_stand, module_body, module_format, module_below, next_names, are_few, modules}
+use Rattle.strm_image.specs.Modules.{ldterm_parts, ptem, ptem_of, ptem_parts, is_kind_of, the_ldterm, the_ptem, pckt_of, pckt_parts, are_settings}
+use Rattle.strm_image.specs.Modules.{settings, own_of, settings_of, kind_body, pair, pair_of, pair_parts, standing_of, standing_parts, may_stand}
+use Rattle.strm_image.specs.Modules.{module_body, module_format, module_below, next_names, are_few, modules}
 use Rattle.strm_image.proofs.CodeRows.{flag_exact, module_kind_exact}
 use Rattle.strm_image.proofs.Formats.{byte_exact, nothing_exact, u16_exact, u32_exact, bytes_exact, bytes_long, octets_exact, octets_long, only_exact}
-use Rattle.strm_image.proofs.Formats.{chain_exact, chain_long, counted_exact, tagged_exact, then_exact, made_exact, IsMade}
+use Rattle.strm_image.proofs.Formats.{chain_exact, chain_long, counted_exact, if_there_exact, tagged_exact, then_exact, made_exact, IsMade}
 use Rattle.strm_image.proofs.QueueRows.{queue_exact}
 
 pub termios_exact : IsExact termios
@@ -29,7 +29,7 @@ unfolding winsize
 winsize_exact = made_exact any winsize_of winsize_parts _ (then_exact _ _ u16_exact (then_exact _ _ u16_exact (then_exact _ _ u16_exact u16_exact))) (record { back = λ x fits. (refl, refl); whole = λ y shape. refl })
 
 -- ldterm between two turns is what its text tells
-ldterm_whole : (l : Discipline ℕ) → ldterm_rests (by_itself l) ≡ true → ldterm_of (ldterm_parts l) ≡ l
+ldterm_whole : (l : Ldterm ℕ) → ldterm_rests l ≡ true → ldterm_of (ldterm_parts l) ≡ l
 ldterm_whole l rests =
     let p = and_parts _ _ rests in
     let q = and_parts _ _ p.1 in
@@ -46,10 +46,10 @@ ldterm_whole l rests =
     at None [] false (Begun started x) a b c d = absurd cc
     at None [] false (Answered bytes) a b c d = absurd cc
 
-pub ldterm_exact : (v : Version) → IsExact (ldterm v)
+pub ldterm_exact : IsExact ldterm
 unfolding ldterm
-ldterm_exact v = made_exact (λ l. ldterm_rests (by_itself l)) ldterm_of ldterm_parts _
-    (then_exact _ _ termios_exact (then_exact _ _ flag_exact (then_exact _ _ flag_exact (then_exact _ _ (only_exact _ u32_exact is_column) (then_exact _ _ (counted_exact _ _ byte_exact bytes_exact bytes_long) (then_exact _ _ (queue_exact v queues.LdtermRead) (queue_exact v queues.LdtermWrite)))))))
+ldterm_exact = made_exact (λ l. ldterm_rests l) ldterm_of ldterm_parts _
+    (then_exact _ _ termios_exact (then_exact _ _ flag_exact (then_exact _ _ flag_exact (then_exact _ _ (only_exact _ u32_exact is_column) (counted_exact _ _ byte_exact bytes_exact bytes_long)))))
     (record { back = λ x fits. (refl, refl); whole = ldterm_whole })
 
 pub ptem_exact : IsExact ptem
@@ -60,64 +60,69 @@ pub settings_exact : IsExact settings
 unfolding settings
 settings_exact = counted_exact _ _ (only_exact _ u16_exact are_settings) octets_exact octets_long
 
--- a module of a name, with its queues where it has any, is what its parts make
-ldterm_back : (part : Module ℕ) (queues : Option (QueuePair ℕ)) → is_named names.Ldterm (stood part queues) ≡ true → ldterm_stands (discipline_of (stood part queues)) ≡ stood part queues
-ldterm_back (OfLdterm l) (Some pair) e = refl
-ldterm_back (OfLdterm l) None e = absurd cc
-ldterm_back (OfPtem p) queues e = absurd cc
-ldterm_back (OfPckt p) queues e = absurd cc
-ldterm_back (OfOwn o) queues e = absurd cc
+-- ---- what a module of a name is by itself is what its parts make
 
-ptem_back : (part : Module ℕ) (queues : Option (QueuePair ℕ)) → is_named names.Ptem (stood part queues) ≡ true → alone (OfPtem (the_ptem (stood part queues))) ≡ stood part queues
-ptem_back (OfPtem p) None e = refl
-ptem_back (OfPtem p) (Some pair) e = absurd cc
-ptem_back (OfLdterm l) queues e = absurd cc
-ptem_back (OfPckt p) queues e = absurd cc
-ptem_back (OfOwn o) queues e = absurd cc
+ldterm_back : (x : Module ℕ) → is_kind_of names.Ldterm x ≡ true → OfLdterm (the_ldterm x) ≡ x
+ldterm_back (OfLdterm l) e = refl
+ldterm_back (OfPtem p) e = absurd cc
+ldterm_back (OfPckt p) e = absurd cc
+ldterm_back (OfOwn o) e = absurd cc
 
-pckt_back : (part : Module ℕ) (queues : Option (QueuePair ℕ)) → is_named names.Pckt (stood part queues) ≡ true → pckt_of (pckt_parts (stood part queues)) ≡ stood part queues
-pckt_back (OfPckt p) None e = refl
-pckt_back (OfPckt p) (Some pair) e = absurd cc
-pckt_back (OfLdterm l) queues e = absurd cc
-pckt_back (OfPtem p) queues e = absurd cc
-pckt_back (OfOwn o) queues e = absurd cc
+ptem_back : (x : Module ℕ) → is_kind_of names.Ptem x ≡ true → OfPtem (the_ptem x) ≡ x
+ptem_back (OfPtem p) e = refl
+ptem_back (OfLdterm l) e = absurd cc
+ptem_back (OfPckt p) e = absurd cc
+ptem_back (OfOwn o) e = absurd cc
 
-own_back : (n : ℕ) (part : Module ℕ) (queues : Option (QueuePair ℕ))
-    → is_named (names.Own n) (stood part queues) ≡ true → own_of n (settings_of (stood part queues)) ≡ stood part queues
-own_back n (OfOwn o) None e =
-    let same : o.number ≡ n = eqb-true o.number n (and_parts (same_module (names.Own o.number) (names.Own n)) _ e).0 in
-    ap (λ number. own_of number o.settings) (sym same)
-own_back n (OfOwn o) (Some pair) e = absurd (false≢true (and_parts (same_module (names.Own o.number) (names.Own n)) false e).1)
-own_back n (OfLdterm l) queues e = absurd cc
-own_back n (OfPtem p) queues e = absurd cc
-own_back n (OfPckt p) queues e = absurd cc
+pckt_back : (x : Module ℕ) → is_kind_of names.Pckt x ≡ true → pckt_of (pckt_parts x) ≡ x
+pckt_back (OfPckt p) e = refl
+pckt_back (OfLdterm l) e = absurd cc
+pckt_back (OfPtem p) e = absurd cc
+pckt_back (OfOwn o) e = absurd cc
 
-ldterm_made : (v : Version) → IsMade (is_named names.Ldterm) ldterm_stands discipline_of (ldterm v)
-ldterm_made v = record { back = λ x fits. (refl, refl); whole = λ m shape. ldterm_back m.part m.queues shape }
+own_back : (n : ℕ) (x : Module ℕ) → is_kind_of (names.Own n) x ≡ true → own_of n (settings_of x) ≡ x
+own_back n (OfOwn o) e = ap (λ number. own_of number o.settings) (sym (eqb-true o.number n e))
+own_back n (OfLdterm l) e = absurd cc
+own_back n (OfPtem p) e = absurd cc
+own_back n (OfPckt p) e = absurd cc
 
-ptem_made : IsMade (is_named names.Ptem) (λ p. alone (OfPtem p)) the_ptem ptem
-ptem_made = record { back = λ x fits. (refl, refl); whole = λ m shape. ptem_back m.part m.queues shape }
+ldterm_made : IsMade (is_kind_of names.Ldterm) (λ l. OfLdterm l) the_ldterm ldterm
+ldterm_made = record { back = λ x fits. (refl, refl); whole = ldterm_back }
 
-pckt_made : IsMade (is_named names.Pckt) pckt_of pckt_parts (nothing tt)
-pckt_made = record { back = λ x fits. (refl, refl); whole = λ m shape. pckt_back m.part m.queues shape }
+ptem_made : IsMade (is_kind_of names.Ptem) (λ p. OfPtem p) the_ptem ptem
+ptem_made = record { back = λ x fits. (refl, refl); whole = ptem_back }
 
-own_made : (n : ℕ) → IsMade (is_named (names.Own n)) (own_of n) settings_of settings
-own_made n = record {
-  back = λ x fits. (refl, and_from _ _ (same_module-self (names.Own n)) refl);
-  whole = λ m shape. own_back n m.part m.queues shape;
-}
+pckt_made : IsMade (is_kind_of names.Pckt) pckt_of pckt_parts (nothing tt)
+pckt_made = record { back = λ x fits. (refl, refl); whole = pckt_back }
+
+own_made : (n : ℕ) → IsMade (is_kind_of (names.Own n)) (own_of n) settings_of settings
+own_made n = record { back = λ x fits. (refl, same_module-self (names.Own n)); whole = own_back n }
+
+kind_exact : (name : ModuleName) → IsExact (kind_body name)
+kind_exact names.Ldterm = made_exact _ _ _ _ ldterm_exact ldterm_made
+kind_exact names.Ptem = made_exact _ _ _ _ ptem_exact ptem_made
+kind_exact names.Pckt = made_exact _ _ _ _ (nothing_exact tt (λ y. refl)) pckt_made
+kind_exact (names.Own n) = made_exact _ _ _ _ settings_exact (own_made n)
+
+pub kind_named : (name : ModuleName) (x : Module ℕ) → (kind_body name).fits x ≡ true → kind_name x ≡ name
+kind_named names.Ldterm x fits = same_module-sound (kind_name x) names.Ldterm (and_parts (is_kind_of names.Ldterm x) _ fits).0
+kind_named names.Ptem x fits = same_module-sound (kind_name x) names.Ptem (and_parts (is_kind_of names.Ptem x) _ fits).0
+kind_named names.Pckt x fits = same_module-sound (kind_name x) names.Pckt (and_parts (is_kind_of names.Pckt x) _ fits).0
+kind_named (names.Own n) x fits = same_module-sound (kind_name x) (names.Own n) (and_parts (is_kind_of (names.Own n) x) _ fits).0
+
+-- ---- modules with their queues
+
+pair_exact : (v : Version) → IsExact (pair v)
+unfolding pair
+pair_exact v = made_exact any pair_of pair_parts _ (then_exact _ _ (queue_exact v queues.ModuleRead) (queue_exact v queues.ModuleWrite))
+    (record { back = λ x fits. (refl, refl); whole = λ y shape. refl })
 
 body_exact : (v : Version) (name : ModuleName) → IsExact (module_body v name)
-body_exact v names.Ldterm = made_exact _ _ _ _ (ldterm_exact v) (ldterm_made v)
-body_exact v names.Ptem = made_exact _ _ _ _ ptem_exact ptem_made
-body_exact v names.Pckt = made_exact _ _ _ _ (nothing_exact tt (λ y. refl)) pckt_made
-body_exact v (names.Own n) = made_exact _ _ _ _ settings_exact (own_made n)
+body_exact v name = made_exact any standing_of standing_parts _ (then_exact _ _ (kind_exact name) (if_there_exact _ (pair_exact v) (have_queues name)))
+    (record { back = λ x fits. (refl, refl); whole = λ y shape. refl })
 
 body_named : (v : Version) (name : ModuleName) (m : Standing ℕ) → (module_body v name).fits m ≡ true → module_name m ≡ name
-body_named v names.Ldterm m fits = same_module-sound (module_name m) names.Ldterm (and_parts _ _ (and_parts _ _ fits).0).0
-body_named v names.Ptem m fits = same_module-sound (module_name m) names.Ptem (and_parts _ _ (and_parts _ _ fits).0).0
-body_named v names.Pckt m fits = same_module-sound (module_name m) names.Pckt (and_parts _ _ (and_parts _ _ fits).0).0
-body_named v (names.Own n) m fits = same_module-sound (module_name m) (names.Own n) (and_parts _ _ (and_parts _ _ fits).0).0
+body_named v name m fits = kind_named name m.part (and_parts ((kind_body name).fits m.part) _ fits).0
 
 pub module_exact : (v : Version) → IsExact (module_format v)
 unfolding module_format

@@ -8,6 +8,5 @@ pub use Rattle.std.proofs.lemmas.List.{append-nil, length-append, map_push, nil_
 pub use Rattle.std.proofs.lemmas.List.Concat.{flat_map-cons}
 pub use Rattle.std.proofs.lemmas.List.Sums.{sum_by-append, sum_by-cons}
 pub use Rattle.std.specs.Prelude.{is_some, nat_lt, replicate, ◌^◌}
-pub use Rattle.strm_laws.proofs.GoodLdterms.{GoodDiscipline, good-with}
 pub use Rattle.strm_laws.proofs.StackOnce.{top-times}
 pub use Rattle.strm_types.proofs.SignalRoom.{signals-fit, times, times-cons}

@@ -1,34 +1,32 @@
 -- How long the texts of version 2 are at most.
-use Rattle.strm_image.proofs.Prelude.{◌≡◌, ℕ, ◌≤◌, ◌+◌, ◌*◌, Bool, true, false, not, cond, List, [], ◌∷◌, ◌++◌, length, map, Option, None, Some, refl}
-use Rattle.strm_image.proofs.Prelude.{sym, arith, false≢true, nat_lt, length-append, flat_map-cons, sum_by-append, sum_by-cons, GoodDiscipline}
-use Rattle.strm_image.proofs.Prelude.{good-with, signals-fit}
-use Rattle.strm_image.specs.Prelude.{BANDS, BLOCK_SIZE, HIGH_PRIORITY_RANK, IOCTL_MAX, MODULES, SETTINGS_MAX, SIGNAL_LAST, ModuleName, Openness, Side}
-use Rattle.strm_image.specs.Prelude.{Master, Slave, same_module}
-use Rattle.strm_image.specs.Prelude.{QueueName, RULES, Free, Waiting, Answered, Termios, Winsize, is_data_kind, Discipline, discipline, QueuePair}
-use Rattle.strm_image.specs.Prelude.{stood, Message, cells_of, part, size_of, AreQueues, IsOnce, is_master, Flow, Queue, bytes_of, AreSignals}
+use Rattle.strm_image.proofs.Prelude.{◌≡◌, ℕ, ◌≤◌, ◌+◌, ◌*◌, Bool, true, false, not, cond, List, [], ◌∷◌, ◌++◌, length, Option, None, Some, refl}
+use Rattle.strm_image.proofs.Prelude.{sym, arith, nat_lt, length-append, flat_map-cons, sum_by-append, sum_by-cons, signals-fit}
+use Rattle.strm_image.specs.Prelude.{BANDS, BLOCK_SIZE, HIGH_PRIORITY_RANK, IOCTL_MAX, MODULES, SETTINGS_MAX, SIGNAL_LAST, ModuleName, Openness, Place}
+use Rattle.strm_image.specs.Prelude.{Side, Master, Slave}
+use Rattle.strm_image.specs.Prelude.{QueueName, RULES, Free, Waiting, Answered, Termios, Winsize, is_data_kind, QueuePair}
+use Rattle.strm_image.specs.Prelude.{stood, Message, cells_of, part, size_of, is_master, Flow, Queue, bytes_of, AreSignals}
 use Rattle.strm_image.specs.Prelude.{PlainSlot}
-use Rattle.strm_image.specs.Prelude.{answer_bytes, GoodModule, GoodModules, GoodStream, IsWhole, EachOnce, stands_of, Module, OfLdterm, OfPtem}
-use Rattle.strm_image.specs.Prelude.{OfOwn, OfPckt, Standing}
+use Rattle.strm_image.specs.Prelude.{answer_bytes, GoodKind, GoodModule, GoodModules, GoodStream, IsWhole, Module, OfLdterm, OfPtem}
+use Rattle.strm_image.specs.Prelude.{OfOwn, OfPckt, Standing, kind_name}
 use Rattle.strm_image.specs.Prelude.{module_name, module_queues, queues_of_modules, Stream, messages_in, queues_of, stream, stream_queues, IsWithin}
 use Rattle.std.specs.List.{AllByRecursion, sum_by}
-use Rattle.std.proofs.lemmas.List.{length-map}
 use Rattle.std.proofs.Math.Nat.{suc-mul, zero-mul}
 use Rattle.strm_types.specs.declared.keys.TheConstants.{LINE_MAX}
 use Rattle.strm_types.specs.declared.names.ModuleName.TheVariants as names
-use Rattle.strm_image.specs.declared.lengths.TheConstants.{IMAGE_BLOCK, IMAGE_FIXED, MESSAGE_FIXED, OWN_FIXED, QUEUE_FIXED, STREAM_FIXED}
+use Rattle.strm_types.specs.declared.names.Place.TheVariants as places
+use Rattle.strm_laws.proofs.EnabledFew.{restorable-few}
+use Rattle.strm_image.specs.declared.lengths.TheConstants.{IMAGE_BLOCK, IMAGE_FIXED, MESSAGE_FIXED, MODULE_FIXED, QUEUE_FIXED, STREAM_FIXED}
 use Rattle.strm_image.specs.declared.versions.QueueKind.{QueueKind}
 use Rattle.strm_image.specs.declared.versions.QueueKind.TheVariants as queues
 use Rattle.strm_image.specs.declared.versions.Version.TheVariants.{Second}
-use Rattle.strm_image.specs.Codes.{control_mode, flag, kind, module_kind, name_kind, openness, place, read_mode, side, version, way}
-use Rattle.strm_image.specs.Format.{Format, always, byte, keep, text_from, u16, u32, u64}
+use Rattle.strm_image.specs.Codes.{control_mode, flag, kind, module_kind, name_kind, openness, place, place_kind, read_mode, side, version, way}
+use Rattle.strm_image.specs.Format.{Format, always, byte, keep, text_from, text_there, u16, u32, u64}
 use Rattle.strm_image.specs.HasImage.{HasImage, bytes_in}
 use Rattle.strm_image.specs.Image.{Account, Imaged, account, body, enabled, enabled_behind, image, laid_on, mark, next_enabled, queue_name, rule_counts}
 use Rattle.strm_image.specs.Messages.{message, message_behind, messages, next_rank, part as part_text, parts_with}
-use Rattle.strm_image.specs.Modules.{ldterm, module_below, module_format, modules, next_names, ptem, settings, termios, winsize}
+use Rattle.strm_image.specs.Modules.{kind_body, ldterm, module_below, module_format, modules, next_names, pair, ptem, settings, termios, winsize}
 use Rattle.strm_image.specs.Queues.{first_flow, flags, flow, flows, list_out, listed_behind, next_band, queue}
 use Rattle.strm_image.specs.Streams.{HeadBits, bits, bits_of, group_if, head_bits, laid, signals, slot, slot_kind}
-use Rattle.strm_image.proofs.FitImages.{are_queues, few_names}
-use Rattle.strm_image.proofs.FitStreams.{is_names_count, names_count, names_once}
 use Rattle.strm_image.proofs.Fitting.{all_back, all_flat, all_front}
 use Rattle.strm_image.proofs.LaterRows.{listed_few}
 
@@ -137,83 +135,57 @@ flag_length : (b : Bool) → AtMost 1 (flag.text b)
 unfolding flag
 flag_length b = short 1 _ (omega arith)
 
-ldterm_length : (l : Discipline ℕ) → GoodDiscipline l → HasBands l.read_queue → HasBands l.write_queue → AtMost (297 + 2 * QUEUE_FIXED + (load l.read_queue + load l.write_queue)) ((ldterm Second).text l)
-unfolding ldterm
-ldterm_length l good reads writes =
+-- what a module takes by itself, behind its kind
+kind_length : (x : Module ℕ) → GoodKind x → AtMost (2 + SETTINGS_MAX) ((kind_body (kind_name x)).text x)
+unfolding ldterm ptem settings
+kind_length (OfLdterm l) good =
     let line = behind (short 1 (byte.text (length l.line)) (omega arith)) (short LINE_MAX l.line good.line) in
-    let both = behind (queue_length queues.LdtermRead l.read_queue reads) (queue_length queues.LdtermWrite l.write_queue writes) in
-    within (behind (termios_length l.termios good.termios) (behind (flag_length l.stopped) (behind (flag_length l.after_lnext) (behind (short 4 (u32.text l.column) (omega arith)) (behind line both))))) (omega arith)
+    within (behind (termios_length l.termios good.termios) (behind (flag_length l.stopped) (behind (flag_length l.after_lnext) (behind (short 4 (u32.text l.column) (omega arith)) line)))) (omega arith)
+kind_length (OfPtem p) good = within (behind (termios_length p.termios good) (winsize_length p.window)) (omega arith)
+kind_length (OfPckt p) good = short _ [] (omega arith)
+kind_length (OfOwn o) good = behind (short 2 (u16.text (length o.settings)) (omega arith)) (short SETTINGS_MAX o.settings good.few)
 
-settings_length : (bytes : List ℕ) → length bytes ≤ SETTINGS_MAX → AtMost (2 + SETTINGS_MAX) (settings.text bytes)
-unfolding settings
-settings_length bytes few = behind (short 2 (u16.text (length bytes)) (omega arith)) (short SETTINGS_MAX bytes few)
+name_length : (name : ModuleName) → AtMost 2 (module_kind.text name)
+unfolding module_kind name_kind
+name_length names.Ldterm = short 2 _ (omega arith)
+name_length names.Ptem = short 2 _ (omega arith)
+name_length names.Pckt = short 2 _ (omega arith)
+name_length (names.Own n) = short 2 _ (omega arith)
 
--- what a module takes beside the messages of its queues
-size : ModuleName → ℕ
-size names.Ldterm = 298 + 2 * QUEUE_FIXED
-size names.Ptem = 44
-size names.Pckt = 1
-size (names.Own n) = OWN_FIXED
+pair_length : (x : Module ℕ) (own : Option (QueuePair ℕ)) → AllByRecursion HasBands (module_queues (stood x own))
+    → AtMost (2 * QUEUE_FIXED + sum_by load (module_queues (stood x own))) (text_there (pair Second) own)
+unfolding pair
+pair_length x None banded = short _ [] (omega arith)
+pair_length x (Some both) banded =
+    within (behind (queue_length queues.ModuleRead both.read banded.0) (queue_length queues.ModuleWrite both.write banded.1.0))
+    (omega (arith, sum_by-cons load both.read (both.write ∷ []), sum_by-cons load both.write []))
 
 weigh : Standing ℕ → ℕ
-weigh p = size (module_name p) + sum_by load (module_queues p)
-
-kind_length : (part : Module ℕ) (queues : Option (QueuePair ℕ)) → GoodModule (stood part queues) → AllByRecursion HasBands (module_queues (stood part queues))
-    → AtMost (weigh (stood part queues)) ((module_format Second).text (stood part queues))
-unfolding module_format module_kind name_kind ptem size weigh
-kind_length (OfLdterm l) None good banded = absurd (false≢true good.has)
-kind_length (OfLdterm l) (Some pair) good banded =
-    within (behind (short 1 (module_kind.text names.Ldterm) (omega arith)) (ldterm_length (discipline l pair) (good-with l (Some pair) good.kind good.queues) banded.0 banded.1.0))
-    (omega (arith, sum_by-cons load pair.read (pair.write ∷ []), sum_by-cons load pair.write []))
-kind_length (OfPtem p) queues good banded = within (behind (short 1 (module_kind.text names.Ptem) (omega arith)) (behind (termios_length p.termios good.kind) (winsize_length p.window))) (omega arith)
-kind_length (OfPckt p) queues good banded = short _ _ (omega arith)
-kind_length (OfOwn o) queues good banded =
-    within (behind (short 2 (module_kind.text (names.Own o.number)) (omega arith)) (settings_length o.settings good.kind.few)) (omega arith)
+weigh p = MODULE_FIXED + sum_by load (module_queues p)
 
 module_length : (p : Standing ℕ) → GoodModule p → AllByRecursion HasBands (module_queues p) → AtMost (weigh p) ((module_format Second).text p)
-module_length p good banded = kind_length p.part p.queues good banded
+unfolding module_format weigh
+module_length p good banded =
+    within (behind (name_length (module_name p)) (behind (kind_length p.part good.kind) (pair_length p.part p.queues banded))) (omega arith)
 
 each_length : (ps : List (Standing ℕ)) → AllByRecursion GoodModule ps → AllByRecursion (λ p. AllByRecursion HasBands (module_queues p)) ps → AllByRecursion (IsWeighed next_names (module_below Second) weigh) ps
 unfolding module_below IsWeighed
 each_length [] good banded = tt
 each_length (p ∷ ps) good banded = (λ above. module_length p good.0 banded.0, each_length ps good.1 banded.1)
 
--- ldterm is longer than one of a user's own, and no other one is
-one_weighs : (n : ModuleName)
-    → size n + OWN_FIXED * cond (same_module n names.Ldterm) 1 0 ≤ OWN_FIXED + size names.Ldterm * cond (same_module n names.Ldterm) 1 0
-unfolding size
-one_weighs names.Ldterm = omega arith
-one_weighs names.Ptem = omega arith
-one_weighs names.Pckt = omega arith
-one_weighs (names.Own n) = omega arith
-
--- by how many stand there, and how often ldterm does
-sizes_most : (on : List ModuleName)
-    → sum_by size on + OWN_FIXED * names_count names.Ldterm on ≤ OWN_FIXED * length on + size names.Ldterm * names_count names.Ldterm on
-unfolding size
-sizes_most [] = omega (arith, is_names_count.none names.Ldterm)
-sizes_most (n ∷ ns) = omega (arith, sum_by-cons size n ns, is_names_count.more names.Ldterm n ns, one_weighs n, sizes_most ns)
-
--- three at most, of which ldterm is one at most
-sizes_once : (on : List ModuleName) → EachOnce on → length on ≤ MODULES → sum_by size on ≤ 298 + 2 * QUEUE_FIXED + 2 * OWN_FIXED
-unfolding size
-sizes_once on each few = omega (arith, sizes_most on, names_once on each names.Ldterm, few)
-
-modules_weigh : (ps : List (Standing ℕ)) → sum_by weigh ps ≡ sum_by size (map module_name ps) + sum_by load (queues_of_modules ps)
+modules_weigh : (ps : List (Standing ℕ)) → sum_by weigh ps ≡ MODULE_FIXED * length ps + sum_by load (queues_of_modules ps)
 modules_weigh [] = omega arith
 modules_weigh (p ∷ ps) =
-    let one : weigh p ≡ size (module_name p) + sum_by load (module_queues p) = unfold weigh in refl in
+    let one : weigh p ≡ MODULE_FIXED + sum_by load (module_queues p) = unfold weigh in refl in
     let split : sum_by load (queues_of_modules (p ∷ ps)) ≡ sum_by load (module_queues p) + sum_by load (queues_of_modules ps) = rw (flat_map-cons module_queues p ps) (sum_by-append load (module_queues p) (queues_of_modules ps)) in
-    omega (arith, sum_by-cons weigh p ps, one, split, sum_by-cons size (module_name p) (map module_name ps), modules_weigh ps)
+    omega (arith, sum_by-cons weigh p ps, one, split, modules_weigh ps)
 
 modules_length : (ps : List (Standing ℕ)) → GoodModules ps → AllByRecursion (λ p. AllByRecursion HasBands (module_queues p)) ps
-    → AtMost (299 + 2 * QUEUE_FIXED + 2 * OWN_FIXED + sum_by load (queues_of_modules ps)) ((modules Second).text ps)
+    → AtMost (1 + MODULES * MODULE_FIXED + sum_by load (queues_of_modules ps)) ((modules Second).text ps)
 unfolding modules
 modules_length ps good banded =
-    let few : length (map module_name ps) ≤ MODULES = omega (arith, length-map ps module_name, good.few) in
     let each = texts next_names (module_below Second) weigh ps (each_length ps good.each banded) [] in
-    within (behind (short 1 (byte.text (length ps)) (omega arith)) each)
-    (omega (arith, sizes_once (map module_name ps) good.once few, modules_weigh ps))
+    within (behind (short 1 (byte.text (length ps)) (omega arith)) each) (omega (arith, modules_weigh ps, good.few))
 
 -- ---- streams
 
@@ -251,13 +223,22 @@ laid_length side t good heads banded =
 
 -- ---- images
 
-name_length : (before : List QueueName) (n : QueueName) → AtMost 3 ((enabled_behind before).text n)
-unfolding enabled_behind queue_name side place way
-name_length before n = short 3 _ (omega arith)
+place_length : (p : Place) → AtMost 2 (place.text p)
+unfolding place place_kind
+place_length places.Head = short 2 _ (omega arith)
+place_length (places.Module names.Ldterm) = short 2 _ (omega arith)
+place_length (places.Module names.Ptem) = short 2 _ (omega arith)
+place_length (places.Module names.Pckt) = short 2 _ (omega arith)
+place_length (places.Module (names.Own n)) = short 2 _ (omega arith)
+place_length places.Driver = short 2 _ (omega arith)
 
-enabled_length : (ns : List QueueName) → IsOnce ns → AreQueues ns → AtMost 37 (enabled.text ns)
+queue_name_length : (before : List QueueName) (n : QueueName) → AtMost 4 ((enabled_behind before).text n)
+unfolding enabled_behind queue_name side way
+queue_name_length before n = behind (short 1 (side.text n.side) (omega arith)) (behind (place_length n.place) (short 1 (way.text n.way) (omega arith)))
+
+enabled_length : (ns : List QueueName) → length ns ≤ 14 → AtMost 57 (enabled.text ns)
 unfolding enabled
-enabled_length ns once are = within (behind (short 1 (byte.text (length ns)) (omega arith)) (alike_texts next_enabled enabled_behind 3 name_length ns [])) (omega (arith, few_names ns once are))
+enabled_length ns few = within (behind (short 1 (byte.text (length ns)) (omega arith)) (alike_texts next_enabled enabled_behind 4 queue_name_length ns [])) (omega (arith, few))
 
 account_length : (a : Account) → length a.fates ≡ RULES → AtMost 184 (account.text a)
 unfolding account rule_counts
@@ -275,7 +256,7 @@ loads (q ∷ qs) =
     let one : load q ≡ MESSAGE_FIXED * length q.messages + bytes_of q.messages = unfold load in refl in
     omega (arith, one, loads qs, sum_by-cons load q qs, sum_by-cons (λ (p : Queue ℕ). length p.messages) q qs, sum_by-cons (λ (p : Queue ℕ). bytes_of p.messages) q qs)
 
-body_length : (x : Imaged) → HasImage x → AtMost (412 + 2 * STREAM_FIXED + sum_by load (queues_of x.state)) ((body Second).text x)
+body_length : (x : Imaged) → HasImage x → AtMost (432 + 2 * STREAM_FIXED + sum_by load (queues_of x.state)) ((body Second).text x)
 unfolding body HasBands
 body_length x h =
     let s = x.state in
@@ -285,7 +266,7 @@ body_length x h =
     let master = laid_length Master s.ends.master (r.streams Master) (r.heads Master) (all_front HasBands of_master of_slave h.banded) in
     let slave = laid_length Slave s.ends.slave (r.streams Slave) (r.heads Slave) (all_back HasBands of_master of_slave h.banded) in
     let ledgers = behind (account_length (record { book = s.books.master; fates = x.fates.master }) (h.gone Master).all) (account_length (record { book = s.books.slave; fates = x.fates.slave }) (h.gone Slave).all) in
-    within (behind (openness_length s.ends.master.opened) (behind (openness_length s.ends.slave.opened) (behind (flag_length s.locked) (behind (short 4 (u32.text s.next_ioctl) (omega arith)) (behind master (behind slave (behind (enabled_length s.enabled r.enabled.once (are_queues (stands_of s) s.enabled r.enabled.there)) ledgers)))))))
+    within (behind (openness_length s.ends.master.opened) (behind (openness_length s.ends.slave.opened) (behind (flag_length s.locked) (behind (short 4 (u32.text s.next_ioctl) (omega arith)) (behind master (behind slave (behind (enabled_length s.enabled (restorable-few s r)) ledgers)))))))
     (omega (arith, sum_by-append load of_master of_slave))
 
 pub image_length : (x : Imaged) → HasImage x → length (image.text (Second, x)) ≤ IMAGE_FIXED + (MESSAGE_FIXED * messages_in x.state + bytes_in x.state)
@@ -298,5 +279,5 @@ pub image_length_in : (x : Imaged) (blocks : ℕ) → HasImage x → messages_in
 image_length_in x blocks h few small = let all = image_length x h in omega (arith, all, few, small)
 
 -- as docs/IMAGES.md has them
-pub sizes-in-numbers : IMAGE_FIXED ∷ MESSAGE_FIXED ∷ IMAGE_BLOCK ∷ [] ≡ 23473 ∷ 12 ∷ 268 ∷ []
+pub sizes-in-numbers : IMAGE_FIXED ∷ MESSAGE_FIXED ∷ IMAGE_BLOCK ∷ [] ≡ 44081 ∷ 12 ∷ 268 ∷ []
 sizes-in-numbers = refl

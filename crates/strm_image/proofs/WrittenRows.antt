@@ -1,8 +1,8 @@
 -- The texts of the formats in pieces, as writers put them.
-use Rattle.strm_image.proofs.Prelude.{◌≡◌, ◌∙◌, ℕ, suc, ◌+◌, ◌<◌, Bool, true, false, cond, List, [], ◌∷◌, ◌++◌, length, drop, get_or, refl, sym, ap}
+use Rattle.strm_image.proofs.Prelude.{◌≡◌, ◌∙◌, ℕ, suc, ◌+◌, ◌<◌, Bool, true, false, cond, List, [], ◌∷◌, ◌++◌, length, drop, get_or, Option, None, Some, refl, sym, ap}
 use Rattle.strm_image.proofs.Prelude.{arith, append_assoc, append-nil, flat_map-cons}
-use Rattle.strm_image.specs.Prelude.{BANDS, QueueName, Marks, Discipline, Message, Own, Ptem, Flow, Queue, OfOwn, OfPtem, OfPckt, Standing}
-use Rattle.strm_image.specs.Prelude.{ldterm_stands}
+use Rattle.strm_image.specs.Prelude.{BANDS, QueueName, Marks, Discipline, Message, Own, Ptem, Flow, Queue, QueuePair, OfOwn, OfPtem, OfPckt}
+use Rattle.strm_image.specs.Prelude.{Standing, ldterm_stands, stood}
 use Rattle.std.specs.List.{flat_map}
 use Rattle.std.proofs.Math.Seq.{drop-cons}
 use Rattle.std.proofs.lemmas.List.{drop_all}
@@ -14,11 +14,11 @@ use Rattle.strm_image.specs.Codes.{module_kind, version}
 use Rattle.strm_image.specs.Format.{always, byte, keep, u32, u64, ◌then◌}
 use Rattle.strm_image.specs.Image.{Imaged, body, enabled, enabled_behind, image, next_enabled, queue_name, rule_counts}
 use Rattle.strm_image.specs.Messages.{message, message_behind, messages, next_rank}
-use Rattle.strm_image.specs.Modules.{alone, ldterm, module_below, module_format, modules, next_names, ptem, settings}
+use Rattle.strm_image.specs.Modules.{alone, ldterm, module_below, module_format, modules, next_names, pair, ptem, settings}
 use Rattle.strm_image.specs.Queues.{flow, listed, no_flow, queue, same_flow, IsNoneFrom, RestAbove}
 use Rattle.strm_image.specs.Sinks.{Given, put}
 use Rattle.strm_image.specs.Streams.{Laid, laid}
-use Rattle.strm_image.specs.Written.{image_text, laid_text, ldterm_text, queue_text}
+use Rattle.strm_image.specs.Written.{image_text, laid_text, ldterm_text, pair_text, queue_text}
 use Rattle.strm_image.proofs.BandRows.{same_flow_is, same_flow_refl}
 use Rattle.strm_image.proofs.Formats.{text_flat}
 use Rattle.strm_image.proofs.SinkRows.{put_both, put_nothing}
@@ -95,20 +95,22 @@ unfolding queue
 queue_told at q = refl
 
 pub ldterm_told : (l : Discipline ℕ) → (module_format Second).text (ldterm_stands l) ≡ ldterm_text l
-unfolding module_format ldterm
-ldterm_told l = refl
+unfolding module_format ldterm pair
+ldterm_told l = simp append_assoc refl
 
 pub ptem_told : (p : Ptem) → (module_format Second).text (alone (OfPtem p)) ≡ module_kind.text names.Ptem ++ ptem.text p
 unfolding module_format
-ptem_told p = refl
+ptem_told p = ap (λ t. module_kind.text names.Ptem ++ t) (append-nil (ptem.text p))
 
 pub pckt_told : (p : Pckt) → (module_format Second).text (alone (OfPckt p)) ≡ module_kind.text names.Pckt
 unfolding module_format
 pckt_told p = append-nil (module_kind.text names.Pckt)
 
-pub own_told : (o : Own) → (module_format Second).text (alone (OfOwn o)) ≡ module_kind.text (names.Own o.number) ++ settings.text o.settings
-unfolding module_format
-own_told o = refl
+pub own_told : (o : Own) (queues : Option (QueuePair ℕ)) → (module_format Second).text (stood (OfOwn o) queues)
+    ≡ module_kind.text (names.Own o.number) ++ (settings.text o.settings ++ pair_text queues)
+unfolding module_format pair
+own_told o None = refl
+own_told o (Some both) = refl
 
 pub laid_told : (is_slave : Bool) (t : Laid) → (laid Second is_slave).text t ≡ laid_text is_slave t
 unfolding laid

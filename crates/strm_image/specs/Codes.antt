@@ -1,7 +1,7 @@
 -- Values that stand in an image as one byte each, or as one and a number behind it.
-use Rattle.std.specs.Prelude.{ℕ, Bool, true, false, ◌==◌, List, [], ◌∷◌}
+use Rattle.std.specs.Prelude.{ℕ, Bool, true, false, ◌==◌, ◌&&◌, nat_le, List, [], ◌∷◌}
 use Rattle.strm_image.specs.Prelude.{MsgKind, ControlMode, ReadMode, ModuleName, Openness, Never, Open, Closed, Place, Side, Master, Slave, Way, Up}
-use Rattle.strm_image.specs.Prelude.{Down, has_queues_at, kind_number, mode_number}
+use Rattle.strm_image.specs.Prelude.{Down, OWN_QUEUED, has_queues_at, kind_number, mode_number}
 use Rattle.strm_types.specs.declared.kinds.MsgKind.TheVariants as kinds
 use Rattle.strm_types.specs.declared.modes.ControlMode.TheVariants as controls
 use Rattle.strm_types.specs.declared.modes.ReadMode.TheVariants as reads
@@ -9,9 +9,11 @@ use Rattle.strm_types.specs.declared.names.ModuleName.TheVariants as modules
 use Rattle.strm_types.specs.declared.names.Place.TheVariants as places
 use Rattle.strm_image.specs.declared.versions.NameKind.{NameKind}
 use Rattle.strm_image.specs.declared.versions.NameKind.TheVariants as name_kinds
+use Rattle.strm_image.specs.declared.versions.PlaceKind.{PlaceKind}
+use Rattle.strm_image.specs.declared.versions.PlaceKind.TheVariants as place_kinds
 use Rattle.strm_image.specs.declared.versions.Version.{Version}
 use Rattle.strm_image.specs.declared.versions.Version.TheVariants.{First, Second}
-use Rattle.strm_image.specs.Format.{Format, byte, coded, coded_where, made, nothing, tagged}
+use Rattle.strm_image.specs.Format.{Format, byte, coded, made, nothing, only, tagged}
 
 -- truth values
 abbrev pub flag_code : Bool → ℕ
@@ -56,14 +58,53 @@ side_code Slave = 1
 unfoldable pub side : Format Side
 side = coded side_code (Master ∷ Slave ∷ [])
 
--- places where queues stand: of modules ldterm alone has any
-abbrev pub place_code : Place → ℕ
-place_code places.Head = 0
-place_code (places.Module name) = 1
-place_code places.Driver = 2
+-- places where queues stand: of a module of a user's own the number stands behind its kind
+abbrev pub kind_of_place : Place → PlaceKind
+kind_of_place places.Head = place_kinds.Head
+kind_of_place (places.Module (modules.Own n)) = place_kinds.Own
+kind_of_place (places.Module name) = place_kinds.Ldterm
+kind_of_place places.Driver = place_kinds.Driver
+
+abbrev pub place_code : PlaceKind → ℕ
+place_code place_kinds.Head = 0
+place_code place_kinds.Ldterm = 1
+place_code place_kinds.Driver = 2
+place_code place_kinds.Own = 3
+
+abbrev pub all_places : List PlaceKind
+all_places = place_kinds.Head ∷ place_kinds.Ldterm ∷ place_kinds.Driver ∷ place_kinds.Own ∷ []
+
+unfoldable pub place_kind : Format PlaceKind
+place_kind = coded place_code all_places
+
+abbrev pub is_place_of : PlaceKind → Place → Bool
+is_place_of k p = place_code (kind_of_place p) == place_code k && has_queues_at p
+
+abbrev pub the_place : Place → Unit {0} → Place
+the_place p x = p
+
+abbrev pub no_place_parts : Place → Unit {0}
+no_place_parts p = tt
+
+abbrev pub own_place : ℕ → Place
+own_place n = places.Module (modules.Own n)
+
+abbrev pub number_at : Place → ℕ
+number_at (places.Module (modules.Own n)) = n
+number_at _ = 0
+
+-- the number of one that has queues
+abbrev pub is_queued : ℕ → Bool
+is_queued n = nat_le OWN_QUEUED n
+
+abbrev pub place_body : PlaceKind → Format Place
+place_body place_kinds.Head = made (is_place_of place_kinds.Head) (the_place places.Head) no_place_parts (nothing tt)
+place_body place_kinds.Ldterm = made (is_place_of place_kinds.Ldterm) (the_place (places.Module modules.Ldterm)) no_place_parts (nothing tt)
+place_body place_kinds.Driver = made (is_place_of place_kinds.Driver) (the_place places.Driver) no_place_parts (nothing tt)
+place_body place_kinds.Own = made (is_place_of place_kinds.Own) own_place number_at (only is_queued byte)
 
 unfoldable pub place : Format Place
-place = coded_where has_queues_at place_code (places.Head ∷ places.Module modules.Ldterm ∷ places.Driver ∷ [])
+place = tagged kind_of_place place_kind place_body
 
 -- a read queue, and a write queue
 abbrev pub way_code : Way → ℕ

@@ -104,8 +104,8 @@ message v = made is_message message_of message_parts (only (parts_fit v) (kind t
 -- the kinds that stand on a queue
 abbrev pub stands_at : QueueKind → MsgKind → Bool
 stands_at queues.Head k = is_data_kind k
-stands_at queues.LdtermRead k = waits_there k
-stands_at queues.LdtermWrite k = waits_there k || is_ioctl k
+stands_at queues.ModuleRead k = waits_there k
+stands_at queues.ModuleWrite k = waits_there k || is_ioctl k
 stands_at queues.Driver k = crosses k || is_ioctl k
 
 -- of a kind that stands on the queue, and of at most a rank

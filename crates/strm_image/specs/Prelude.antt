@@ -3,21 +3,21 @@ pub use Rattle.strm_laws.specs.Bases.{IsBase}
 pub use Rattle.strm_laws.specs.LdtermTurns.{ldterm_rests}
 pub use Rattle.strm_laws.specs.Ledgers.{FewBooked, inline, queued}
 pub use Rattle.strm_laws.specs.GoodMessages.{GoodMessage}
-pub use Rattle.strm_laws.specs.Restorable.{AreMarks, GoodModule, GoodModules, GoodQueue, GoodStream, IsShut, IsThere, IsWhole, StandsOn}
+pub use Rattle.strm_laws.specs.Restorable.{AreMarks, GoodKind, GoodModule, GoodModules, GoodPair, GoodQueue, GoodStream, IsShut, IsThere}
+pub use Rattle.strm_laws.specs.Restorable.{IsWhole, Restorable, StandsOn}
 pub use Rattle.strm_laws.specs.GoodMessages.{has_header, is_part_kind}
 pub use Rattle.strm_laws.specs.Restorable.{goes_out, is_there_among, stands_below}
 pub use Rattle.strm_laws.specs.StackCosts.{EachOnce, stands_of, times_there}
-pub use Rattle.strm_laws.specs.Stacked.{IsAtRest, Module, OfLdterm, OfOwn, OfPckt, OfPtem, Standing, ldterm_stands, module_line, module_name}
-pub use Rattle.strm_laws.specs.Stacked.{module_queues, queues_of_modules}
+pub use Rattle.strm_laws.specs.Stacked.{IsAtRest, KindRests, Module, OfLdterm, OfOwn, OfPckt, OfPtem, Standing, kind_name, ldterm_stands, module_line}
+pub use Rattle.strm_laws.specs.Stacked.{module_name, module_queues, queues_of_modules}
 pub use Rattle.strm_laws.specs.State.{State, Stream, book, messages_in, queues_of, stream, stream_queues}
-pub use Rattle.strm_laws.specs.TurnCalls.{discipline_of}
 pub use Rattle.strm_laws.specs.Within.{IsWithin}
 pub use Rattle.strm_types.specs.Both.{get}
 unfoldable pub use Rattle.strm_types.specs.Drivers.{crosses}
 unfoldable pub use Rattle.strm_types.specs.Flush.{is_data_kind}
 pub use Rattle.strm_types.specs.Heads.{Head}
 unfoldable pub use Rattle.strm_types.specs.Kinds.{is_body_kind, is_control_kind, kind_number}
-pub use Rattle.strm_types.specs.Ldterms.{Between, Discipline, IsIdle, Stage, by_itself, discipline, is_between, waits_there}
+pub use Rattle.strm_types.specs.Ldterms.{Between, Discipline, Ldterm, Rests, Stage, is_between, waits_there}
 pub use Rattle.strm_types.specs.Message.{Message, is_high_priority, is_part, part}
 unfoldable pub use Rattle.strm_types.specs.Message.{cells_of, rank_of, size_of}
 pub use Rattle.strm_types.specs.Modules.{stands}
@@ -38,8 +38,8 @@ pub use Rattle.strm_types.specs.declared.both.Both.{Both}
 pub use Rattle.strm_types.specs.declared.kinds.MsgKind.{MsgKind}
 pub use Rattle.strm_types.specs.declared.kinds.MsgKind.TheVariants.{Ctl, Data, Error, Flush, Hangup, Iocack, Iocnak, Ioctl, Pcproto, Pcsig, Proto}
 pub use Rattle.strm_types.specs.declared.kinds.MsgKind.TheVariants.{Read, Setopts, Sig, Start, Stop}
-pub use Rattle.strm_types.specs.declared.limits.TheConstants.{BANDS, BLOCK_SIZE, HIGH_PRIORITY_RANK, IOCTL_MAX, MODULES, SETTINGS_MAX}
-pub use Rattle.strm_types.specs.declared.limits.TheConstants.{SIGNAL_LAST}
+pub use Rattle.strm_types.specs.declared.limits.TheConstants.{BANDS, BLOCK_SIZE, HIGH_PRIORITY_RANK, IOCTL_MAX, MODULES, OWN_QUEUED}
+pub use Rattle.strm_types.specs.declared.limits.TheConstants.{SETTINGS_MAX, SIGNAL_LAST}
 pub use Rattle.strm_types.specs.declared.modes.ControlMode.{ControlMode}
 pub use Rattle.strm_types.specs.declared.modes.ReadMode.{ReadMode}
 pub use Rattle.strm_types.specs.declared.names.Dir.{Dir}

@@ -1,6 +1,6 @@
 -- What writers put, in pieces of the texts of the formats.
-use Rattle.std.specs.Prelude.{ℕ, ◌<◌, Bool, true, false, List, ◌∷◌, ◌++◌, length}
-use Rattle.strm_image.specs.Prelude.{Openness, Free, Waiting, Answered, Head, Discipline, Queue, PlainSlot}
+use Rattle.std.specs.Prelude.{ℕ, ◌<◌, Bool, true, false, List, [], ◌∷◌, ◌++◌, length, Option, None, Some}
+use Rattle.strm_image.specs.Prelude.{Openness, Free, Waiting, Answered, Head, Discipline, Queue, QueuePair, PlainSlot}
 use Rattle.strm_types.specs.declared.names.ModuleName.TheVariants as names
 use Rattle.strm_image.specs.declared.versions.QueueKind.{QueueKind}
 use Rattle.strm_image.specs.declared.versions.QueueKind.TheVariants as queues
@@ -24,14 +24,18 @@ abbrev pub head_text : Bool → Head ℕ → List ℕ
 head_text is_slave h =
     read_mode.text h.read_mode ++ (control_mode.text h.control_mode ++ ((head_bits is_slave).text (h.hung_up, (h.tostop, h.group)) ++ (signals.text h.signals ++ slot.text h.ioctl)))
 
--- a queue of version 2, an ldterm behind its name, and a stream
+-- a queue of version 2, the queues of a module where it has any, an ldterm behind its name, and a stream
 abbrev pub queue_text : QueueKind → Queue ℕ → List ℕ
 queue_text at q = flags.text (q.want_read, q.no_enable) ++ ((flows Second at).text q.flows ++ (messages Second at).text q.messages)
+
+abbrev pub pair_text : Option (QueuePair ℕ) → List ℕ
+pair_text None = []
+pair_text (Some pair) = (queue Second queues.ModuleRead).text pair.read ++ (queue Second queues.ModuleWrite).text pair.write
 
 abbrev pub ldterm_text : Discipline ℕ → List ℕ
 ldterm_text l =
     module_kind.text names.Ldterm ++ (termios.text l.termios ++ (flag.text l.stopped ++ (flag.text l.after_lnext ++ (u32.text l.column ++ ((counted byte bytes_of).text l.line
-    ++ ((queue Second queues.LdtermRead).text l.read_queue ++ (queue Second queues.LdtermWrite).text l.write_queue))))))
+    ++ ((queue Second queues.ModuleRead).text l.read_queue ++ (queue Second queues.ModuleWrite).text l.write_queue))))))
 
 abbrev pub laid_text : Bool → Laid → List ℕ
 laid_text is_slave t =

@@ -60,7 +60,7 @@ impl QueueKind {
     {
         let (high, low) = match self {
             QueueKind::Head => (5120, 1024),
-            QueueKind::LdtermRead | QueueKind::LdtermWrite | QueueKind::Driver => (512, 128),
+            QueueKind::ModuleRead | QueueKind::ModuleWrite | QueueKind::Driver => (512, 128),
         };
         Flow {
             high,

@@ -2,12 +2,15 @@
 //! it, and none where the byte is that of no value.
 
 ghost use Rattle.std.specs.Prelude.{◌≡◌};
-ghost use Rattle.strm_image.specs.Codes.{control_mode, flag, kind, module_kind, name_kind, openness, place, read_mode, side, version, way};
-ghost use Rattle.strm_image.specs.Format.{Reads};
+ghost use Rattle.strm_image.specs.Codes.{control_mode, flag, is_queued, kind, module_kind, name_kind, openness, place, place_kind, read_mode, side};
+ghost use Rattle.strm_image.specs.Codes.{version, way};
+ghost use Rattle.strm_image.specs.Format.{Reads, byte, only};
 
 use crate::fields::byte_at;
-use crate::versions::{NameKind, Version};
-use strm_types::{ControlMode, ModuleName, MsgKind, Openness, Place, ReadMode, Side, Way};
+use crate::versions::{NameKind, PlaceKind, Version};
+use strm_types::{
+    ControlMode, ModuleName, MsgKind, OWN_QUEUED, Openness, Place, ReadMode, Side, Way,
+};
 
 /// A truth value.
 #[tactic(auto, unfolding(crate::specs::Codes::flag))]
@@ -96,19 +99,48 @@ pub fn side_at(text: &[u8]) -> Option<(Side, &[u8])>
     Some((value, rest))
 }
 
-/// What a queue belongs to: of modules `ldterm` alone has queues.
+// What kind of place one is.
+#[tactic(auto, unfolding(crate::specs::Codes::place_kind))]
+fn place_kind_at(text: &[u8]) -> Option<(PlaceKind, &[u8])>
+    ensures { Reads (λ x. (x.0, x.1.now)) result (place_kind.read text.now) }
+{
+    let (code, rest) = byte_at(text)?;
+    let value = match code {
+        0 => PlaceKind::Head,
+        1 => PlaceKind::Ldterm,
+        2 => PlaceKind::Driver,
+        3 => PlaceKind::Own,
+        _ => return None,
+    };
+    Some((value, rest))
+}
+
+// The number of a module of a user's own that has queues.
+fn queued_at(text: &[u8]) -> Option<(u8, &[u8])>
+    ensures { Reads (λ x. (x.0, x.1.now)) result ((only is_queued byte).read text.now) }
+{
+    let (number, rest) = byte_at(text)?;
+    if number < OWN_QUEUED {
+        return None;
+    }
+    Some((number, rest))
+}
+
+/// What a queue belongs to. The number of a module of a user's own stands behind its kind; one without queues is no such place.
 #[tactic(auto, unfolding(crate::specs::Codes::place))]
 pub fn place_at(text: &[u8]) -> Option<(Place, &[u8])>
     ensures { Reads (λ x. (x.0, x.1.now)) result (place.read text.now) }
 {
-    let (code, rest) = byte_at(text)?;
-    let value = match code {
-        0 => Place::Head,
-        1 => Place::Module(ModuleName::Ldterm),
-        2 => Place::Driver,
-        _ => return None,
-    };
-    Some((value, rest))
+    let (kind, rest) = place_kind_at(text)?;
+    match kind {
+        PlaceKind::Head => Some((Place::Head, rest)),
+        PlaceKind::Ldterm => Some((Place::Module(ModuleName::Ldterm), rest)),
+        PlaceKind::Driver => Some((Place::Driver, rest)),
+        PlaceKind::Own => {
+            let (number, rest) = queued_at(rest)?;
+            Some((Place::Module(ModuleName::Own(number)), rest))
+        }
+    }
 }
 
 /// Whether a queue is a read queue or a write queue.

@@ -1,6 +1,6 @@
 //! What holds of images: each law is the contract of a function that does nothing.
 
-ghost use Rattle.std.specs.Prelude.{◌≡◌, ◌++◌, ℕ, Bool, List, length, true};
+ghost use Rattle.std.specs.Prelude.{◌≡◌, ◌++◌, ℕ, Bool, List, Option, length, true};
 ghost use Rattle.std.specs.List.{flat_map};
 ghost use Rattle.strm_types.specs.declared.names.ModuleName.TheVariants as names;
 ghost use Rattle.strm_types.specs.Ldterms.{Discipline};
@@ -9,6 +9,7 @@ ghost use Rattle.strm_types.specs.Owns.{Own};
 ghost use Rattle.strm_types.specs.Pckts.{Pckt};
 ghost use Rattle.strm_types.specs.Ptems.{Ptem};
 ghost use Rattle.strm_types.specs.Queue.{Queue};
+ghost use Rattle.strm_types.specs.Standings.{QueuePair, stood};
 ghost use Rattle.strm_laws.specs.Stacked.{OfOwn, OfPtem, OfPckt, Standing, ldterm_stands};
 ghost use Rattle.strm_image.specs.declared.versions.QueueKind.{QueueKind};
 ghost use Rattle.strm_image.specs.declared.versions.Version.{Version};
@@ -20,7 +21,7 @@ ghost use Rattle.strm_image.specs.Messages.{message, messages};
 ghost use Rattle.strm_image.specs.Modules.{alone, module_format, modules, ptem, settings};
 ghost use Rattle.strm_image.specs.Queues.{queue};
 ghost use Rattle.strm_image.specs.Streams.{Laid, laid};
-ghost use Rattle.strm_image.specs.Written.{image_text, laid_text, ldterm_text, queue_text};
+ghost use Rattle.strm_image.specs.Written.{image_text, laid_text, ldterm_text, pair_text, queue_text};
 
 /// A text is the image of one state at most, and has one version.
 pub fn one_image()
@@ -34,7 +35,7 @@ pub fn versions_agree()
 {}
 
 /// The text of version 2 in parts, as writers put them one behind the other: a list of messages or modules, a queue, an `ldterm`, a
-/// stream, and the whole.
+/// module of a user's own with its queues where it has any, a stream, and the whole.
 pub fn second_in_parts()
     ensures messages { (at : QueueKind) (ms : List (Message ℕ)) → (messages Second at).text ms ≡ u32.text (length ms) ++ flat_map (message Second).text ms }
     ensures modules { (ms : List (Standing ℕ)) → (modules Second).text ms ≡ byte.text (length ms) ++ flat_map (module_format Second).text ms }
@@ -42,7 +43,8 @@ pub fn second_in_parts()
     ensures ldterm { (l : Discipline ℕ) → (module_format Second).text (ldterm_stands l) ≡ ldterm_text l }
     ensures ptem { (p : Ptem) → (module_format Second).text (alone (OfPtem p)) ≡ module_kind.text names.Ptem ++ ptem.text p }
     ensures pckt { (p : Pckt) → (module_format Second).text (alone (OfPckt p)) ≡ module_kind.text names.Pckt }
-    ensures own { (o : Own) → (module_format Second).text (alone (OfOwn o)) ≡ module_kind.text (names.Own o.number) ++ settings.text o.settings }
+    ensures own { (o : Own) (queues : Option (QueuePair ℕ)) → (module_format Second).text (stood (OfOwn o) queues)
+        ≡ module_kind.text (names.Own o.number) ++ (settings.text o.settings ++ pair_text queues) }
     ensures stream { (is_slave : Bool) (t : Laid) → (laid Second is_slave).text t ≡ laid_text is_slave t }
     ensures whole { (x : Imaged) → image.text (Second, x) ≡ image_text x }
 {}

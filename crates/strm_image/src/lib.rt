@@ -28,12 +28,14 @@ pub use bands::{band_behind, few_flows_at};
 pub use enabled::NAMES;
 pub use flows::Flow;
 pub use image::{ImageText, StateText, read};
-pub use lengths::{IMAGE_BLOCK, IMAGE_FIXED, MESSAGE_FIXED, OWN_FIXED, QUEUE_FIXED, STREAM_FIXED};
+pub use lengths::{
+    IMAGE_BLOCK, IMAGE_FIXED, MESSAGE_FIXED, MODULE_FIXED, QUEUE_FIXED, STREAM_FIXED,
+};
 pub use messages::{MessageText, message_behind};
-pub use modules::{LdtermText, ModuleText, OwnText, PtemText};
+pub use modules::{KindText, LdtermText, ModuleText, OwnText, PtemText, QueuesText};
 pub use passed::{FlowsText, MessagesText};
 pub use queues::QueueText;
 pub use sink::Sink;
 pub use streams::{HeadBits, StreamText};
 pub use trace::Trace;
-pub use versions::{FIRST_BANDS, Load, NameKind, QueueKind, SlotKind, Version};
+pub use versions::{FIRST_BANDS, Load, NameKind, PlaceKind, QueueKind, SlotKind, Version};

@@ -4,12 +4,12 @@ ghost use Rattle.std.specs.Prelude.{◌≡◌, ◌<◌, ◌≤◌, ◌^◌, ◌*
 ghost use Rattle.strm_types.specs.Queue.{is_none_left};
 ghost use Rattle.strm_laws.specs.Stacked.{module_line};
 ghost use Rattle.strm_image.specs.Loads.{blocks_of, counted_of};
-ghost use Rattle.strm_image.specs.ModuleTexts.{module_now, modules_now};
+ghost use Rattle.strm_image.specs.ModuleTexts.{ldterm_now, module_now, modules_now};
 ghost use Rattle.strm_image.specs.StreamTexts.{laid_now};
 ghost use Rattle.strm_image.specs.Texts.{messages_now};
 ghost use Rattle.strm_image.specs.Counts.{cells_at, counted_in, down_cells, inline_cells, laid_blocks, module_blocks, up_cells};
 
-use crate::modules::ModuleText;
+use crate::modules::{KindText, LdtermText, ModuleText};
 use crate::passed::MessagesText;
 use crate::streams::StreamText;
 use strm_types::Way;
@@ -39,17 +39,25 @@ impl<'a> MessagesText<'a> {
     }
 }
 
+impl<'a> LdtermText<'a> {
+    // How many bytes the unfinished line has.
+    fn line_length(&self) -> usize
+        ensures value { result ≡ length (ldterm_now self.now).line }
+        ensures few { result < 2 ^ 63 }
+    {
+        self.line.len()
+    }
+}
+
 impl<'a> ModuleText<'a> {
     // How many blocks of each kind its messages take.
     fn blocks(&self) -> usize
         ensures value { result ≡ module_blocks (module_now self.now) }
         ensures few { result < 2 ^ 58 }
     {
-        match self {
-            ModuleText::Ldterm(found) => {
-                found.read_queue.messages.blocks() + found.write_queue.messages.blocks()
-            }
-            ModuleText::Ptem(_) | ModuleText::Pckt | ModuleText::Own(_) => 0,
+        match self.queues {
+            Some(found) => found.read.messages.blocks() + found.write.messages.blocks(),
+            None => 0,
         }
     }
 
@@ -58,12 +66,12 @@ impl<'a> ModuleText<'a> {
         ensures value { result ≡ cells_at way (module_now self.now) }
         ensures few { result < 2 ^ 65 }
     {
-        match self {
-            ModuleText::Ldterm(found) => match way {
-                Way::Up => found.read_queue.messages.cells(),
-                Way::Down => found.write_queue.messages.cells(),
+        match self.queues {
+            Some(found) => match way {
+                Way::Up => found.read.messages.cells(),
+                Way::Down => found.write.messages.cells(),
             },
-            ModuleText::Ptem(_) | ModuleText::Pckt | ModuleText::Own(_) => 0,
+            None => 0,
         }
     }
 
@@ -72,9 +80,9 @@ impl<'a> ModuleText<'a> {
         ensures value { result ≡ length (module_line (module_now self.now)) }
         ensures few { result < 2 ^ 63 }
     {
-        match self {
-            ModuleText::Ldterm(found) => found.line.len(),
-            ModuleText::Ptem(_) | ModuleText::Pckt | ModuleText::Own(_) => 0,
+        match self.kind {
+            KindText::Ldterm(found) => found.line_length(),
+            KindText::Ptem(_) | KindText::Pckt | KindText::Own(_) => 0,
         }
     }
 }

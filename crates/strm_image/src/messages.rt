@@ -69,8 +69,8 @@ impl QueueKind {
     {
         match self {
             QueueKind::Head => kind.is_data_kind(),
-            QueueKind::LdtermRead => matches!(kind, MsgKind::Data | MsgKind::Proto),
-            QueueKind::LdtermWrite => {
+            QueueKind::ModuleRead => matches!(kind, MsgKind::Data | MsgKind::Proto),
+            QueueKind::ModuleWrite => {
                 matches!(kind, MsgKind::Data | MsgKind::Proto | MsgKind::Ioctl)
             }
             QueueKind::Driver => matches!(

@@ -5,10 +5,10 @@ ghost use Rattle.strm_types.specs.Modules.{stands};
 ghost use Rattle.strm_types.specs.Queue.{is_none_left};
 ghost use Rattle.strm_laws.specs.Stacked.{module_name};
 ghost use Rattle.strm_image.specs.Codes.{module_kind};
-ghost use Rattle.strm_image.specs.Format.{Reads, at_end, byte, bytes_of, counted, gather_from, only, u32};
-ghost use Rattle.strm_image.specs.Modules.{has_name, is_column, ldterm, may_stand, module_below, module_format, modules, next_names, ptem, settings};
-ghost use Rattle.strm_image.specs.Modules.{termios, winsize};
-ghost use Rattle.strm_image.specs.ModuleTexts.{ldterm_now, module_now, modules_now, names_now, ptem_now};
+ghost use Rattle.strm_image.specs.Format.{Reads, at_end, byte, bytes_of, counted, gather_from, if_there, only, u32};
+ghost use Rattle.strm_image.specs.Modules.{has_name, is_column, kind_body, ldterm, may_stand, module_below, module_format, modules, next_names, pair};
+ghost use Rattle.strm_image.specs.Modules.{ptem, settings, termios, winsize};
+ghost use Rattle.strm_image.specs.ModuleTexts.{kind_now, ldterm_now, module_now, modules_now, names_now, own_pair_now, pair_now, ptem_now};
 
 use crate::codes::{flag_at, module_kind_at};
 use crate::fields::{byte_at, bytes_at, u16_at, u32_at};
@@ -20,7 +20,7 @@ use strm_types::{
     Winsize,
 };
 
-/// An `ldterm`, where it stands in a text.
+/// An `ldterm` by itself, where it stands in a text.
 #[derive(Clone, Copy)]
 pub struct LdtermText<'a> {
     pub termios: Termios,
@@ -28,8 +28,6 @@ pub struct LdtermText<'a> {
     pub after_lnext: bool,
     pub column: u32,
     pub line: &'a [u8],
-    pub read_queue: QueueText<'a>,
-    pub write_queue: QueueText<'a>,
 }
 
 /// A `ptem`, as it stands in a text.
@@ -39,21 +37,35 @@ pub struct PtemText {
     pub window: Winsize,
 }
 
-/// A module of a user's own, where it stands in a text.
+/// A module of a user's own by itself, where it stands in a text.
 #[derive(Clone, Copy)]
 pub struct OwnText<'a> {
     pub number: u8,
     pub settings: &'a [u8],
 }
 
-/// A module, where it stands in a text.
+/// What a module is by itself, where it stands in a text.
 #[derive(Clone, Copy, Default)]
-pub enum ModuleText<'a> {
+pub enum KindText<'a> {
     Ldterm(LdtermText<'a>),
     Ptem(PtemText),
     #[default]
     Pckt,
     Own(OwnText<'a>),
+}
+
+/// The queues of a module, where they stand in a text.
+#[derive(Clone, Copy)]
+pub struct QueuesText<'a> {
+    pub read: QueueText<'a>,
+    pub write: QueueText<'a>,
+}
+
+/// A module, where it stands in a text: what it is by itself, and its queues where those of its name have any.
+#[derive(Clone, Copy, Default)]
+pub struct ModuleText<'a> {
+    pub kind: KindText<'a>,
+    pub queues: Option<QueuesText<'a>>,
 }
 
 // What a terminal is set to.
@@ -115,24 +127,21 @@ fn line_at(text: &[u8]) -> Option<(&[u8], &[u8])>
     bytes_at(rest, usize::from(length))
 }
 
-fn ldterm_at(text: &[u8], version: Version) -> Option<(LdtermText<'_>, &[u8])>
-    ensures { Reads (λ x. (ldterm_now x.0, x.1.now)) result ((ldterm version).read text.now) }
+#[tactic(auto, unfolding(crate::specs::Modules::ldterm))]
+fn ldterm_at(text: &[u8]) -> Option<(LdtermText<'_>, &[u8])>
+    ensures { Reads (λ x. (ldterm_now x.0, x.1.now)) result (ldterm.read text.now) }
 {
     let (termios, rest) = termios_at(text)?;
     let (stopped, rest) = flag_at(rest)?;
     let (after_lnext, rest) = flag_at(rest)?;
     let (column, rest) = column_at(rest)?;
     let (line, rest) = line_at(rest)?;
-    let (read, write) = (QueueKind::LdtermRead, QueueKind::LdtermWrite);
-    let ((read_queue, write_queue), rest) = queues_at(rest, version, read, write)?;
     let found = LdtermText {
         termios,
         stopped,
         after_lnext,
         column,
         line,
-        read_queue,
-        write_queue,
     };
     Some((found, rest))
 }
@@ -179,27 +188,57 @@ fn name_at(text: &[u8], version: Version) -> Option<(ModuleName, &[u8])>
     Some((name, rest))
 }
 
+// What a module of a name is by itself.
+fn kind_at(text: &[u8], name: ModuleName) -> Option<(KindText<'_>, &[u8])>
+    ensures { Reads (λ x. (kind_now x.0, x.1.now)) result ((kind_body name).read text.now) }
+{
+    match name {
+        ModuleName::Ldterm => {
+            let (found, rest) = ldterm_at(text)?;
+            Some((KindText::Ldterm(found), rest))
+        }
+        ModuleName::Ptem => {
+            let (found, rest) = ptem_at(text)?;
+            Some((KindText::Ptem(found), rest))
+        }
+        ModuleName::Pckt => Some((KindText::Pckt, text)),
+        ModuleName::Own(number) => {
+            let (settings, rest) = settings_at(text)?;
+            Some((KindText::Own(OwnText { number, settings }), rest))
+        }
+    }
+}
+
+// The queues of a module.
+#[tactic(auto, unfolding(crate::specs::Modules::pair))]
+fn pair_at(text: &[u8], version: Version) -> Option<(QueuesText<'_>, &[u8])>
+    ensures { Reads (λ x. (pair_now x.0, x.1.now)) result ((pair version).read text.now) }
+{
+    let (kind, other) = (QueueKind::ModuleRead, QueueKind::ModuleWrite);
+    let ((read, write), rest) = queues_at(text, version, kind, other)?;
+    Some((QueuesText { read, write }, rest))
+}
+
+// The queues of a module, where it has any.
+fn pair_if(text: &[u8], version: Version, has: bool) -> Option<(Option<QueuesText<'_>>, &[u8])>
+    ensures { Reads (λ x. (own_pair_now x.0, x.1.now)) result ((if_there has (pair version)).read text.now) }
+{
+    if !has {
+        return Some((None, text));
+    }
+    let (found, rest) = pair_at(text, version)?;
+    Some((Some(found), rest))
+}
+
 // The module at the front of a text.
 #[tactic(auto, unfolding(crate::specs::Modules::module_format))]
 fn module_at(text: &[u8], version: Version) -> Option<(ModuleText<'_>, &[u8])>
     ensures { Reads (λ x. (module_now x.0, x.1.now)) result ((module_format version).read text.now) }
 {
     let (name, rest) = name_at(text, version)?;
-    match name {
-        ModuleName::Ldterm => {
-            let (found, rest) = ldterm_at(rest, version)?;
-            Some((ModuleText::Ldterm(found), rest))
-        }
-        ModuleName::Ptem => {
-            let (found, rest) = ptem_at(rest)?;
-            Some((ModuleText::Ptem(found), rest))
-        }
-        ModuleName::Pckt => Some((ModuleText::Pckt, rest)),
-        ModuleName::Own(number) => {
-            let (settings, rest) = settings_at(rest)?;
-            Some((ModuleText::Own(OwnText { number, settings }), rest))
-        }
-    }
+    let (kind, rest) = kind_at(rest, name)?;
+    let (queues, rest) = pair_if(rest, version, name.has_queues())?;
+    Some((ModuleText { kind, queues }, rest))
 }
 
 impl<'a> ModuleText<'a> {
@@ -207,11 +246,11 @@ impl<'a> ModuleText<'a> {
     pub fn name(&self) -> ModuleName
         ensures { result ≡ module_name (module_now self.now) }
     {
-        match self {
-            ModuleText::Ldterm(_) => ModuleName::Ldterm,
-            ModuleText::Ptem(_) => ModuleName::Ptem,
-            ModuleText::Pckt => ModuleName::Pckt,
-            ModuleText::Own(found) => ModuleName::Own(found.number),
+        match self.kind {
+            KindText::Ldterm(_) => ModuleName::Ldterm,
+            KindText::Ptem(_) => ModuleName::Ptem,
+            KindText::Pckt => ModuleName::Pckt,
+            KindText::Own(found) => ModuleName::Own(found.number),
         }
     }
 }

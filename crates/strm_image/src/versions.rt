@@ -11,12 +11,12 @@ pub enum Version {
 /// How many bands of each queue version 1 lists. Its messages are of these alone.
 pub const FIRST_BANDS: usize = 8;
 
-/// Which of the queues of a stream one is: the head's, those of `ldterm`, or the driver's.
+/// Which of the queues of a stream one is: the head's, those of a module, or the driver's.
 #[derive(Clone, Copy)]
 pub enum QueueKind {
     Head,
-    LdtermRead,
-    LdtermWrite,
+    ModuleRead,
+    ModuleWrite,
     Driver,
 }
 
@@ -36,6 +36,15 @@ pub enum NameKind {
     Ptem = 2,
     Pckt = 3,
     Own = 4,
+}
+
+/// What a queue belongs to, as a byte of an image says it: a head, `ldterm`, a driver, or a module of a user's own, whose number follows.
+#[derive(Clone, Copy)]
+pub enum PlaceKind {
+    Head = 0,
+    Ldterm = 1,
+    Driver = 2,
+    Own = 3,
 }
 
 /// What messages take and hold: how many blocks of each kind they take, and how many of their bytes a ledger counts, which are

@@ -92,7 +92,7 @@ module _ {C : Type 0} (P : Side → Stream C → Type 0) where
         driver = λ side here m s all. driver-each side _ s all;
         modules = λ side ps s same all.
             changed side (record (stream side s) { modules = ps }) s (λ holds. changes.modules side ps (stream side s) (any ps) holds) all;
-        names = λ names s adds all. all;
+        names = λ names s all. all;
         books = λ dir n s all. all;
         waits = waits;
       }

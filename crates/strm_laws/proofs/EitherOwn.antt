@@ -68,6 +68,8 @@ module _ (A B : Behaviour) where
     fresh = λ n. fresh_either n;
     puts = λ cells here m x. either_puts cells here m x;
     changes = A.changes || B.changes;
+    holds = λ here m x. if A.knows x.number then A.holds here m x else B.holds here m x;
+    goes = λ way ms x. if A.knows x.number then A.goes way ms x else B.goes way ms x;
     good = either-good;
     put = λ cells here m x. either-put cells here m x;
     forgets = λ cells are here m x. either-forgets cells are here m x;

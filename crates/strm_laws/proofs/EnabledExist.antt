@@ -1,23 +1,25 @@
 -- Enabled queues exist: each is a driver's, or one of a module that stands on its side, and none is enabled twice. So it stays over puts and turns,
 -- which change no module's name (STREAMS Programming Guide, "Service Procedures"; qenable(9F)).
 use Rattle.strm_laws.proofs.Prelude.{ℕ, zero, suc, ◌≡◌, ◌-◌, Bool, true, false, cond, List, [], ◌∷◌, ◌++◌, map, refl, ap, subst, ◌∙◌, ◌&&◌, ◌||◌, not}
+use Rattle.strm_laws.proofs.Prelude.{take}
 use Rattle.strm_laws.proofs.Prelude.{min}
-use Rattle.strm_laws.proofs.Prelude.{nat_le, slice_index_or, Option, None, Some, once-without, same_queue-sound}
+use Rattle.strm_laws.proofs.Prelude.{nat_le, slice_index_or, Option, None, Some, once-without}
 use Rattle.strm_laws.specs.Prelude.{ModuleName, Place, Driver, QueueName, Side, Master, Slave, Way, Up, Down, Note, Enable, Room, MODULES}
 use Rattle.strm_laws.specs.Prelude.{place_before, driver_of, enable_found, enable_if, enable_some, is_enabled, other, same_queue, without}
-use Rattle.strm_laws.specs.Prelude.{has_queues_at, have_queues, place_of, same_module}
+use Rattle.strm_laws.specs.Prelude.{has_queues_at, have_queues, place_of, same_module, same_place}
 use Rattle.std.specs.Prelude.{length}
 use Rattle.std.specs.List.{AllByRecursion, list_any}
 use Rattle.strm_types.specs.declared.names.Place.TheVariants.{Head}
 use Rattle.strm_types.specs.declared.names.Place.TheVariants as places
 use Rattle.strm_types.specs.Names.{enable}
 use Rattle.strm_laws.specs.Earlier.{before_at, before_by, before_modules, places_of, queue_named}
+use Rattle.strm_laws.specs.ModuleTurns.{named_from, place_named}
 use Rattle.strm_laws.specs.Puts.{noted}
 use Rattle.strm_laws.specs.Restorable.{AreEnabled, IsThere, is_there_among}
 use Rattle.strm_laws.specs.StackCosts.{Stands, stands_of, stands_on}
 use Rattle.strm_laws.specs.Stacked.{Standing, module_name}
 use Rattle.strm_laws.specs.State.{State, stream}
-use Rattle.strm_types.proofs.EnabledNames.{once-added, same_module-self}
+use Rattle.strm_types.proofs.EnabledNames.{once-added, same_module-self, same_place-sound}
 
 -- what may name a queue names one that is there
 abbrev pub MayBe : Stands → Option QueueName → Type 0
@@ -37,18 +39,6 @@ module _ (all : Stands) where
       at true true is = are
       at true false is = record { once = once-added names name are.once is; there = all-with name names one are.there }
 
-  pub found-there : (name : Option QueueName) (names : List QueueName) → MayBe all name → AreEnabled all names → AreEnabled all (enable_found name names)
-  found-there None names one are = are
-  found-there (Some name) names one are = enable-there name names one are
-
-  pub some-there : (goes : Bool) (name : Option QueueName) (names : List QueueName) → MayBe all name → AreEnabled all names → AreEnabled all (enable_some goes name names)
-  some-there true name names one are = found-there name names one are
-  some-there false name names one are = are
-
-  pub if-there : (goes : Bool) (name : QueueName) (names : List QueueName) → IsThere all name → AreEnabled all names → AreEnabled all (enable_if goes name names)
-  if-there true name names one are = enable-there name names one are
-  if-there false name names one are = are
-
   all-without : (name : QueueName) (names : List QueueName) → AllByRecursion (IsThere all) names → AllByRecursion (IsThere all) (without name names)
   all-without name [] each = tt
   all-without name (n ∷ names) each = at (not (same_queue n name)) (all-without name names each.1)
@@ -66,28 +56,52 @@ module _ (all : Stands) where
   AreNoted side place (Enable way ∷ notes) = MayBe all (queue_named side way place) × AreNoted side place notes
   AreNoted side place (Room way ∷ notes) = AreNoted side place notes
 
-  pub noted-there : (side : Side) (place : Option Place) (earlier : Way → Option QueueName) → ((way : Way) → MayBe all (earlier way)) → (notes : List Note) → AreNoted side place notes → (names : List QueueName)
-      → AreEnabled all names → AreEnabled all (noted side place earlier notes names)
-  noted-there side place earlier before [] fine names are = are
-  noted-there side place earlier before (Enable way ∷ notes) fine names are =
-      noted-there side place earlier before notes fine.1 (enable_found (queue_named side way place) names) (found-there (queue_named side way place) names fine.0 are)
-  noted-there side place earlier before (Room way ∷ notes) fine names are =
-      noted-there side place earlier before notes fine (enable_found (earlier way) names) (found-there (earlier way) names (before way) are)
-
   -- where the place is there, so is each of its queues
   pub any-noted : (side : Side) (place : Option Place) → ((way : Way) → MayBe all (queue_named side way place)) → (notes : List Note) → AreNoted side place notes
   any-noted side place each [] = tt
   any-noted side place each (Enable way ∷ notes) = (each way, any-noted side place each notes)
   any-noted side place each (Room way ∷ notes) = any-noted side place each notes
 
-  -- a queue that is enabled is there
-  pub among-there : (name : QueueName) (names : List QueueName) → is_enabled name names ≡ true → AllByRecursion (λ n. IsThere all n) names → IsThere all name
-  among-there name [] is each = absurd (cc is)
-  among-there name (n ∷ names) is each = at (same_queue n name) refl (λ more. among-there name names more each.1) is
-    where
-      at : (same : Bool) → same_queue n name ≡ same → (is_enabled name names ≡ true → IsThere all name) → (same || is_enabled name names) ≡ true → IsThere all name
-      at true same rest is = subst (λ n. IsThere all n) (same_queue-sound n name same) each.0
-      at false same rest is = rest is
+-- What holds of the names of enabled queues, and holds still where one that is there joins them, and where one is taken off.
+pub record KeepsNames (all : Stands) (P : List QueueName → Type 0) : Type 0 where
+  pub joins : (name : QueueName) (names : List QueueName) → IsThere all name → P names → P (enable name names)
+  pub leaves : (name : QueueName) (names : List QueueName) → P names → P (without name names)
+
+module _ (all : Stands) (P : List QueueName → Type 0) (keeps : KeepsNames all P) where
+  pub found-keeps : (name : Option QueueName) (names : List QueueName) → MayBe all name → P names → P (enable_found name names)
+  found-keeps None names one holds = holds
+  found-keeps (Some name) names one holds = keeps.joins name names one holds
+
+  pub some-keeps : (goes : Bool) (name : Option QueueName) (names : List QueueName) → MayBe all name → P names → P (enable_some goes name names)
+  some-keeps true name names one holds = found-keeps name names one holds
+  some-keeps false name names one holds = holds
+
+  pub if-keeps : (goes : Bool) (name : QueueName) (names : List QueueName) → IsThere all name → P names → P (enable_if goes name names)
+  if-keeps true name names one holds = keeps.joins name names one holds
+  if-keeps false name names one holds = holds
+
+  pub noted-keeps : (side : Side) (place : Option Place) (earlier : Way → Option QueueName) → ((way : Way) → MayBe all (earlier way)) → (notes : List Note) → AreNoted all side place notes
+      → (names : List QueueName) → P names → P (noted side place earlier notes names)
+  noted-keeps side place earlier before [] fine names holds = holds
+  noted-keeps side place earlier before (Enable way ∷ notes) fine names holds =
+      noted-keeps side place earlier before notes fine.1 (enable_found (queue_named side way place) names) (found-keeps (queue_named side way place) names fine.0 holds)
+  noted-keeps side place earlier before (Room way ∷ notes) fine names holds =
+      noted-keeps side place earlier before notes fine (enable_found (earlier way) names) (found-keeps (earlier way) names (before way) holds)
+
+-- that they exist, and are enabled once each
+pub exist : (all : Stands) → KeepsNames all (AreEnabled all)
+exist all = record { joins = enable-there all; leaves = without-there all }
+
+module _ (all : Stands) where
+  pub if-there : (goes : Bool) (name : QueueName) (names : List QueueName) → IsThere all name → AreEnabled all names → AreEnabled all (enable_if goes name names)
+  if-there goes name names one are = if-keeps all (AreEnabled all) (exist all) goes name names one are
+
+  pub some-there : (goes : Bool) (name : Option QueueName) (names : List QueueName) → MayBe all name → AreEnabled all names → AreEnabled all (enable_some goes name names)
+  some-there goes name names one are = some-keeps all (AreEnabled all) (exist all) goes name names one are
+
+  pub noted-there : (side : Side) (place : Option Place) (earlier : Way → Option QueueName) → ((way : Way) → MayBe all (earlier way)) → (notes : List Note) → AreNoted all side place notes
+      → (names : List QueueName) → AreEnabled all names → AreEnabled all (noted side place earlier notes names)
+  noted-there side place earlier before notes fine names are = noted-keeps all (AreEnabled all) (exist all) side place earlier before notes fine names are
 
 -- a place of a module is there where the module is
 abbrev PlaceAmong : Option Place → List ModuleName → Type 0
@@ -151,3 +165,37 @@ module _ {C : Type 0} where
       by : (o : Option ℕ) → MayBe all (before_by side way at (places_of (stream side s).modules) o)
       by None = ahead way (min MODULES (length (places_of (stream side s).modules)))
       by (Some place) = index-there all s is side way (place - 1)
+
+  -- The queue whose turn it is of a module that is found by its place is there.
+  among-named : (place : Place) (way : Way) (n from : ℕ) (ps : List (Standing C)) (at : ℕ) → named_from place from (places_of (take n ps)) ≡ Some at
+      → is_there_among place way (map module_name ps) ≡ true
+  among-named place way zero from ps at is = absurd (cc)
+  among-named place way (suc n) from [] at is = absurd (cc)
+  among-named place way (suc n) from (p ∷ ps) at is =
+      by (have_queues (module_name p)) refl (λ more. more-among place way (module_name p) (map module_name ps) (among-named place way n (suc from) ps at more)) is
+    where
+      Among : Type 0
+      Among = is_there_among place way (map module_name (p ∷ ps)) ≡ true
+
+      here : have_queues (module_name p) ≡ true → is_there_among (places.Module (module_name p)) way (map module_name (p ∷ ps)) ≡ true
+      here has =
+          ap (λ b. b && (same_module (module_name p) (module_name p) || list_any (λ n. same_module n (module_name p)) (map module_name ps))) has
+          ∙ ap (λ b. b || list_any (λ n. same_module n (module_name p)) (map module_name ps)) (same_module-self (module_name p))
+
+      chosen : (same : Bool) → same_place (places.Module (module_name p)) place ≡ same → have_queues (module_name p) ≡ true
+          → (named_from place (suc from) (places_of (take n ps)) ≡ Some at → Among)
+          → cond same (Some from) (named_from place (suc from) (places_of (take n ps))) ≡ Some at → Among
+      chosen true same has rest is =
+          subst (λ q. is_there_among q way (map module_name (p ∷ ps)) ≡ true) (same_place-sound (places.Module (module_name p)) place same) (here has)
+      chosen false same has rest is = rest is
+
+      by : (has : Bool) → have_queues (module_name p) ≡ has → (named_from place (suc from) (places_of (take n ps)) ≡ Some at → Among)
+          → named_from place from (cond has (Some (places.Module (module_name p))) None ∷ places_of (take n ps)) ≡ Some at → Among
+      by true has rest is = chosen (same_place (places.Module (module_name p)) place) refl has rest is
+      by false has rest is = rest is
+
+  pub named-is-there : (all : Stands) (s : State C) → stands_of s ≡ all → (name : QueueName) (at : ℕ)
+      → place_named name.place (stream name.side s).modules ≡ Some at → IsThere all name
+  named-is-there all s is name at found =
+      subst (λ ns. is_there_among name.place name.way ns ≡ true) (on-side all s is name.side)
+      (among-named name.place name.way MODULES 1 (stream name.side s).modules at found)

@@ -102,7 +102,7 @@ module _ {C : Type 0} where
 
   module _ (cells : Cells C) where
     names-hold : NamesHold AreStreams
-    names-hold names s adds all = all
+    names-hold names s all = all
 
     books-hold : (dir : Dir) (n : ℕ) (s : State C) → AreStreams s → AreStreams (with_book dir (with_made n (book dir s)) s)
     books-hold dir n s all = all

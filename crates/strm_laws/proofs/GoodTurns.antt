@@ -24,7 +24,7 @@ use Rattle.strm_laws.proofs.GoodQueues.{ended-good, relieved-good, waiting-good}
 use Rattle.strm_laws.proofs.GoodStreams.{AreStreams, acted-good, acts-good, changes-good, driver-queue-good, modules-good, stream-parts, streams-with}
 use Rattle.strm_laws.proofs.SameNames.{queue-names, serve-names}
 use Rattle.strm_laws.proofs.TurnHolds.{any-holds}
-use Rattle.strm_laws.proofs.LawfulKinds.{lawful}
+use Rattle.strm_laws.proofs.LawfulKinds.{calls-lawfully}
 
 -- what holds of both holds of the one that is chosen
 module _ {C : Type 0} (P : State C → Type 0) where
@@ -90,17 +90,17 @@ module _ {C : Type 0} (cells : Cells C) where
 
   module _ (K : Behaviour) (here : Spot) where
     -- a call, and the delivery of what it sent
-    pub call-good : (again : Bool) (left : ℕ) (s : State C) → AreStreams s → let t = module_called cells here again left s in AreStreams (in_turn (carried (put_in K cells) HOPS) t.sent t.state).state
+    pub call-good : (again : Bool) (left : ℕ) (s : State C) → AreStreams s → let t = module_called K cells here again left s in AreStreams (in_turn (carried (put_in K cells) HOPS) t.sent t.state).state
     call-good again left s all =
         let ps = (stream here.side s).modules in
         let made = made_below here.side s in
         let i = here.at - 1 in
-        let t = module_called cells here again left s in
-        let acted = call_at cells here made again left ps in
+        let t = module_called K cells here again left s in
+        let acted = call_at K cells here made again left ps in
         let good =
-        acts-good (λ p. (module_serves cells here made again (Some left) p).acted) (λ p. ((lawful p).call cells here made again).good (Some left))
+        acts-good (λ p. (module_serves K cells here made again (Some left) p).acted) (λ p. (calls-lawfully K p cells here made again).good (Some left))
         i ps (all.0 here.side).modules.each in
-        let took = acted-good cells here acted s (serve-names cells here made again (Some left) i ps) good all in
+        let took = acted-good cells here acted s (serve-names K cells here made again (Some left) i ps) good all in
         sent-good GoodMessage AreStreams K cells (stream-parts cells K) t.sent t.state took.sent took.state
 
     calls-good : (n : ℕ) (again : Bool) (left : ℕ) (s : State C) → AreStreams s → AreStreams (calls K cells here n again left s).state
@@ -108,10 +108,10 @@ module _ {C : Type 0} (cells : Cells C) where
     calls-good (suc more) again left s all =
         let ps = (stream here.side s).modules in
         let made = made_below here.side s in
-        let t = module_called cells here again left s in
+        let t = module_called K cells here again left s in
         let u = in_turn (carried (put_in K cells) HOPS) t.sent t.state in
         let sent = call-good again left s all in
-        calls-either AreStreams (again_at cells here made again left ps) _ _ (calls-good more true (left - bytes_at cells here made again left ps) u.state sent) sent
+        calls-either AreStreams (again_at K cells here made again left ps) _ _ (calls-good more true (left - bytes_at K cells here made again left ps) u.state sent) sent
 
     moved-good : (name : QueueName) (bytes : ℕ) (s : State C) → AreStreams s → AreStreams (moved_on K cells here name bytes s).state
     moved-good name bytes s all =
@@ -130,7 +130,7 @@ module _ {C : Type 0} (cells : Cells C) where
     there-good : (name : QueueName) (turn : Turn) (s : State C) → AreStreams s → AreStreams (turned_there K cells here name turn s).state
     there-good name turn s all =
         let ps = (stream here.side s).modules in
-        outcome-holds AreStreams (at_place module_rests false here.at ps) _ _ (asked-good (at_place (module_asks here.way) asked.Empty here.at ps) name turn s all) all
+        outcome-holds AreStreams (at_place module_rests false here.at ps) _ _ (asked-good (at_place (module_asks K cells here.way) asked.Empty here.at ps) name turn s all) all
 
   named-good : (K : Behaviour) (name : QueueName) (turn : Turn) (s : State C) (o : Option ℕ) → AreStreams s
       → AreStreams (turned_named K cells name turn s o).state

@@ -40,7 +40,6 @@ module _ {C : Type 0} (x : Standing C) where
       pub line : module_line (map_module f x) ≡ map f (module_line x)
       pub lineless : without_kind_line (map_kind f x.part) ≡ map_kind f (without_kind_line x.part)
       pub rests : module_rests (map_module f x) ≡ module_rests x
-      pub asks : (way : Way) → module_asks way (map_module f x) ≡ module_asks way x
 
   -- a put at it, where so many cells were made before in the direction of what goes up, and modules of a user's own do what a behaviour says
   module _ (K : Behaviour) (cells : Cells C) (made : ℕ) (here : Spot) (m : Message C) where
@@ -64,9 +63,9 @@ module _ {C : Type 0} (x : Standing C) where
       pub good : GoodMessage m → GoodModule x → GoodActed put
 
   -- a call of its service procedure
-  module _ (cells : Cells C) (here : Spot) (made : ℕ) (again : Bool) where
+  module _ (K : Behaviour) (cells : Cells C) (here : Spot) (made : ℕ) (again : Bool) where
     abbrev call : Option ℕ → Serving C (Standing C)
-    call stop = module_serves cells here made again stop x
+    call stop = module_serves K cells here made again stop x
 
     pub record LawfulCall : Type 0 where
       pub name : (stop : Option ℕ) → module_name (call stop).acted.state ≡ module_name x
@@ -79,7 +78,7 @@ module _ {C : Type 0} (x : Standing C) where
           module_weight p here.side t.state + (weight_sent p t.sent + weight_gone p t.gone) ≡ module_weight p here.side x + weight_made p t.gone
       pub order : (stop : Option ℕ) → TurnOrder cells here.side made (call stop).acted.gone
       pub forgets : AreCells cells → (left : ℕ)
-          → module_serves plain here made again (Some left) (map_module cells.byte x)
+          → module_serves K plain here made again (Some left) (map_module cells.byte x)
           ≡ map_serving cells.byte (map_module cells.byte) (call (Some left))
       pub good : (stop : Option ℕ) → GoodModule x → GoodActed (call stop).acted
 
@@ -88,7 +87,6 @@ module _ {C : Type 0} (x : Standing C) where
     -- where nothing of a turn is under way it has nothing itself but its line, which comes up, and is ready for a turn's first call
     pub weighs : (p : Dir → C → Bool) (side : Side) → IsAtRest x → kind_weight p side x.part ≡ count_by (p (direction_at Up side)) (module_line x)
     pub ready : (way : Way) (left : ℕ) → IsAtRest x → IsReadyAt false way left x
-    pub call : (cells : Cells C) (here : Spot) (made : ℕ) (again : Bool) → LawfulCall cells here made again
 
 -- what it owes besides over plain bytes, as a store has them
 pub record IsPlainPut (K : Behaviour) (x : Standing ℕ) : Type 0 where
@@ -97,18 +95,20 @@ pub record IsPlainPut (K : Behaviour) (x : Standing ℕ) : Type 0 where
   pub put_stays : (made : ℕ) (here : Spot) (m : Message ℕ) → let q = discipline_of (module_puts K plain made here m x).state in
       (q.stage ≡ (discipline_of x).stage) × (q.in_work ≡ (discipline_of x).in_work)
 
-pub record IsPlain (x : Standing ℕ) : Type 0 where
+pub record IsPlainCall (K : Behaviour) (x : Standing ℕ) : Type 0 where
   -- and so does a call
   pub call_same : (here : Spot) (again : Bool) (stop : Option ℕ) (made : ℕ)
-      → module_serves plain here made again stop x ≡ module_serves plain here 0 again stop x
+      → module_serves K plain here made again stop x ≡ module_serves K plain here 0 again stop x
   -- a call that goes as far as it may asks for another one, or has come to an end; it does the same where no more bytes may be treated than it treats
-  pub goes : (here : Spot) (again : Bool) → Begins here.way again (discipline_of x) → let t = module_serves plain here 0 again None x in
+  pub goes : (here : Spot) (again : Bool) → Begins here.way again (discipline_of x) → let t = module_serves K plain here 0 again None x in
       t.again ≡ true → GoesOn here.way again (discipline_of x) t.bytes (discipline_of t.acted.state)
-  pub alike : (here : Spot) (again : Bool) → let t = module_serves plain here 0 again None x in
+  pub alike : (here : Spot) (again : Bool) → let t = module_serves K plain here 0 again None x in
       t.again ≡ true → (left made : ℕ) → stages_done (discipline_of t.acted.state).stage + 3 * t.bytes ≤ 3 * left
-      → module_serves plain here made again (Some left) x ≡ t
-  pub ends : (here : Spot) (again : Bool) → Begins here.way again (discipline_of x) → let t = module_serves plain here 0 again None x in
-      t.again ≡ false → Ends here.way again (discipline_of x) t.bytes × ((made : ℕ) → module_serves plain here made again (Some t.bytes) x ≡ t)
+      → module_serves K plain here made again (Some left) x ≡ t
+  pub ends : (here : Spot) (again : Bool) → Begins here.way again (discipline_of x) → let t = module_serves K plain here 0 again None x in
+      t.again ≡ false → Ends here.way again (discipline_of x) t.bytes × ((made : ℕ) → module_serves K plain here made again (Some t.bytes) x ≡ t)
+
+pub record IsPlain (x : Standing ℕ) : Type 0 where
   -- numbered from so many on, as at the base of a journal, it has the cells of its line, and is as it was where nothing of a turn is under way
   pub counted : (p : Dir → Tagged → Bool) (side : Side) (up : ℕ) → let into = direction_at Up side in
       kind_weight p side (number_kind side up x.part) ≡ count_by (p into) (number into up (module_line x))

@@ -16,6 +16,7 @@ pub mod GoodTurns
 pub mod GoodReads
 pub mod GoodCalls
 pub mod EnabledExist
+pub mod EnabledFew
 pub mod EnabledPuts
 pub mod EnabledCalls
 pub mod RestorableSteps
@@ -55,6 +56,7 @@ pub mod Kept
 pub mod DeliveryKeeps
 pub mod DeliveryForgets
 pub mod NamesAdded
+pub mod NamesKept
 pub mod PutParts
 pub mod Earlier
 pub mod Noted
@@ -113,6 +115,9 @@ pub mod ModuleTurnEnds
 pub mod ModuleCalls
 pub mod ModuleTurnForgets
 pub mod ModuleTurnKeeps
+pub mod OwnForgets
+pub mod OwnQueues
+pub mod OwnWakes
 pub mod OutputKeeps
 pub mod OutputServes
 pub mod LdtermServes

@@ -8,7 +8,7 @@ use Rattle.strm_laws.specs.Places.{weight_gone, weight_made, weight_sent}
 use Rattle.strm_laws.specs.Stacked.{Standing, IsAtRest, module_puts, module_serves, module_weight, modules_weight}
 use Rattle.strm_laws.proofs.ModulesIdle.{AllIdle, among-idle}
 use Rattle.strm_laws.proofs.Lawful.{IsReadyAt}
-use Rattle.strm_laws.proofs.LawfulKinds.{lawful, puts-lawfully}
+use Rattle.strm_laws.proofs.LawfulKinds.{calls-lawfully, puts-lawfully}
 
 -- the module at a place is so, counted from the top, from 0, and at all others nothing of a turn is under way
 abbrev pub OneIs : {C : Type 0} → (Standing C → Type 0) → ℕ → List (Standing C) → Type 0
@@ -32,28 +32,28 @@ module _ {C : Type 0} where
     one-puts Is stays (suc i) (suc j) here m (l ∷ ls) one = (one.0, one-puts Is stays i j here m ls one.1)
 
 -- a call of the one at a place
-module _ {C : Type 0} (cells : Cells C) (here : Spot) (made : ℕ) (again : Bool) (left : ℕ) where
+module _ {C : Type 0} (K : Behaviour) (cells : Cells C) (here : Spot) (made : ℕ) (again : Bool) (left : ℕ) where
   abbrev Ready : Standing C → Type 0
   Ready l = IsReadyAt again here.way left l
 
   abbrev acts : Standing C → Acted C (Standing C)
-  acts l = (module_serves cells here made again (Some left) l).acted
+  acts l = (module_serves K cells here made again (Some left) l).acted
 
   abbrev treated : Standing C → ℕ
-  treated l = (module_serves cells here made again (Some left) l).bytes
+  treated l = (module_serves K cells here made again (Some left) l).bytes
 
   abbrev asks : Standing C → Bool
-  asks l = (module_serves cells here made again (Some left) l).again
+  asks l = (module_serves K cells here made again (Some left) l).again
 
   pub among-goes : (i : ℕ) (ps : List (Standing C)) → OneIs Ready i ps → slice_index_or (map asks ps) i false ≡ true
       → OneIs (λ l. IsReadyAt true here.way (left - slice_index_or (map treated ps) i 0) l) i (act_among acts i ps).state
   among-goes i [] one works = tt
-  among-goes zero (l ∷ ls) one works = (((lawful l).call cells here made again).goes left one.0 works, one.1)
+  among-goes zero (l ∷ ls) one works = ((calls-lawfully K l cells here made again).goes left one.0 works, one.1)
   among-goes (suc i) (l ∷ ls) one works = (one.0, among-goes i ls one.1 works)
 
   pub among-rests : (i : ℕ) (ps : List (Standing C)) → OneIs Ready i ps → slice_index_or (map asks ps) i false ≡ false → AllIdle (act_among acts i ps).state
   among-rests i [] one over = tt
-  among-rests zero (l ∷ ls) one over = (((lawful l).call cells here made again).ends left one.0 over, one.1)
+  among-rests zero (l ∷ ls) one over = ((calls-lawfully K l cells here made again).ends left one.0 over, one.1)
   among-rests (suc i) (l ∷ ls) one over = (one.0, among-rests i ls one.1 over)
 
   module _ (p : Dir → C → Bool) (ignores : IgnoresMapping cells p) where
@@ -64,7 +64,7 @@ module _ {C : Type 0} (cells : Cells C) (here : Spot) (made : ℕ) (again : Bool
         let t = acts l in
         omega (
           arith,
-          ((lawful l).call cells here made again).once p ignores left one.0,
+          (calls-lawfully K l cells here made again).once p ignores left one.0,
           sum_by-cons (module_weight p here.side) l ls,
           sum_by-cons (module_weight p here.side) t.state ls,
         )

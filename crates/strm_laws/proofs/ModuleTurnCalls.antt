@@ -16,7 +16,7 @@ use Rattle.strm_laws.specs.TurnOutcomes.{TurnOutcome, stayed_put}
 use Rattle.strm_laws.proofs.LdtermStops.{GoesOn}
 use Rattle.strm_laws.proofs.ModulesHold.{OnBoth, puts-good}
 use Rattle.strm_laws.proofs.StandingLdterms.{stands-at}
-use Rattle.strm_laws.proofs.LawfulKinds.{plainly, puts-plainly}
+use Rattle.strm_laws.proofs.LawfulKinds.{calls-plainly, puts-plainly}
 
 -- one of several, and what is said of it
 module _ {P : Type 0} (d : P) where
@@ -51,13 +51,13 @@ under_way p = let l = discipline_of p in record { stage = l.stage; in_work = l.i
 
 -- what is known of calls of ldterm's service procedure is so of any module's
 module _ (here : Spot) (again : Bool) where
-  pub module-goes : (p : Standing ℕ) → Begins here.way again (discipline_of p) → let t = module_serves plain here 0 again None p in
+  pub module-goes : (K : Behaviour) (p : Standing ℕ) → Begins here.way again (discipline_of p) → let t = module_serves K plain here 0 again None p in
       t.again ≡ true → GoesOn here.way again (discipline_of p) t.bytes (discipline_of t.acted.state)
-  module-goes p begins works = (plainly p).goes here again begins works
+  module-goes K p begins works = (calls-plainly K p).goes here again begins works
 
-  pub module-ends : (p : Standing ℕ) → Begins here.way again (discipline_of p) → let t = module_serves plain here 0 again None p in
-      t.again ≡ false → Ends here.way again (discipline_of p) t.bytes × ((made : ℕ) → module_serves plain here made again (Some t.bytes) p ≡ t)
-  module-ends p begins over = (plainly p).ends here again begins over
+  pub module-ends : (K : Behaviour) (p : Standing ℕ) → Begins here.way again (discipline_of p) → let t = module_serves K plain here 0 again None p in
+      t.again ≡ false → Ends here.way again (discipline_of p) t.bytes × ((made : ℕ) → module_serves K plain here made again (Some t.bytes) p ≡ t)
+  module-ends K p begins over = (calls-plainly K p).ends here again begins over
 
 ways : (a b : Stage ℕ) (c d : Option (Message ℕ)) → a ≡ b → c ≡ d → (let x : UnderWay = record { stage = a; in_work = c } in let y : UnderWay = record { stage = b; in_work = d } in x ≡ y)
 ways a b c d same work = ap (λ (x : Stage ℕ). let v : UnderWay = record { stage = x; in_work = c } in v) same ∙ ap (λ (x : Option (Message ℕ)). let v : UnderWay = record { stage = b; in_work = x } in v) work
@@ -91,31 +91,31 @@ module _ (here : Spot) where
 
   module _ (K : Behaviour) (again : Bool) (stop : Option ℕ) where
     -- the module behind it
-    pub led-under-way : (s : State ℕ) → map under_way (stream here.side (led K here again stop s).state).modules ≡ map under_way (called here again stop (stream here.side s).modules).state
+    pub led-under-way : (s : State ℕ) → map under_way (stream here.side (led K here again stop s).state).modules ≡ map under_way (called here K again stop (stream here.side s).modules).state
     led-under-way s =
-        let t = module_acted here (called here again stop (stream here.side s).modules) s in
-        sent-stays K t.sent t.state here.side ∙ ap (λ ps. map under_way ps) (acted-modules (called here again stop (stream here.side s).modules) s)
+        let t = module_acted here (called here K again stop (stream here.side s).modules) s in
+        sent-stays K t.sent t.state here.side ∙ ap (λ ps. map under_way ps) (acted-modules (called here K again stop (stream here.side s).modules) s)
 
     pub led-length : (s : State ℕ) → length (stream here.side (led K here again stop s).state).modules ≡ length (stream here.side s).modules
     led-length s =
         let ps = (stream here.side s).modules in
         let same = ap length (led-under-way s) in
         let before = length-map (stream here.side (led K here again stop s).state).modules under_way in
-        let behind = length-map (called here again stop ps).state under_way in
-        sym before ∙ same ∙ behind ∙ act-length (λ p. (module_serves plain here 0 again stop p).acted) (here.at - 1) ps
+        let behind = length-map (called here K again stop ps).state under_way in
+        sym before ∙ same ∙ behind ∙ act-length (λ p. (module_serves K plain here 0 again stop p).acted) (here.at - 1) ps
 
-    pub led-at : (s : State ℕ) → here.at - 1 < length (stream here.side s).modules → under_way (module_at here (led K here again stop s).state) ≡ under_way (module_serves plain here 0 again stop (module_at here s)).acted.state
+    pub led-at : (s : State ℕ) → here.at - 1 < length (stream here.side s).modules → under_way (module_at here (led K here again stop s).state) ≡ under_way (module_serves K plain here 0 again stop (module_at here s)).acted.state
     led-at s low =
         let ps = (stream here.side s).modules in
         let qs = (stream here.side (led K here again stop s).state).modules in
         let i = here.at - 1 in
-        let acts : Standing ℕ → Acted ℕ (Standing ℕ) = λ p. (module_serves plain here 0 again stop p).acted in
+        let acts : Standing ℕ → Acted ℕ (Standing ℕ) = λ p. (module_serves K plain here 0 again stop p).acted in
         let none = under_way none_there in
         let same = led-length s in
         let long = act-length acts i ps in
         sym (index-map none_there under_way none i qs (omega (arith, low, same)))
         ∙ ap (λ xs. slice_index_or xs i none) (led-under-way s)
-        ∙ index-map none_there under_way none i (called here again stop ps).state (omega (arith, low, long))
+        ∙ index-map none_there under_way none i (called here K again stop ps).state (omega (arith, low, long))
         ∙ ap under_way (act-index none_there acts i ps low)
 
   -- the calls behind some that have led to this
@@ -135,15 +135,15 @@ module _ (here : Spot) where
 
   -- a call within a limit is as one without it, where the module does alike
   call-same : (K : Behaviour) (more left : ℕ) (again : Bool) (stop : Option ℕ) (s : State ℕ) → here.at - 1 < length (stream here.side s).modules
-      → ((made : ℕ) → module_serves plain here made again (Some left) (module_at here s) ≡ module_serves plain here 0 again stop (module_at here s))
-      → let ps = (stream here.side s).modules in calls K plain here (suc more) again left s ≡ next_of K more left (called here again stop ps) (treated here again stop ps) (asks_on here again stop ps) s
+      → ((made : ℕ) → module_serves K plain here made again (Some left) (module_at here s) ≡ module_serves K plain here 0 again stop (module_at here s))
+      → let ps = (stream here.side s).modules in calls K plain here (suc more) again left s ≡ next_of K more left (called here K again stop ps) (treated here K again stop ps) (asks_on here K again stop ps) s
   call-same K more left again stop s low alike =
       let ps = (stream here.side s).modules in
       let i = here.at - 1 in
       let made = made_below here.side s in
-      let f : Standing ℕ → Serving ℕ (Standing ℕ) = λ p. module_serves plain here made again (Some left) p in
-      let g : Standing ℕ → Serving ℕ (Standing ℕ) = λ p. module_serves plain here 0 again stop p in
-      next-same K more left s (call_at plain here made again left ps) (called here again stop ps) (bytes_at plain here made again left ps) (treated here again stop ps) (again_at plain here made again left ps) (asks_on here again stop ps)
+      let f : Standing ℕ → Serving ℕ (Standing ℕ) = λ p. module_serves K plain here made again (Some left) p in
+      let g : Standing ℕ → Serving ℕ (Standing ℕ) = λ p. module_serves K plain here 0 again stop p in
+      next-same K more left s (call_at K plain here made again left ps) (called here K again stop ps) (bytes_at K plain here made again left ps) (treated here K again stop ps) (again_at K plain here made again left ps) (asks_on here K again stop ps)
       (act-alike none_there (λ p. (f p).acted) (λ p. (g p).acted) i ps (ap (λ (t : Serving ℕ (Standing ℕ)). t.acted) (alike made)))
       (index-map none_there (λ p. (f p).bytes) 0 i ps low ∙ ap (λ (t : Serving ℕ (Standing ℕ)). t.bytes) (alike made) ∙ sym (index-map none_there (λ p. (g p).bytes) 0 i ps low))
       (index-map none_there (λ p. (f p).again) false i ps low ∙ ap (λ (t : Serving ℕ (Standing ℕ)). t.again) (alike made) ∙ sym (index-map none_there (λ p. (g p).again) false i ps low))
@@ -184,7 +184,7 @@ module _ (here : Spot) where
 
     -- one more call, which asks for another one
     pub reached-next : (K : Behaviour) (again : Bool) (bytes : ℕ) (gone : List (Fate ℕ)) (s : State ℕ) → Reached K again bytes gone s → let ps = (stream here.side s).modules in
-        asks_on here again None ps ≡ true → Reached K true (bytes + treated here again None ps) (gone ++ (led K here again None s).gone) (led K here again None s).state
+        asks_on here K again None ps ≡ true → Reached K true (bytes + treated here K again None ps) (gone ++ (led K here again None s).gone) (led K here again None s).state
     reached-next K again bytes gone s r asks =
         record {
           made = suc r.made;
@@ -202,22 +202,22 @@ module _ (here : Spot) where
         l = module_at here s
 
         t : Serving ℕ (Standing ℕ)
-        t = module_serves plain here 0 again None l
+        t = module_serves K plain here 0 again None l
 
         q : Standing ℕ
         q = module_at here (led K here again None s).state
 
         b : ℕ
-        b = treated here again None ps
+        b = treated here K again None ps
 
         works : t.again ≡ true
-        works = sym (index-map none_there (λ p. (module_serves plain here 0 again None p).again) false (here.at - 1) ps r.inside) ∙ asks
+        works = sym (index-map none_there (λ p. (module_serves K plain here 0 again None p).again) false (here.at - 1) ps r.inside) ∙ asks
 
         bytes_is : b ≡ t.bytes
-        bytes_is = index-map none_there (λ p. (module_serves plain here 0 again None p).bytes) 0 (here.at - 1) ps r.inside
+        bytes_is = index-map none_there (λ p. (module_serves K plain here 0 again None p).bytes) 0 (here.at - 1) ps r.inside
 
         g : GoesOn here.way again (discipline_of l) t.bytes (discipline_of t.acted.state)
-        g = module-goes here again l r.begins works
+        g = module-goes here again K l r.begins works
 
         at : under_way q ≡ under_way t.acted.state
         at = led-at K again None s r.inside
@@ -230,15 +230,15 @@ module _ (here : Spot) where
 
         goes : (left more : ℕ) → stages_done (discipline_of q).stage ≤ 3 * left → calls K plain here (suc r.made + more) false (bytes + b + left) s0 ≡ behind (gone ++ (led K here again None s).gone) (bytes + b) (calls K plain here more true left (led K here again None s).state)
         goes left more fits =
-            let w = module_acted here (called here again None ps) s in
+            let w = module_acted here (called here K again None ps) s in
             let u = in_turn (carried (put_in K plain) HOPS) w.sent w.state in
             let v = calls K plain here more true left u.state in
             ap (λ n. calls K plain here n false (bytes + b + left) s0) (let e : suc r.made + more ≡ r.made + suc more = omega arith in e)
             ∙ ap (λ n. calls K plain here (r.made + suc more) false n s0) (let e : bytes + b + left ≡ bytes + (b + left) = omega arith in e)
             ∙ r.goes (b + left) (suc more) (omega (arith, g.done, bytes_is, done, fits))
             ∙ ap (behind gone bytes) (call-same K more (b + left) again None s r.inside
-            (λ made. (plainly l).alike here again works (b + left) made (omega (arith, bytes_is, done, fits))))
-            ∙ ap (λ x. behind gone bytes (next_of K more (b + left) (called here again None ps) b x s)) asks
+            (λ made. (calls-plainly K l).alike here again works (b + left) made (omega (arith, bytes_is, done, fits))))
+            ∙ ap (λ x. behind gone bytes (next_of K more (b + left) (called here K again None ps) b x s)) asks
             ∙ ap (λ n. let v = calls K plain here more true n u.state in behind gone bytes (record { state = v.state; gone = w.gone ++ u.gone ++ v.gone; bytes = b + v.bytes; ended = v.ended })) (let e : b + left - b ≡ left = omega arith in e)
             ∙ both-behind gone w.gone u.gone bytes b v
 
@@ -248,7 +248,7 @@ module _ (here : Spot) where
       where
         -- how far the turn goes by it
         abbrev all : Option ℕ → ℕ
-        all stop = bytes + treated here again stop (stream here.side s).modules
+        all stop = bytes + treated here K again stop (stream here.side s).modules
 
         abbrev ended : Option ℕ → TurnOutcome ℕ
         ended stop = record { turn = Moved (all stop); state = module_turn_ended name here (not (all stop == 0)) (led K here again stop s).state; gone = gone ++ (led K here again stop s).gone }
@@ -256,39 +256,39 @@ module _ (here : Spot) where
         -- it is the same within what it treated
         abbrev IsLast : Option ℕ → Type 0
         IsLast stop =
-            let b = treated here again stop (stream here.side s).modules in
-            Ends here.way again (discipline_of (module_at here s)) b × ((made : ℕ) → module_serves plain here made again (Some b) (module_at here s) ≡ module_serves plain here 0 again stop (module_at here s))
+            let b = treated here K again stop (stream here.side s).modules in
+            Ends here.way again (discipline_of (module_at here s)) b × ((made : ℕ) → module_serves K plain here made again (Some b) (module_at here s) ≡ module_serves K plain here 0 again stop (module_at here s))
 
-        last-is : (stop : Option ℕ) → asks_on here again stop (stream here.side s).modules ≡ false → Stopped here again s stop → IsLast stop
+        last-is : (stop : Option ℕ) → asks_on here K again stop (stream here.side s).modules ≡ false → Stopped here K again s stop → IsLast stop
         last-is None over _ =
             let ps = (stream here.side s).modules in
             let l = module_at here s in
             let i = here.at - 1 in
-            let over : (module_serves plain here 0 again None l).again ≡ false = sym (index-map none_there (λ p. (module_serves plain here 0 again None p).again) false i ps r.inside) ∙ over in
-            let bytes_is = index-map none_there (λ p. (module_serves plain here 0 again None p).bytes) 0 i ps r.inside in
-            let e = module-ends here again l r.begins over in
-            (record { treat = let a = e.0.treat in omega (arith, bytes_is); done = let a = e.0.done in omega (arith, bytes_is) }, λ made. ap (λ n. module_serves plain here made again (Some n) l) bytes_is ∙ e.1 made)
+            let over : (module_serves K plain here 0 again None l).again ≡ false = sym (index-map none_there (λ p. (module_serves K plain here 0 again None p).again) false i ps r.inside) ∙ over in
+            let bytes_is = index-map none_there (λ p. (module_serves K plain here 0 again None p).bytes) 0 i ps r.inside in
+            let e = module-ends here again K l r.begins over in
+            (record { treat = let a = e.0.treat in omega (arith, bytes_is); done = let a = e.0.done in omega (arith, bytes_is) }, λ made. ap (λ n. module_serves K plain here made again (Some n) l) bytes_is ∙ e.1 made)
         last-is (Some n) over is =
             let l = module_at here s in (
               subst (λ b. Ends here.way again (discipline_of l) b) is.0 is.1,
-              λ made. ap (λ b. module_serves plain here made again (Some b) l) (sym is.0) ∙ (plainly l).call_same here again (Some n) made,
+              λ made. ap (λ b. module_serves K plain here made again (Some b) l) (sym is.0) ∙ (calls-plainly K l).call_same here again (Some n) made,
             )
 
-        last-moves : (stop : Option ℕ) → asks_on here again stop (stream here.side s).modules ≡ false → IsLast stop → moved_on K plain here name (all stop) s0 ≡ ended stop
+        last-moves : (stop : Option ℕ) → asks_on here K again stop (stream here.side s).modules ≡ false → IsLast stop → moved_on K plain here name (all stop) s0 ≡ ended stop
         last-moves stop over is =
             let ps = (stream here.side s).modules in
-            let b = treated here again stop ps in
+            let b = treated here K again stop ps in
             let more = 3 * (bytes + b) - r.made in
-            let w = module_acted here (called here again stop ps) s in
+            let w = module_acted here (called here K again stop ps) s in
             let u = in_turn (carried (put_in K plain) HOPS) w.sent w.state in
             ap (λ (t : Calls ℕ). cond {A = TurnOutcome ℕ} t.ended (record { turn = Moved t.bytes; state = module_turn_ended name here (not (t.bytes == 0)) t.state; gone = t.gone }) (stayed_put Blocked s0))
             (ap (λ n. calls K plain here n false (bytes + b) s0) (let few = r.few in let done = is.0.done in let e : 3 * (bytes + b) + 1 ≡ r.made + suc more = omega (arith, few, done) in e)
             ∙ r.goes b (suc more) is.0.done
             ∙ ap (behind gone bytes) (call-same K more b again stop s r.inside is.1)
-            ∙ ap (λ x. behind gone bytes (next_of K more b (called here again stop ps) b x s)) over)
+            ∙ ap (λ x. behind gone bytes (next_of K more b (called here K again stop ps) b x s)) over)
 
         -- The turn went so far, and led to that.
-        pub reached-last : (stop : Option ℕ) → asks_on here again stop (stream here.side s).modules ≡ false → Stopped here again s stop
+        pub reached-last : (stop : Option ℕ) → asks_on here K again stop (stream here.side s).modules ≡ false → Stopped here K again s stop
             → (all stop ≤ bytes_left here.way false (discipline_of (module_at here s0))) × (moved_on K plain here name (all stop) s0 ≡ ended stop)
         reached-last stop over stopped =
             let is = last-is stop over stopped in

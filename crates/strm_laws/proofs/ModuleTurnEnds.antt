@@ -12,7 +12,6 @@ use Rattle.strm_laws.specs.Puts.{earlier_at, put_in}
 use Rattle.strm_laws.specs.Stacked.{module_asks, module_rests}
 use Rattle.strm_laws.specs.State.{State, stream, with_stream}
 use Rattle.strm_laws.specs.TurnOutcomes.{TurnOutcome}
-use Rattle.strm_laws.proofs.NamesAdded.{AddsNone, if-adds, some-adds}
 use Rattle.strm_laws.proofs.PutParts.{Stays, acted-holds, sent-holds}
 use Rattle.strm_laws.proofs.SameNames.{queue-names, serve-names}
 
@@ -42,26 +41,20 @@ module _ {C : Type 0} (P : State C → Type 0) (stays : Stays P) where
     calls-hold (suc more) again left s holds =
         let ps = (stream here.side s).modules in
         let made = made_below here.side s in
-        let t = module_called cells here again left s in
+        let t = module_called K cells here again left s in
         let u = in_turn (carried (put_in K cells) HOPS) t.sent t.state in
-        let acted = call_at cells here made again left ps in
-        let same = serve-names cells here made again (Some left) (here.at - 1) ps in
+        let acted = call_at K cells here made again left ps in
+        let same = serve-names K cells here made again (Some left) (here.at - 1) ps in
         let sent = sent-holds P K stays cells t.sent t.state
         (acted-holds P stays.names stays.books here acted s (stays.modules here.side acted.state s same holds)) in
-        calls-either (again_at cells here made again left ps) _ _ (calls-hold more true (left - bytes_at cells here made again left ps) u.state sent) sent
+        calls-either (again_at K cells here made again left ps) _ _ (calls-hold more true (left - bytes_at K cells here made again left ps) u.state sent) sent
 
     moved-holds : (name : QueueName) (bytes : ℕ) (s : State C) → P s → P (moved_on K cells here name bytes s).state
     moved-holds name bytes s holds =
         let t = calls K cells here (3 * bytes + 1) false bytes s in
         let behind = calls-hold (3 * bytes + 1) false bytes s holds in
         let took = not (t.bytes == 0) in
-        let on = stream here.side t.state in
-        let more = at_place (has_more here.way) false here.at on.modules in
-        let relieves = at_place (end_relieves took here.way) false here.at on.modules in
-        let earlier = earlier_at here.side here.at t.state here.way in
-        let adds : AddsNone t.state.enabled (enable_if more name (enable_some relieves earlier t.state.enabled)) =
-        omega (arith, some-adds relieves earlier t.state.enabled, if-adds more name (enable_some relieves earlier t.state.enabled)) in
-        outcome-holds t.ended _ _ (stays.names _ _ adds (ended-holds here took t.state behind)) holds
+        outcome-holds t.ended _ _ (stays.names _ _ (ended-holds here took t.state behind)) holds
 
     asked-holds : (asks : Asks) (name : QueueName) (turn : Turn) (s : State C) → P s → P (asked_turn K cells here asks name turn s).state
     asked-holds asked.Empty name turn s holds = ended-holds here false s holds
@@ -76,7 +69,7 @@ module _ {C : Type 0} (P : State C → Type 0) (stays : Stays P) where
     there-holds : (name : QueueName) (turn : Turn) (s : State C) → P s → P (turned_there K cells here name turn s).state
     there-holds name turn s holds =
         let ps = (stream here.side s).modules in
-        outcome-holds (at_place module_rests false here.at ps) _ _ (asked-holds (at_place (module_asks here.way) asked.Empty here.at ps) name turn s holds) holds
+        outcome-holds (at_place module_rests false here.at ps) _ _ (asked-holds (at_place (module_asks K cells here.way) asked.Empty here.at ps) name turn s holds) holds
 
   named-holds : (K : Behaviour) (cells : Cells C) (name : QueueName) (turn : Turn) (s : State C) (o : Option ℕ) → P s
       → P (turned_named K cells name turn s o).state

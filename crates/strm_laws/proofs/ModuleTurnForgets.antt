@@ -23,7 +23,7 @@ use Rattle.strm_laws.proofs.EmptiedForgets.{stream-forgets}
 use Rattle.strm_laws.proofs.Forgetting.{none-forgets, relieved-forgets, relieves_from-forgets, size-forgets}
 use Rattle.strm_laws.proofs.Past.{room-forgets, with_stream-same, writer_waits-forgets}
 use Rattle.strm_laws.proofs.PutsForget.{acted-same, puts-forget}
-use Rattle.strm_laws.proofs.LawfulKinds.{lawful}
+use Rattle.strm_laws.proofs.LawfulKinds.{asks-lawfully, calls-lawfully, lawful}
 use Rattle.strm_laws.proofs.ModulePuts.{acts-forget}
 
 module _ {C D : Type 0} (f : C → D) where
@@ -140,25 +140,25 @@ module _ {C : Type 0} (cells : Cells C) (are : AreCells cells) where
   abbrev f : C → ℕ
   f = cells.byte
 
-  acts-same : (here : Spot) (made : ℕ) (again : Bool) (left : ℕ) (p : Standing C) → (module_serves plain here made again (Some left) (map_module f p)).acted ≡ map_acted f (map_module f) (module_serves cells here made again (Some left) p).acted
-  acts-same here made again left p = ap (λ (t : Serving ℕ (Standing ℕ)). t.acted) (((lawful p).call cells here made again).forgets are left)
+  acts-same : (K : Behaviour) (here : Spot) (made : ℕ) (again : Bool) (left : ℕ) (p : Standing C) → (module_serves K plain here made again (Some left) (map_module f p)).acted ≡ map_acted f (map_module f) (module_serves K cells here made again (Some left) p).acted
+  acts-same K here made again left p = ap (λ (t : Serving ℕ (Standing ℕ)). t.acted) ((calls-lawfully K p cells here made again).forgets are left)
 
-  bytes-same : (here : Spot) (made : ℕ) (again : Bool) (left : ℕ) (p : Standing C) → (module_serves plain here made again (Some left) (map_module f p)).bytes ≡ (module_serves cells here made again (Some left) p).bytes
-  bytes-same here made again left p = ap (λ (t : Serving ℕ (Standing ℕ)). t.bytes) (((lawful p).call cells here made again).forgets are left)
+  bytes-same : (K : Behaviour) (here : Spot) (made : ℕ) (again : Bool) (left : ℕ) (p : Standing C) → (module_serves K plain here made again (Some left) (map_module f p)).bytes ≡ (module_serves K cells here made again (Some left) p).bytes
+  bytes-same K here made again left p = ap (λ (t : Serving ℕ (Standing ℕ)). t.bytes) ((calls-lawfully K p cells here made again).forgets are left)
 
-  again-same : (here : Spot) (made : ℕ) (again : Bool) (left : ℕ) (p : Standing C) → (module_serves plain here made again (Some left) (map_module f p)).again ≡ (module_serves cells here made again (Some left) p).again
-  again-same here made again left p = ap (λ (t : Serving ℕ (Standing ℕ)). t.again) (((lawful p).call cells here made again).forgets are left)
+  again-same : (K : Behaviour) (here : Spot) (made : ℕ) (again : Bool) (left : ℕ) (p : Standing C) → (module_serves K plain here made again (Some left) (map_module f p)).again ≡ (module_serves K cells here made again (Some left) p).again
+  again-same K here made again left p = ap (λ (t : Serving ℕ (Standing ℕ)). t.again) ((calls-lawfully K p cells here made again).forgets are left)
 
   -- one call, and what it sent
-  called-same : (here : Spot) (again : Bool) (left : ℕ) (s : State C) → module_called plain here again left (map_state f s) ≡ map_took f (map_state f) (module_called cells here again left s)
-  called-same here again left s =
+  called-same : (K : Behaviour) (here : Spot) (again : Bool) (left : ℕ) (s : State C) → module_called K plain here again left (map_state f s) ≡ map_took f (map_state f) (module_called K cells here again left s)
+  called-same K here again left s =
       let ps = (stream here.side s).modules in
       let made = made_below here.side s in
-      ap (λ (t : Stream ℕ). module_acted here (call_at plain here (made_below here.side (map_state f s)) again left t.modules) (map_state f s)) (stream-forgets f here.side s)
+      ap (λ (t : Stream ℕ). module_acted here (call_at K plain here (made_below here.side (map_state f s)) again left t.modules) (map_state f s)) (stream-forgets f here.side s)
       ∙ ap (λ t. module_acted here t (map_state f s))
-      (acts-forget f (λ p. (module_serves cells here made again (Some left) p).acted) (λ p. (module_serves plain here made again (Some left) p).acted)
-      (acts-same here made again left) (here.at - 1) ps)
-      ∙ acted-same f here (call_at cells here made again left ps) s
+      (acts-forget f (λ p. (module_serves K cells here made again (Some left) p).acted) (λ p. (module_serves K plain here made again (Some left) p).acted)
+      (acts-same K here made again left) (here.at - 1) ps)
+      ∙ acted-same f here (call_at K cells here made again left ps) s
 
   sent-same : (K : Behaviour) (t : Took C (State C)) → in_turn (carried (put_in K plain) HOPS) (map (map_parcel f) t.sent) (map_state f t.state) ≡ map_carried f (map_state f) (in_turn (carried (put_in K cells) HOPS) t.sent t.state)
   sent-same K t = in_turn-agrees f (map_state f) (carried (put_in K cells) HOPS) (carried (put_in K plain) HOPS) (carried-agrees f (map_state f) (put_in K cells) (put_in K plain) (puts-forget cells are K) HOPS) t.sent t.state
@@ -182,17 +182,17 @@ module _ {C : Type 0} (cells : Cells C) (are : AreCells cells) where
   calls-same K here (suc more) again left s =
       let ps = (stream here.side s).modules in
       let made = made_below here.side s in
-      let t = module_called cells here again left s in
+      let t = module_called K cells here again left s in
       let u = in_turn (carried (put_in K cells) HOPS) t.sent t.state in
-      let bytes = bytes_at cells here made again left ps in
-      let goes = again_at cells here made again left ps in
+      let bytes = bytes_at K cells here made again left ps in
+      let goes = again_at K cells here made again left ps in
       let next : Bool → ℕ → Took ℕ (State ℕ) → Calls ℕ = λ b n x. (let y = in_turn (carried (put_in K plain) HOPS) x.sent x.state in went_on b n x y (calls K plain here more true (left - n) y.state)) in
-      ap (λ (on : Stream ℕ). next (again_at plain here (made_below here.side (map_state f s)) again left on.modules) (bytes_at plain here (made_below here.side (map_state f s)) again left on.modules) (module_called plain here again left (map_state f s))) (stream-forgets f here.side s)
-      ∙ ap (λ b. next b (bytes_at plain here made again left (map (map_module f) ps)) (module_called plain here again left (map_state f s)))
-      (at_place-same f (λ p. (module_serves cells here made again (Some left) p).again) (λ p. (module_serves plain here made again (Some left) p).again) (again-same here made again left) false here.at ps)
-      ∙ ap (λ n. next goes n (module_called plain here again left (map_state f s)))
-      (at_place-same f (λ p. (module_serves cells here made again (Some left) p).bytes) (λ p. (module_serves plain here made again (Some left) p).bytes) (bytes-same here made again left) 0 here.at ps)
-      ∙ ap (λ x. next goes bytes x) (called-same here again left s)
+      ap (λ (on : Stream ℕ). next (again_at K plain here (made_below here.side (map_state f s)) again left on.modules) (bytes_at K plain here (made_below here.side (map_state f s)) again left on.modules) (module_called K plain here again left (map_state f s))) (stream-forgets f here.side s)
+      ∙ ap (λ b. next b (bytes_at K plain here made again left (map (map_module f) ps)) (module_called K plain here again left (map_state f s)))
+      (at_place-same f (λ p. (module_serves K cells here made again (Some left) p).again) (λ p. (module_serves K plain here made again (Some left) p).again) (again-same K here made again left) false here.at ps)
+      ∙ ap (λ n. next goes n (module_called K plain here again left (map_state f s)))
+      (at_place-same f (λ p. (module_serves K cells here made again (Some left) p).bytes) (λ p. (module_serves K plain here made again (Some left) p).bytes) (bytes-same K here made again left) 0 here.at ps)
+      ∙ ap (λ x. next goes bytes x) (called-same K here again left s)
       ∙ ap (λ (y : Carried ℕ (State ℕ)). went_on goes bytes (map_took f (map_state f) t) y (calls K plain here more true (left - bytes) y.state)) (sent-same K t)
       ∙ ap (λ v. went_on goes bytes (map_took f (map_state f) t) (map_carried f (map_state f) u) v)
       (calls-same K here more true (left - bytes) u.state)
@@ -232,12 +232,12 @@ module _ {C : Type 0} (cells : Cells C) (are : AreCells cells) where
   there-same K here name turn s =
       let ps = (stream here.side s).modules in
       let rests = at_place module_rests false here.at ps in
-      let asks = at_place (module_asks here.way) asked.Empty here.at ps in
+      let asks = at_place (module_asks K cells here.way) asked.Empty here.at ps in
       let image = map_state f s in
       rw (
         stream-forgets f here.side s,
         at_place-same f module_rests module_rests (λ p. ((lawful p).image f).rests) false here.at ps,
-        at_place-same f (module_asks here.way) (module_asks here.way) (λ p. ((lawful p).image f).asks here.way) asked.Empty here.at ps,
+        at_place-same f (module_asks K cells here.way) (module_asks K plain here.way) (asks-lawfully K cells here.way) asked.Empty here.at ps,
       )
       (either-same f rests (asked_turn K cells here asks name turn s) (stayed_put Blocked s) _ _ (asked-turn-same K here asks name turn s) refl)
 

@@ -111,33 +111,33 @@ module _ {C : Type 0} (cells : Cells C) (here : Spot) where
   -- what a call leads to, with what it sent
   abbrev called_out : Behaviour → Bool → ℕ → State C → Carried C (State C)
   called_out K again left s =
-      let t = module_called cells here again left s in
+      let t = module_called K cells here again left s in
       in_turn (carried (put_in K cells) HOPS) t.sent t.state
 
-  module _ (again : Bool) (left : ℕ) (s : State C) (turn : InTurn here.side (HasCall again left) s) where
+  module _ (K : Behaviour) (again : Bool) (left : ℕ) (s : State C) (turn : InTurn here.side (HasCall again left) s) where
     abbrev on_it : List (Standing C)
     on_it = (stream here.side s).modules
 
     abbrev call : Acted C (List (Standing C))
-    call = call_at cells here (made_below here.side s) again left on_it
+    call = call_at K cells here (made_below here.side s) again left on_it
 
-    called-turn : (On : List (Standing C) → Type 0) → On call.state → InTurn here.side On (module_called cells here again left s).state
+    called-turn : (On : List (Standing C) → Type 0) → On call.state → InTurn here.side On (module_called K cells here again left s).state
     called-turn On on = booked-holds (OnBoth (OnOne here.side On)) (books-good (OnOne here.side On)) call.gone (stands_behind here call s) (turn-with here.side (HasCall again left) On call.state (names_behind here call s) s turn on)
 
-    out-goes : (K : Behaviour) → again_at cells here (made_below here.side s) again left on_it ≡ true
-        → InTurn here.side (HasCall true (left - bytes_at cells here (made_below here.side s) again left on_it)) (called_out K again left s).state
-    out-goes K works =
-        let t = module_called cells here again left s in
-        let less = left - bytes_at cells here (made_below here.side s) again left on_it in
+    out-goes : again_at K cells here (made_below here.side s) again left on_it ≡ true
+        → InTurn here.side (HasCall true (left - bytes_at K cells here (made_below here.side s) again left on_it)) (called_out K again left s).state
+    out-goes works =
+        let t = module_called K cells here again left s in
+        let less = left - bytes_at K cells here (made_below here.side s) again left on_it in
         turn-sent K cells here.side (HasCall true less) (call-stays K true less) t.sent t.state
-        (called-turn (HasCall true less) (among-goes cells here (made_below here.side s) again left (here.at - 1) on_it (turn-on here.side (HasCall again left) s turn) works))
+        (called-turn (HasCall true less) (among-goes K cells here (made_below here.side s) again left (here.at - 1) on_it (turn-on here.side (HasCall again left) s turn) works))
 
-    out-rests : (K : Behaviour) → again_at cells here (made_below here.side s) again left on_it ≡ false
+    out-rests : again_at K cells here (made_below here.side s) again left on_it ≡ false
         → InTurn here.side AllIdle (called_out K again left s).state
-    out-rests K over =
-        let t = module_called cells here again left s in
+    out-rests over =
+        let t = module_called K cells here again left s in
         turn-sent K cells here.side AllIdle (among-idle K cells) t.sent t.state
-        (called-turn AllIdle (among-rests cells here (made_below here.side s) again left (here.at - 1) on_it (turn-on here.side (HasCall again left) s turn) over))
+        (called-turn AllIdle (among-rests K cells here (made_below here.side s) again left (here.at - 1) on_it (turn-on here.side (HasCall again left) s turn) over))
 
   -- where nothing of a turn is under way, one may begin
   begun : (left : ℕ) (s : State C) → AreIdle s → InTurn here.side (HasCall false left) s
@@ -148,7 +148,7 @@ module _ {C : Type 0} (cells : Cells C) (here : Spot) where
   -- calls, up to the end of the turn
   calls-rest : (K : Behaviour) (n : ℕ) (again : Bool) (left : ℕ) (s : State C) → InTurn here.side (HasCall again left) s → let v = calls K cells here n again left s in v.ended ≡ true → InTurn here.side AllIdle v.state
   calls-rest K zero again left s turn ended = absurd (false≢true ended)
-  calls-rest K (suc more) again left s turn ended = at (again_at cells here made again left ps) refl (λ goes. calls-rest K more true (left - bytes_at cells here made again left ps) (called_out K again left s).state goes) ended
+  calls-rest K (suc more) again left s turn ended = at (again_at K cells here made again left ps) refl (λ goes. calls-rest K more true (left - bytes_at K cells here made again left ps) (called_out K again left s).state goes) ended
     where
       ps : List (Standing C)
       ps = (stream here.side s).modules
@@ -157,18 +157,18 @@ module _ {C : Type 0} (cells : Cells C) (here : Spot) where
       made = made_below here.side s
 
       less : ℕ
-      less = left - bytes_at cells here made again left ps
+      less = left - bytes_at K cells here made again left ps
 
-      at : (goes : Bool) → again_at cells here made again left ps ≡ goes
+      at : (goes : Bool) → again_at K cells here made again left ps ≡ goes
           → (InTurn here.side (HasCall true less) (called_out K again left s).state → let v = calls K cells here more true less (called_out K again left s).state in v.ended ≡ true → InTurn here.side AllIdle v.state)
-          → (let t = module_called cells here again left s in
+          → (let t = module_called K cells here again left s in
           let u = called_out K again left s in
           let v = calls K cells here more true less u.state in
-          let bytes = bytes_at cells here made again left ps in
+          let bytes = bytes_at K cells here made again left ps in
           let w : Calls C = cond goes (record { state = v.state; gone = t.gone ++ u.gone ++ v.gone; bytes = bytes + v.bytes; ended = v.ended }) (record { state = u.state; gone = t.gone ++ u.gone; bytes = bytes; ended = true }) in
           w.ended ≡ true → InTurn here.side AllIdle w.state)
-      at true works behind ended = behind (out-goes again left s turn K works) ended
-      at false over behind ended = out-rests again left s turn K over
+      at true works behind ended = behind (out-goes K again left s turn works) ended
+      at false over behind ended = out-rests K again left s turn over
 
   abbrev Rests : TurnOutcome C → Type 0
   Rests t = AreIdle t.state
@@ -196,7 +196,7 @@ module _ {C : Type 0} (cells : Cells C) (here : Spot) where
   there-rests : (K : Behaviour) (name : QueueName) (turn : Turn) (s : State C) → AreIdle s → Rests (turned_there K cells here name turn s)
   there-rests K name turn s idle =
       let ps = (stream here.side s).modules in
-      let asks = at_place (module_asks here.way) asked.Empty here.at ps in
+      let asks = at_place (module_asks K cells here.way) asked.Empty here.at ps in
       either Rests (at_place module_rests false here.at ps) (asked_turn K cells here asks name turn s) (stayed_put Blocked s) (asked-rests K asks name turn s idle) idle
 
 module _ {C : Type 0} where
@@ -227,18 +227,18 @@ module _ {C : Type 0} (p : Dir → C → Bool) where
 
   module _ (cells : Cells C) (ignores : IgnoresMapping cells p) (here : Spot) where
     -- a call, with what it sent
-    out-keeps : (K : Behaviour) (again : Bool) (left : ℕ) (s : State C) → InTurn here.side (HasCall cells here again left) s → let t = module_called cells here again left s in let u = called_out cells here K again left s in
+    out-keeps : (K : Behaviour) (again : Bool) (left : ℕ) (s : State C) → InTurn here.side (HasCall cells here again left) s → let t = module_called K cells here again left s in let u = called_out cells here K again left s in
         state_weight p u.state + weight_gone p (t.gone ++ u.gone) ≡ state_weight p s + weight_made p (t.gone ++ u.gone)
     out-keeps K again left s turn =
         let ps = (stream here.side s).modules in
         let made = made_below here.side s in
-        let t = module_called cells here again left s in
+        let t = module_called K cells here again left s in
         let u = called_out cells here K again left s in
-        let acted = call_at cells here made again left ps in
+        let acted = call_at K cells here made again left ps in
         let one = turn-on here.side (HasCall cells here again left) s turn in
         omega (
           arith,
-          among-keeps cells here made again left p ignores (here.at - 1) ps one,
+          among-keeps K cells here made again left p ignores (here.at - 1) ps one,
           booked-keeps p acted.gone (stands_behind here acted s),
           with-keeps here.side acted.state (names_behind here acted s) s,
           in_turn-keeps p (state_weight p) (carried (put_in K cells) HOPS) t.sent (carries K cells (λ changes. ignores) t.sent) t.state,
@@ -249,7 +249,7 @@ module _ {C : Type 0} (p : Dir → C → Bool) where
     calls-keep : (K : Behaviour) (n : ℕ) (again : Bool) (left : ℕ) (s : State C) → InTurn here.side (HasCall cells here again left) s → let v = calls K cells here n again left s in
         state_weight p v.state + weight_gone p v.gone ≡ state_weight p s + weight_made p v.gone
     calls-keep K zero again left s turn = omega arith
-    calls-keep K (suc more) again left s turn = at (again_at cells here made again left ps) refl (λ goes. calls-keep K more true (left - bytes_at cells here made again left ps) (called_out cells here K again left s).state goes)
+    calls-keep K (suc more) again left s turn = at (again_at K cells here made again left ps) refl (λ goes. calls-keep K more true (left - bytes_at K cells here made again left ps) (called_out cells here K again left s).state goes)
       where
         ps : List (Standing C)
         ps = (stream here.side s).modules
@@ -258,22 +258,22 @@ module _ {C : Type 0} (p : Dir → C → Bool) where
         made = made_below here.side s
 
         less : ℕ
-        less = left - bytes_at cells here made again left ps
+        less = left - bytes_at K cells here made again left ps
 
-        at : (goes : Bool) → again_at cells here made again left ps ≡ goes
+        at : (goes : Bool) → again_at K cells here made again left ps ≡ goes
             → (let u = called_out cells here K again left s in
             InTurn here.side (HasCall cells here true less) u.state → let v = calls K cells here more true less u.state in state_weight p v.state + weight_gone p v.gone ≡ state_weight p u.state + weight_made p v.gone)
-            → (let t = module_called cells here again left s in
+            → (let t = module_called K cells here again left s in
             let u = called_out cells here K again left s in
-            let bytes = bytes_at cells here made again left ps in
+            let bytes = bytes_at K cells here made again left ps in
             let v = calls K cells here more true (left - bytes) u.state in
             let w : Calls C = cond goes (record { state = v.state; gone = t.gone ++ u.gone ++ v.gone; bytes = bytes + v.bytes; ended = v.ended }) (record { state = u.state; gone = t.gone ++ u.gone; bytes = bytes; ended = true }) in
             state_weight p w.state + weight_gone p w.gone ≡ state_weight p s + weight_made p w.gone)
         at true works behind =
-            let t = module_called cells here again left s in
+            let t = module_called K cells here again left s in
             let u = called_out cells here K again left s in
             let v = calls K cells here more true less u.state in
-            omega (arith, out-keeps K again left s turn, behind (out-goes cells here again left s turn K works), gone-append p (t.gone ++ u.gone) v.gone, made-append p (t.gone ++ u.gone) v.gone)
+            omega (arith, out-keeps K again left s turn, behind (out-goes cells here K again left s turn works), gone-append p (t.gone ++ u.gone) v.gone, made-append p (t.gone ++ u.gone) v.gone)
         at false over behind = out-keeps K again left s turn
 
     -- a turn in a pair that had so many cells
@@ -300,7 +300,7 @@ module _ {C : Type 0} (p : Dir → C → Bool) where
         → Keeps (state_weight p s) (turned_there K cells here name turn s)
     there-keeps K name turn s idle =
         let ps = (stream here.side s).modules in
-        let asks = at_place (module_asks here.way) asked.Empty here.at ps in
+        let asks = at_place (module_asks K cells here.way) asked.Empty here.at ps in
         either (Keeps (state_weight p s)) (at_place module_rests false here.at ps) (asked_turn K cells here asks name turn s) (stayed_put Blocked s) (asked-keeps K asks name turn s idle) (omega arith)
 
   pub module_turned-keeps : (K : Behaviour) (cells : Cells C) → IgnoresMapping cells p → (name : QueueName) (turn : Turn) (s : State C) → AreIdle s → let t = module_turned K cells name turn s in

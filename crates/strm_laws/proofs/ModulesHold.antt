@@ -29,7 +29,7 @@ module _ {C : Type 0} (Good : Side → List (Standing C) → Type 0) where
     stack-good here m s good =
         let on = stream here.side s in
         let t = put_among (module_puts K cells (made_above here.side s)) (here.at - 1) here m on.modules in
-        acted-holds OnBoth (λ names s adds good. good) books-good here t s
+        acted-holds OnBoth (λ names s good. good) books-good here t s
         (with-good here.side (record on { modules = t.state }) s (kept here.side (made_above here.side s) (here.at - 1) here m on.modules (good here.side)) good)
 
     pub puts-good : PutHolds {C = C} OnBoth (put_in K cells)

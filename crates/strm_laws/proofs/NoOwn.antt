@@ -1,5 +1,5 @@
 -- The behaviour of no module: where it is chosen, a user has none of his own.
-use Rattle.strm_laws.proofs.Prelude.{ℕ, ◌≤◌, false, [], refl, arith, false≢true, sum_by}
+use Rattle.strm_laws.proofs.Prelude.{ℕ, ◌≤◌, true, false, [], refl, arith, false≢true, sum_by}
 use Rattle.strm_laws.specs.Prelude.{Way, Up, Down, Spot, Cells, Message, toward, emits_at, At, Shape, Asking, shape_of}
 use Rattle.strm_types.specs.Owns.{Own}
 use Rattle.strm_types.specs.Tables.{own_does}
@@ -37,6 +37,8 @@ none = record {
   fresh = λ n. [];
   puts = λ cells here m x. passes_all here m x;
   changes = false;
+  holds = λ here m x. false;
+  goes = λ way ms x. true;
   good = λ n is. absurd (false≢true is);
   put = λ cells here m x. passes-put cells here m x;
   forgets = λ cells are here m x. refl;

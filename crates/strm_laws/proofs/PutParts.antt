@@ -9,7 +9,6 @@ use Rattle.strm_laws.specs.Past.{end_queue, with_end_queue}
 use Rattle.strm_laws.specs.Puts.{booked, delivered, earlier_at, made_above, module_acted, passed_up, put_at_driver, put_at_head, put_at_module, put_behind, put_below, put_in}
 use Rattle.strm_laws.specs.Stacked.{Standing, module_name, module_puts}
 use Rattle.strm_laws.specs.State.{State, book, stream, with_book, with_stream}
-use Rattle.strm_laws.proofs.NamesAdded.{AddsNone, noted-adds}
 use Rattle.strm_laws.proofs.SameNames.{keep-names}
 
 -- a writer of a band that waits at the end of a stream
@@ -26,15 +25,13 @@ module _ {C : Type 0} (P : State C → Type 0) where
   booked-holds books (Goes dir rule cells ∷ told) s holds = booked-holds books told s holds
   booked-holds books (Comes dir cells ∷ told) s holds = booked-holds books told (with_book dir (with_made (length cells) (book dir s)) s) (books dir (length cells) s holds)
 
-  -- and whichever queues are enabled, as none is of a place without queues that wasn't before
+  -- and whichever queues are enabled
   abbrev pub NamesHold : Type 0
-  NamesHold = (names : List QueueName) (s : State C) → AddsNone s.enabled names → P s → P (record s { enabled = names })
+  NamesHold = (names : List QueueName) (s : State C) → P s → P (record s { enabled = names })
 
   pub acted-holds : NamesHold → BookHolds → (here : Spot) (t : Acted C (List (Standing C))) (s : State C) → P (with_stream here.side (record (stream here.side s) { modules = t.state }) s) → P (module_acted here t s).state
   acted-holds names books here t s holds =
-      let on = stream here.side s in
-      let adds = noted-adds here.side (slice_index_or (places_of on.modules) (here.at - 1) None) (earlier_at here.side here.at s) t.notes s.enabled in
-      booked-holds books t.gone _ (names _ (with_stream here.side (record on { modules = t.state }) s) adds holds)
+      booked-holds books t.gone _ (names _ (with_stream here.side (record (stream here.side s) { modules = t.state }) s) holds)
 
   pub either-holds : (b : Bool) (one another : Took C (State C)) → P one.state → P another.state → P (cond b one another).state
   either-holds true one another first second = first

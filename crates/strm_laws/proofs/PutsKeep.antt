@@ -155,7 +155,7 @@ module _ {C : Type 0} (s : State C) where
       enabled t same = record { opened = same.opened; locked = same.locked; next_ioctl = same.next_ioctl; written = same.written }
 
       same-enabled : NamesHold (SameButMade s)
-      same-enabled names t adds same = record { opened = same.opened; locked = same.locked; next_ioctl = same.next_ioctl; written = same.written }
+      same-enabled names t same = record { opened = same.opened; locked = same.locked; next_ioctl = same.next_ioctl; written = same.written }
 
       waits : (side : Side) (way : Way) (band : ℕ) (t : State C) → SameButMade s t → SameButMade s (waiting side way band t)
       waits side Up band t same = same-with side _ t refl same

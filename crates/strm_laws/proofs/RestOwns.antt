@@ -1,18 +1,22 @@
 -- A put at a module of a user's own adds no more moves than its message costs: it makes no M_DATA and no M_IOCTL of another kind, and loses and
 -- doubles no cell.
 use Rattle.strm_laws.proofs.Prelude.{ℕ, suc, ◌≡◌, ◌≤◌, ◌+◌, ◌-◌, Bool, true, false, cond, List, [], ◌∷◌, length, refl, subst, arith}
-use Rattle.strm_laws.proofs.Prelude.{◌&&◌, not, sum_by}
+use Rattle.strm_laws.proofs.Prelude.{◌&&◌, not, sum_by, Option, None, Some}
 use Rattle.std.specs.List.{AllByRecursion}
 use Rattle.strm_laws.specs.Prelude.{FlushAsked, MsgKind, Data, Proto, Ioctl, Flush, Sig, Side, Way, Up, Down, Spot, Cells, Parcel}
 use Rattle.strm_laws.specs.Prelude.{asked_by, is_bare_flush, is_flush, Message, cells_of, has_parts, weight_of, other, cost_of, emits_at}
-use Rattle.strm_laws.specs.Prelude.{At, Shape, Held, Asking, FlushR, FlushW, FlushRW, FlushMixed, Packed, shape_by, shape_of, toward}
+use Rattle.strm_laws.specs.Prelude.{At, Shape, Held, Asking, FlushR, FlushW, FlushRW, FlushMixed, Packed, shape_by, shape_of, toward, QueuePair}
+use Rattle.strm_laws.specs.Prelude.{stood}
 use Rattle.strm_types.specs.Owns.{Own}
+use Rattle.strm_types.specs.OwnStands.{own_holds, own_puts, own_queued, pair_flushed}
+use Rattle.strm_types.specs.Service.{acts_alone}
 use Rattle.strm_types.specs.Tables.{own_does}
-use Rattle.strm_laws.specs.Behaviours.{Behaviour, is_only_itself}
+use Rattle.strm_laws.specs.Behaviours.{Behaviour, is_only_itself, own_by}
 use Rattle.strm_laws.specs.Places.{weight_sent}
 use Rattle.strm_laws.specs.Rest.{echoes, moves_above}
 use Rattle.strm_laws.specs.StackCosts.{Stands}
 use Rattle.strm_laws.proofs.Based.{all-counted}
+use Rattle.strm_laws.proofs.NoOwn.{none}
 use Rattle.strm_laws.proofs.RestCosts.{above-more, above-wider, at_or_above, at_or_below, below-wider, sinks-more, sinks_by, toll, toll_at}
 use Rattle.strm_laws.proofs.RestPuts.{tolls}
 
@@ -226,3 +230,15 @@ module _ (all : Stands) (posts : Side → ℕ) where
           ≡ most_by m.kind (length (cells_of m)) way here.side (toward way here).at shape
       same-next Up here shape = refl
       same-next Down here shape = refl
+
+  -- where one has queues, what waits is not sent on, and an M_FLUSH passes
+  pub own-pays : {C : Type 0} (K : Behaviour) (cells : Cells C) (here : Spot) (m : Message C) (o : Own) (queues : Option (QueuePair C))
+      → tolls all posts (own_puts (own_by K cells) here m (stood o queues)).sent ≤ toll all posts here m
+  own-pays K cells here m o None = own-few K cells here m o
+  own-pays K cells here m o (Some pair) = at (is_flush m.kind) (own_holds (own_by K cells) here m o)
+    where
+      at : (flush holds : Bool) → tolls all posts (cond flush (pair_flushed here m o pair)
+          (cond holds (own_queued here.way m o pair) (acts_alone (K.puts cells here m) (stood o (Some pair))))).sent ≤ toll all posts here m
+      at true holds = own-few none cells here m o
+      at false true = omega arith
+      at false false = own-few K cells here m o

@@ -11,7 +11,7 @@ use Rattle.strm_types.specs.declared.names.Place.TheVariants as places
 use Rattle.strm_laws.specs.Behaviours.{Behaviour}
 use Rattle.strm_laws.specs.Pair.{PairState, RanTurns, next_refused, refused_of}
 use Rattle.strm_laws.specs.Refusals.{Free, enough, has_room, in_range}
-use Rattle.strm_laws.specs.Rest.{EchoesOnce, NoLdterm, work}
+use Rattle.strm_laws.specs.Rest.{EchoesOnce, NoneQueues, work}
 use Rattle.strm_laws.specs.Restorable.{Restorable}
 use Rattle.strm_laws.specs.StackCosts.{Stands, stands_of}
 use Rattle.strm_laws.specs.State.{State}
@@ -29,13 +29,13 @@ none-took old new same = (ap (λ (p : PairState). stands_of p.state) same, (let 
 one-took : (n : ℕ) (old mid new : PairState) → Took n old mid → (stands_of new.state ≡ stands_of mid.state) × (work new.state < work mid.state) → Took (suc n) old new
 one-took n old mid new took turn = (turn.0 ∙ took.0, (let before = took.1 in let less = turn.1 in omega (arith, before, less)))
 
-pub plain-runs : (K : Behaviour) (n : ℕ) (old new : PairState) → RanTurns K n old new → NoLdterm (stands_of old.state) → Took n old new
+pub plain-runs : (K : Behaviour) (n : ℕ) (old new : PairState) → RanTurns K n old new → NoneQueues (stands_of old.state) → Took n old new
 plain-runs K zero old new same none = none-took old new same
 plain-runs K (suc n) old new ran none =
     let mid = ran.0 in
     let took = plain-runs K n old mid ran.1.0 none in
     let step = ran.1.1.adds.step in
-    let less = plain-turn K plain ran.1.1.name ran.1.1.turn mid.state (subst (λ (all : Stands). NoLdterm all) (sym took.0) none) step.enabled in
+    let less = plain-turn K plain ran.1.1.name ran.1.1.turn mid.state (subst (λ (all : Stands). NoneQueues all) (sym took.0) none) step.enabled in
     one-took n old mid new took (subst (λ (t : State ℕ). (stands_of t ≡ stands_of mid.state) × (work t < work mid.state)) step.leads less)
 
 -- where an image may hold the pair, each of its lines is short, and so it stays

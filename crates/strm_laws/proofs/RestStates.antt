@@ -4,7 +4,7 @@ use Rattle.strm_laws.proofs.Prelude.{ℕ, zero, suc, ◌≡◌, ◌≤◌, ◌<�
 use Rattle.strm_laws.proofs.Prelude.{◌∙◌, arith, ◌&&◌, ◌==◌, not, nat_le, sum_by, nat_tests, sum_by-cons, get-map, carried-holds}
 use Rattle.strm_laws.specs.Prelude.{MsgKind, Flush, HOPS, MODULES, ModuleName, Side, Master, Slave, Way, Up, Down, Spot, Cells, Acted, Comes, Fate}
 use Rattle.strm_laws.specs.Prelude.{Goes, Parcel, Took, carried, in_turn, driver_put, is_bare_flush, is_flush, head_put, Message, cells_of, has_parts}
-use Rattle.strm_laws.specs.Prelude.{put_among, is_open, other, stood, disciplined}
+use Rattle.strm_laws.specs.Prelude.{put_among, have_queues, is_open, other, stood, disciplined}
 use Rattle.strm_types.specs.declared.names.ModuleName.TheVariants as names
 use Rattle.strm_laws.specs.Behaviours.{Behaviour}
 use Rattle.strm_laws.specs.Earlier.{driver_place, modules_on}
@@ -15,16 +15,16 @@ use Rattle.strm_laws.specs.Stacked.{Standing, OfLdterm, OfOwn, OfPtem, OfPckt, m
 use Rattle.strm_laws.specs.State.{State, Stream, stream, with_stream}
 use Rattle.strm_laws.proofs.RestCosts.{PutPays, above-more, at_or_above, at_or_below, carried-pays, in_turn-pays, sinks_by, toll, toll_at, up-falls}
 use Rattle.strm_laws.proofs.RestLdterms.{ldterm-pays}
-use Rattle.strm_laws.proofs.RestOwns.{own-few}
+use Rattle.strm_laws.proofs.RestOwns.{own-pays}
 use Rattle.strm_laws.proofs.RestPuts.{came-across, came-down, head-few, pckt-few, ptem-few, tolls}
 use Rattle.strm_laws.proofs.StackStays.{Stand, puts-stand}
 
--- An ldterm stands at this place and the other stream has none; pckt stands where no ldterm is above.
+-- An ldterm stands at this place and the other stream has none; pckt stands where no ldterm is above; none of a user's own has queues.
 abbrev pub FitsName : Bool → Bool → ℕ → ℕ → ModuleName → Type 0
 FitsName echoed across post at names.Ldterm = (echoed ≡ true) × (across ≡ false) × (post ≡ at)
 FitsName echoed across post at names.Ptem = Unit {0}
 FitsName echoed across post at names.Pckt = at_or_above echoed post (at - 1) ≡ false
-FitsName echoed across post at (names.Own n) = Unit {0}
+FitsName echoed across post at (names.Own n) = have_queues (names.Own n) ≡ false
 
 abbrev pub FitNames : Bool → Bool → ℕ → ℕ → List ModuleName → Type 0
 FitNames echoed across post at [] = Unit {0}
@@ -122,7 +122,7 @@ module _ {C : Type 0} (all : Stands) where
           by (OfLdterm l) fits = ldterm-pays all posts here some fits.0 fits.1 fits.2 m (disciplined l x.queues)
           by (OfPtem q) fits = omega (arith, ptem-few all posts here m q)
           by (OfPckt q) fits = omega (arith, pckt-few all posts cells made here m fits)
-          by (OfOwn o) fits = omega (arith, own-few all posts K cells here m o)
+          by (OfOwn o) fits = omega (arith, own-pays all posts K cells here m o x.queues)
 
       among-pays : (i at : ℕ) (here : Spot) (m : Message C) (ps : List (Standing C)) → 0 < here.at → at + i ≡ here.at → FitNames (echoes all here.side) (echoes all (other here.side)) (posts here.side) at (map module_name ps)
           → let t = put_among (module_puts K cells made) i here m ps in sum_by module_moves t.state + tolls all posts t.sent ≤ sum_by module_moves ps + toll all posts here m

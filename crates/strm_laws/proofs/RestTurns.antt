@@ -1,25 +1,30 @@
 -- A turn of a queue leaves fewer moves, or no more of them and only its own queue less enabled.
 use Rattle.strm_laws.proofs.Prelude.{ℕ, zero, suc, ◌≡◌, ◌≤◌, ◌<◌, ◌+◌, ◌-◌, ◌*◌, ◌⊎◌, inl, inr, Bool, true, false, cond, List, [], ◌∷◌, ◌++◌, map}
 use Rattle.strm_laws.proofs.Prelude.{refl, sym, ap, subst, ◌∙◌, arith, ◌&&◌, ◌==◌, not, max, min, sum_by, slice_index_or, Option, None, Some, is_some}
-use Rattle.strm_laws.proofs.Prelude.{option_map, sum_by-cons, carried-holds, in_turn-holds, either}
+use Rattle.strm_laws.proofs.Prelude.{option_map, sum_by-cons, carried-holds, in_turn-holds, either, false≢true}
 use Rattle.strm_laws.specs.Prelude.{Turn, Moved, Blocked, Idle, HOPS, QueueName, Side, Way, Up, Down, Asks, Spot, asked_first, ldterm_asks, Cells}
 use Rattle.strm_laws.specs.Prelude.{Acted, carried, in_turn, disciplined, Answered, Begun, Between, Discipline as TheLdterm, Stage, is_between}
 use Rattle.strm_laws.specs.Prelude.{queue_at, Message, band_of, size_of, at_place, place_past, with_waiting, QueuePair, messages_at, pair_changed}
-use Rattle.strm_laws.specs.Prelude.{queue_changed, stood, act_among, change_among, is_open, other, output_serves, Queue, first_size, is_none_left}
+use Rattle.strm_laws.specs.Prelude.{queue_changed, stood, act_among, change_among, have_queues, is_open, other, output_serves, Queue, first_size}
+use Rattle.strm_laws.specs.Prelude.{is_none_left}
 use Rattle.strm_laws.specs.Prelude.{left_with, relieved, turn_ended}
 use Rattle.std.specs.List.{AllByRecursion}
 use Rattle.strm_types.specs.declared.spots.Asks.TheVariants as asked
 use Rattle.strm_types.specs.Ldterms.{Ldterm}
-use Rattle.strm_laws.specs.Behaviours.{Behaviour}
+use Rattle.strm_types.specs.OwnStands.{own_served, own_serves}
+use Rattle.strm_types.specs.Owns.{Own}
+use Rattle.strm_types.specs.Standings.{way_queue}
+use Rattle.strm_laws.specs.Behaviours.{Behaviour, own_by}
 use Rattle.strm_laws.specs.Earlier.{driver_place, modules_on}
 use Rattle.strm_laws.specs.LdtermTurns.{ldterm_rests}
-use Rattle.strm_laws.specs.ModuleTurns.{Calls, again_at, asked_turn, bytes_at, call_at, calls, made_below, module_called, module_turn_ended, moved_on, moved_within, queue_ended, stayed_at, turned_there, waits_there}
+use Rattle.strm_laws.specs.ModuleTurns.{Calls, again_at, asked_turn, bytes_at, call_at, calls, made_below, module_called, module_turn_ended, moved_on}
+use Rattle.strm_laws.specs.ModuleTurns.{moved_within, queue_ended, stayed_at, turned_there, waits_there}
 use Rattle.strm_laws.specs.Past.{has_room_past, waits_on, writer_waits}
 use Rattle.strm_laws.specs.Puts.{delivered, put_in}
 use Rattle.strm_laws.specs.Rest.{echoes, ldterm_moves, module_moves, moves, moves_across, moves_in, moves_out, stream_moves}
 use Rattle.strm_laws.specs.Restorable.{GoodKind, GoodModule}
 use Rattle.strm_laws.specs.StackCosts.{Stands, stands_of}
-use Rattle.strm_laws.specs.Stacked.{Module, OfLdterm, Standing, kind_name, module_asks, module_name, module_rests, module_serves}
+use Rattle.strm_laws.specs.Stacked.{Module, OfLdterm, OfOwn, Standing, kind_name, module_asks, module_name, module_rests, module_serves}
 use Rattle.strm_laws.specs.State.{State, Stream, stream, with_driver_queue, with_stream}
 use Rattle.strm_laws.specs.TurnOutcomes.{TurnOutcome, stayed_put}
 use Rattle.strm_laws.specs.Turns.{driver_serves, held_back, is_stopped_across, moved_across, turned_queue, up_across, with_driver}
@@ -176,15 +181,15 @@ module _ {C : Type 0} (all : Stands) where
         (moved-leaves K side m rest s is first)
 
     module _ (here : Spot) (some : 0 < here.at) where
-      abbrev acts : Bool → ℕ → ℕ → Standing C → Acted C (Standing C)
-      acts again made left p = (module_serves cells here made again (Some left) p).acted
+      abbrev acts : Behaviour → Bool → ℕ → ℕ → Standing C → Acted C (Standing C)
+      acts K again made left p = (module_serves K cells here made again (Some left) p).acted
 
       abbrev FitsHere : ℕ → List (Standing C) → Type 0
       FitsHere at ps = FitNames (echoes all here.side) (echoes all (other here.side)) (posts here.side) at (map module_name ps)
 
       -- a module whose turn may begin, and treats so many bytes of its first message
-      abbrev pub Ready : ℕ → Standing C → Type 0
-      Ready left q = (module_rests q ≡ true) × (is_waiting (module_asks here.way q) ≡ true) × Goes left (first_size (messages_at here.way q))
+      abbrev pub Ready : Behaviour → ℕ → Standing C → Type 0
+      Ready K left q = (module_rests q ≡ true) × (is_waiting (module_asks K cells here.way q) ≡ true) × Goes left (first_size (messages_at here.way q))
 
       waits-some : (way : Way) (l : TheLdterm C) → is_waiting (ldterm_asks way l) ≡ true → is_none_left (queue_at way l).messages ≡ false
       waits-some way l is = at (queue_at way l).messages is
@@ -193,77 +198,90 @@ module _ {C : Type 0} (all : Stands) where
           at [] is = absurd (cc)
           at (m ∷ ms) is = refl
 
-      module-first : (made left : ℕ) (q : Standing C) → FitsName (echoes all here.side) (echoes all (other here.side)) (posts here.side) here.at (module_name q) → GoodModule q → Ready left q
-          → let t = acts false made left q in suc (module_moves t.state + tolls all posts t.sent) ≤ module_moves q
-      module-first made left q fits good ready = by q.part fits good.kind ready
+      module-first : (K : Behaviour) (made left : ℕ) (q : Standing C) → FitsName (echoes all here.side) (echoes all (other here.side)) (posts here.side) here.at (module_name q) → GoodModule q → Ready K left q
+          → let t = acts K false made left q in suc (module_moves t.state + tolls all posts t.sent) ≤ module_moves q
+      module-first K made left q fits good ready = by q.part fits good.kind good.has ready
         where
-          by : (part : Module C) → FitsName (echoes all here.side) (echoes all (other here.side)) (posts here.side) here.at (kind_name part) → GoodKind part → Ready left (stood part q.queues)
-              → let t = acts false made left (stood part q.queues) in suc (module_moves t.state + tolls all posts t.sent) ≤ module_moves (stood part q.queues)
-          by (OfLdterm l) fits own ready =
+          bare : (queues : Option (QueuePair C)) (o : Own) → is_some queues ≡ false → is_waiting (module_asks K cells here.way (stood (OfOwn o) queues)) ≡ true → ⊥
+          bare None o none waits = false≢true waits
+          bare (Some pair) o none waits = false≢true (sym none)
+
+          by : (part : Module C) → FitsName (echoes all here.side) (echoes all (other here.side)) (posts here.side) here.at (kind_name part) → GoodKind part
+              → is_some q.queues ≡ have_queues (kind_name part) → Ready K left (stood part q.queues)
+              → let t = acts K false made left (stood part q.queues) in suc (module_moves t.state + tolls all posts t.sent) ≤ module_moves (stood part q.queues)
+          by (OfLdterm l) fits own has ready =
               let d = disciplined l q.queues in
               let size = subst (λ ms. Goes left (first_size ms)) (sym (stands-at here.way l q.queues)) ready.2 in
               first-fewer cells all posts here some fits.0 fits.1 fits.2 here.way made left d (rests-between l ready.0) (waits-some here.way d ready.1) size (good-with l q.queues own good.queues)
-          by part fits own ready = absurd (cc (ready.1))
+          by (OfOwn o) fits own has ready = absurd (bare q.queues o (has ∙ fits) ready.1)
+          by part fits own has ready = absurd (cc (ready.1))
 
-      module-later : (made left : ℕ) (q : Standing C) → FitsName (echoes all here.side) (echoes all (other here.side)) (posts here.side) here.at (module_name q) → GoodModule q → here.way ≡ Up
-          → let t = acts true made left q in module_moves t.state + tolls all posts t.sent ≤ module_moves q
-      module-later made left q fits good up = by q.part fits good.kind
+      module-later : (K : Behaviour) (made left : ℕ) (q : Standing C) → FitsName (echoes all here.side) (echoes all (other here.side)) (posts here.side) here.at (module_name q) → GoodModule q → here.way ≡ Up
+          → let t = acts K true made left q in module_moves t.state + tolls all posts t.sent ≤ module_moves q
+      module-later K made left q fits good up = by q.part fits good.kind good.has
         where
+          bare : (queues : Option (QueuePair C)) (o : Own) → is_some queues ≡ false
+              → let t = acts K true made left (stood (OfOwn o) queues) in module_moves t.state + tolls all posts t.sent ≤ module_moves (stood (OfOwn o) queues)
+          bare None o none = omega arith
+          bare (Some pair) o none = absurd (false≢true (sym none))
+
           by : (part : Module C) → FitsName (echoes all here.side) (echoes all (other here.side)) (posts here.side) here.at (kind_name part) → GoodKind part
-              → let t = acts true made left (stood part q.queues) in module_moves t.state + tolls all posts t.sent ≤ module_moves (stood part q.queues)
-          by (OfLdterm l) fits own =
+              → is_some q.queues ≡ have_queues (kind_name part)
+              → let t = acts K true made left (stood part q.queues) in module_moves t.state + tolls all posts t.sent ≤ module_moves (stood part q.queues)
+          by (OfLdterm l) fits own has =
               later-less cells all posts here some fits.0 fits.1 fits.2 here.way made left (disciplined l q.queues) up (good-with l q.queues own good.queues)
-          by part fits own = omega arith
+          by (OfOwn o) fits own has = bare q.queues o (has ∙ fits)
+          by part fits own has = omega arith
 
       fits-at : (at : ℕ) (q : Standing C) → at ≡ here.at → FitsName (echoes all here.side) (echoes all (other here.side)) (posts here.side) at (module_name q) → FitsName (echoes all here.side) (echoes all (other here.side)) (posts here.side) here.at (module_name q)
       fits-at at q same fits = subst (λ n. FitsName (echoes all here.side) (echoes all (other here.side)) (posts here.side) n (module_name q)) same fits
 
-      among-first : (made left i at : ℕ) (ps : List (Standing C)) → at + i ≡ here.at → FitsHere at ps → AllByRecursion GoodModule ps → At (Ready left) i ps
-          → let t = act_among (acts false made left) i ps in suc (sum_by module_moves t.state + tolls all posts t.sent) ≤ sum_by module_moves ps
-      among-first made left i at [] is fits good ready = absurd (cc (ready))
-      among-first made left zero at (q ∷ qs) is fits good ready =
-          let t = acts false made left q in
-          omega (arith, module-first made left q (fits-at at q (omega (arith, is)) fits.0) good.0 ready, sum_by-cons module_moves q qs, sum_by-cons module_moves t.state qs)
-      among-first made left (suc i) at (q ∷ qs) is fits good ready =
-          let t = act_among (acts false made left) i qs in
-          omega (arith, among-first made left i (suc at) qs (omega (arith, is)) fits.1 good.1 ready, sum_by-cons module_moves q qs, sum_by-cons module_moves q t.state)
+      among-first : (K : Behaviour) (made left i at : ℕ) (ps : List (Standing C)) → at + i ≡ here.at → FitsHere at ps → AllByRecursion GoodModule ps → At (Ready K left) i ps
+          → let t = act_among (acts K false made left) i ps in suc (sum_by module_moves t.state + tolls all posts t.sent) ≤ sum_by module_moves ps
+      among-first K made left i at [] is fits good ready = absurd (cc (ready))
+      among-first K made left zero at (q ∷ qs) is fits good ready =
+          let t = acts K false made left q in
+          omega (arith, module-first K made left q (fits-at at q (omega (arith, is)) fits.0) good.0 ready, sum_by-cons module_moves q qs, sum_by-cons module_moves t.state qs)
+      among-first K made left (suc i) at (q ∷ qs) is fits good ready =
+          let t = act_among (acts K false made left) i qs in
+          omega (arith, among-first K made left i (suc at) qs (omega (arith, is)) fits.1 good.1 ready, sum_by-cons module_moves q qs, sum_by-cons module_moves q t.state)
 
-      among-later : (made left i at : ℕ) (ps : List (Standing C)) → at + i ≡ here.at → FitsHere at ps → AllByRecursion GoodModule ps → here.way ≡ Up
-          → let t = act_among (acts true made left) i ps in sum_by module_moves t.state + tolls all posts t.sent ≤ sum_by module_moves ps
-      among-later made left i at [] is fits good up = omega arith
-      among-later made left zero at (q ∷ qs) is fits good up =
-          let t = acts true made left q in
-          omega (arith, module-later made left q (fits-at at q (omega (arith, is)) fits.0) good.0 up, sum_by-cons module_moves q qs, sum_by-cons module_moves t.state qs)
-      among-later made left (suc i) at (q ∷ qs) is fits good up =
-          let t = act_among (acts true made left) i qs in
-          omega (arith, among-later made left i (suc at) qs (omega (arith, is)) fits.1 good.1 up, sum_by-cons module_moves q qs, sum_by-cons module_moves q t.state)
+      among-later : (K : Behaviour) (made left i at : ℕ) (ps : List (Standing C)) → at + i ≡ here.at → FitsHere at ps → AllByRecursion GoodModule ps → here.way ≡ Up
+          → let t = act_among (acts K true made left) i ps in sum_by module_moves t.state + tolls all posts t.sent ≤ sum_by module_moves ps
+      among-later K made left i at [] is fits good up = omega arith
+      among-later K made left zero at (q ∷ qs) is fits good up =
+          let t = acts K true made left q in
+          omega (arith, module-later K made left q (fits-at at q (omega (arith, is)) fits.0) good.0 up, sum_by-cons module_moves q qs, sum_by-cons module_moves t.state qs)
+      among-later K made left (suc i) at (q ∷ qs) is fits good up =
+          let t = act_among (acts K true made left) i qs in
+          omega (arith, among-later K made left i (suc at) qs (omega (arith, is)) fits.1 good.1 up, sum_by-cons module_moves q qs, sum_by-cons module_moves q t.state)
 
       -- a call, with what it sent
-      called-stands : (again : Bool) (left : ℕ) (s : State C) → stands_of s ≡ all → stands_of (module_called cells here again left s).state ≡ all
-      called-stands again left s is =
+      called-stands : (K : Behaviour) (again : Bool) (left : ℕ) (s : State C) → stands_of s ≡ all → stands_of (module_called K cells here again left s).state ≡ all
+      called-stands K again left s is =
           let ps = (stream here.side s).modules in
-          let t = call_at cells here (made_below here.side s) again left ps in
-          acted-holds (Stand all) (λ names s adds is. is) (λ dir n s is. is) here t s
-          (stream-stands here.side (record (stream here.side s) { modules = t.state }) s (serve-names cells here (made_below here.side s) again (Some left) (here.at - 1) ps) is)
+          let t = call_at K cells here (made_below here.side s) again left ps in
+          acted-holds (Stand all) (λ names s is. is) (λ dir n s is. is) here t s
+          (stream-stands here.side (record (stream here.side s) { modules = t.state }) s (serve-names K cells here (made_below here.side s) again (Some left) (here.at - 1) ps) is)
 
       abbrev sent_on : Behaviour → Bool → ℕ → State C → State C
-      sent_on K again left s = let t = module_called cells here again left s in (in_turn (carried (put_in K cells) HOPS) t.sent t.state).state
+      sent_on K again left s = let t = module_called K cells here again left s in (in_turn (carried (put_in K cells) HOPS) t.sent t.state).state
 
       on-stands : (K : Behaviour) (again : Bool) (left : ℕ) (s : State C) → stands_of s ≡ all → stands_of (sent_on K again left s) ≡ all
       on-stands K again left s is =
-          let t = module_called cells here again left s in
-          in_turn-holds (Stand all) (carried (put_in K cells) HOPS) (carried-holds (Stand all) (put_in K cells) (puts-stand all K cells) HOPS) t.sent t.state (called-stands again left s is)
+          let t = module_called K cells here again left s in
+          in_turn-holds (Stand all) (carried (put_in K cells) HOPS) (carried-holds (Stand all) (put_in K cells) (puts-stand all K cells) HOPS) t.sent t.state (called-stands K again left s is)
 
-      on-first : (K : Behaviour) (left : ℕ) (s : State C) → stands_of s ≡ all → AreStreams s → At (Ready left) (here.at - 1) (stream here.side s).modules → suc (moves all (sent_on K false left s)) ≤ moves all s
+      on-first : (K : Behaviour) (left : ℕ) (s : State C) → stands_of s ≡ all → AreStreams s → At (Ready K left) (here.at - 1) (stream here.side s).modules → suc (moves all (sent_on K false left s)) ≤ moves all s
       on-first K left s is good ready =
           let ps = (stream here.side s).modules in
           let made = made_below here.side s in
-          let t = module_called cells here false left s in
+          let t = module_called K cells here false left s in
           omega (
             arith,
-            among-first made left (here.at - 1) 1 ps (omega (arith, some)) (fits-on all posts fit here.side s is) (good.0 here.side).modules.each ready,
-            acted-moves all here (call_at cells here made false left ps) s,
-            sent-pays all posts fit cells K t.sent t.state (called-stands false left s is),
+            among-first K made left (here.at - 1) 1 ps (omega (arith, some)) (fits-on all posts fit here.side s is) (good.0 here.side).modules.each ready,
+            acted-moves all here (call_at K cells here made false left ps) s,
+            sent-pays all posts fit cells K t.sent t.state (called-stands K false left s is),
           )
 
       on-later : (K : Behaviour) (left : ℕ) (s : State C) → stands_of s ≡ all → AreStreams s → here.way ≡ Up → moves all (sent_on K true left s)
@@ -271,70 +289,79 @@ module _ {C : Type 0} (all : Stands) where
       on-later K left s is good up =
           let ps = (stream here.side s).modules in
           let made = made_below here.side s in
-          let t = module_called cells here true left s in
+          let t = module_called K cells here true left s in
           omega (
             arith,
-            among-later made left (here.at - 1) 1 ps (omega (arith, some)) (fits-on all posts fit here.side s is) (good.0 here.side).modules.each up,
-            acted-moves all here (call_at cells here made true left ps) s,
-            sent-pays all posts fit cells K t.sent t.state (called-stands true left s is),
+            among-later K made left (here.at - 1) 1 ps (omega (arith, some)) (fits-on all posts fit here.side s is) (good.0 here.side).modules.each up,
+            acted-moves all here (call_at K cells here made true left ps) s,
+            sent-pays all posts fit cells K t.sent t.state (called-stands K true left s is),
           )
 
       -- on the write queue one call is a turn
-      down-once : (made left i : ℕ) (again : Bool) (ps : List (Standing C)) → here.way ≡ Down → slice_index_or (map (λ p. (module_serves cells here made again (Some left) p).again) ps) i false ≡ false
-      down-once made left i again [] down = refl
-      down-once made left zero again (q ∷ qs) down = one here.way q down
+      down-once : (K : Behaviour) (made left i : ℕ) (again : Bool) (ps : List (Standing C)) → here.way ≡ Down → slice_index_or (map (λ p. (module_serves K cells here made again (Some left) p).again) ps) i false ≡ false
+      down-once K made left i again [] down = refl
+      down-once K made left zero again (q ∷ qs) down = one here.way q down
         where
           served : (ms : List (Message C)) (l : TheLdterm C) (spot : Spot) → (output_serves cells spot (Some left) made ms l).again ≡ false
           served [] l spot = refl
           served (m ∷ ms) l spot = refl
 
-          one : (way : Way) (q : Standing C) → way ≡ Down → (module_serves cells (record here { way = way }) made again (Some left) q).again ≡ false
+          owns : (o : Own) (queues : Option (QueuePair C)) (spot : Spot) → (own_serves (own_by K cells) spot (stood o queues)).again ≡ false
+          owns o None spot = refl
+          owns o (Some pair) spot = one-served (way_queue spot.way pair).messages
+            where
+              one-served : (ms : List (Message C)) → (own_served (own_by K cells) spot (stood o (Some pair)) pair ms).again ≡ false
+              one-served [] = refl
+              one-served (m ∷ ms) = refl
+
+          one : (way : Way) (q : Standing C) → way ≡ Down → (module_serves K cells (record here { way = way }) made again (Some left) q).again ≡ false
           one way q down = by way q.part down
             where
-              by : (way : Way) (part : Module C) → way ≡ Down → (module_serves cells (record here { way = way }) made again (Some left) (stood part q.queues)).again ≡ false
+              by : (way : Way) (part : Module C) → way ≡ Down → (module_serves K cells (record here { way = way }) made again (Some left) (stood part q.queues)).again ≡ false
               by Down (OfLdterm l) down = let d = disciplined l q.queues in served d.write_queue.messages d (record here { way = Down })
               by Up (OfLdterm l) down = absurd (cc)
+              by way (OfOwn o) down = owns o q.queues (record here { way = way })
               by way part down = refl
-      down-once made left (suc i) again (q ∷ qs) down = down-once made left i again qs down
+      down-once K made left (suc i) again (q ∷ qs) down = down-once K made left i again qs down
 
       calls-later : (K : Behaviour) (n left : ℕ) (s : State C) → stands_of s ≡ all → AreStreams s → here.way ≡ Up → let v = calls K cells here n true left s in (stands_of v.state ≡ all) × (moves all v.state ≤ moves all s)
       calls-later K zero left s is good up = (is, omega arith)
       calls-later K (suc more) left s is good up =
           let ps = (stream here.side s).modules in
           let u = sent_on K true left s in
-          let less = left - bytes_at cells here (made_below here.side s) true left ps in
+          let less = left - bytes_at K cells here (made_below here.side s) true left ps in
           let behind = calls-later K more less u (on-stands K true left s is) (call-good cells K here true left s good) up in
           let this = on-later K left s is good up in
-          either (λ (v : Calls C). (stands_of v.state ≡ all) × (moves all v.state ≤ moves all s)) (again_at cells here (made_below here.side s) true left ps) _ _
+          either (λ (v : Calls C). (stands_of v.state ≡ all) × (moves all v.state ≤ moves all s)) (again_at K cells here (made_below here.side s) true left ps) _ _
           (behind.0, omega (arith, behind.1, this)) (on-stands K true left s is, this)
 
       calls-fewer : (K : Behaviour) (n left : ℕ) (s : State C) → 0 < n → stands_of s ≡ all → AreStreams s
-          → At (Ready left) (here.at - 1) (stream here.side s).modules
+          → At (Ready K left) (here.at - 1) (stream here.side s).modules
           → let v = calls K cells here n false left s in (stands_of v.state ≡ all) × (suc (moves all v.state) ≤ moves all s)
       calls-fewer K zero left s goes is good ready = absurd (omega (arith, goes))
-      calls-fewer K (suc more) left s goes is good ready = at (again_at cells here (made_below here.side s) false left ps) refl here.way refl (on-first K left s is good ready)
+      calls-fewer K (suc more) left s goes is good ready = at (again_at K cells here (made_below here.side s) false left ps) refl here.way refl (on-first K left s is good ready)
         where
           ps : List (Standing C)
           ps = (stream here.side s).modules
 
           less_left : ℕ
-          less_left = left - bytes_at cells here (made_below here.side s) false left ps
+          less_left = left - bytes_at K cells here (made_below here.side s) false left ps
 
-          at : (again : Bool) → again_at cells here (made_below here.side s) false left ps ≡ again → (way : Way) → here.way ≡ way → suc (moves all (sent_on K false left s)) ≤ moves all s
-              → (let t = module_called cells here false left s in
+          at : (again : Bool) → again_at K cells here (made_below here.side s) false left ps ≡ again → (way : Way) → here.way ≡ way → suc (moves all (sent_on K false left s)) ≤ moves all s
+              → (let t = module_called K cells here false left s in
               let u = in_turn (carried (put_in K cells) HOPS) t.sent t.state in
-              let bytes = bytes_at cells here (made_below here.side s) false left ps in
+              let bytes = bytes_at K cells here (made_below here.side s) false left ps in
               let v = calls K cells here more true (left - bytes) u.state in
               let w : Calls C = cond again (record { state = v.state; gone = t.gone ++ u.gone ++ v.gone; bytes = bytes + v.bytes; ended = v.ended }) (record { state = u.state; gone = t.gone ++ u.gone; bytes = bytes; ended = true }) in
               (stands_of w.state ≡ all) × (suc (moves all w.state) ≤ moves all s))
           at false is-it way is-way this = (on-stands K false left s is, this)
-          at true is-it Down is-way this = absurd (cc (is-it, down-once (made_below here.side s) left (here.at - 1) false ps is-way))
+          at true is-it Down is-way this = absurd (cc (is-it, down-once K (made_below here.side s) left (here.at - 1) false ps is-way))
           at true is-it Up is-way this =
               let behind = calls-later K more less_left (sent_on K false left s) (on-stands K false left s is) (call-good cells K here false left s good) is-way in
               (behind.0, omega (arith, behind.1, this))
 
       -- a turn that treats so many bytes of the first message
-      pub moved-leaves-here : (K : Behaviour) (name : QueueName) (bytes : ℕ) (s : State C) → stands_of s ≡ all → AreStreams s → At (Ready bytes) (here.at - 1) (stream here.side s).modules → Leaves (moves all s) s.enabled (moved_on K cells here name bytes s).state
+      pub moved-leaves-here : (K : Behaviour) (name : QueueName) (bytes : ℕ) (s : State C) → stands_of s ≡ all → AreStreams s → At (Ready K bytes) (here.at - 1) (stream here.side s).modules → Leaves (moves all s) s.enabled (moved_on K cells here name bytes s).state
       moved-leaves-here K name bytes s is good ready =
           let t = calls K cells here (3 * bytes + 1) false bytes s in
           let behind = calls-fewer K (3 * bytes + 1) bytes s (omega arith) is good ready in
@@ -352,11 +379,11 @@ module _ {C : Type 0} (all : Stands) where
           let waiting = writer_waits here.side here.way here.at band s in
           (ended-stands here false waiting (waits-stand here.side here.way here.at band s is), inr (omega (arith, waits-same here.side here.way here.at band s, ended-same here false waiting), refl))
 
-      one-ready : (left i : ℕ) (ps : List (Standing C)) → slice_index_or (map module_rests ps) i false ≡ true → is_waiting (slice_index_or (map (module_asks here.way) ps) i asked.Empty) ≡ true
-          → Goes left (slice_index_or (map (λ p. first_size (messages_at here.way p)) ps) i 0) → At (Ready left) i ps
-      one-ready left i [] rests waits size = absurd (cc (rests))
-      one-ready left zero (q ∷ qs) rests waits size = (rests, waits, size)
-      one-ready left (suc i) (q ∷ qs) rests waits size = one-ready left i qs rests waits size
+      one-ready : (K : Behaviour) (left i : ℕ) (ps : List (Standing C)) → slice_index_or (map module_rests ps) i false ≡ true → is_waiting (slice_index_or (map (module_asks K cells here.way) ps) i asked.Empty) ≡ true
+          → Goes left (slice_index_or (map (λ p. first_size (messages_at here.way p)) ps) i 0) → At (Ready K left) i ps
+      one-ready K left i [] rests waits size = absurd (cc (rests))
+      one-ready K left zero (q ∷ qs) rests waits size = (rests, waits, size)
+      one-ready K left (suc i) (q ∷ qs) rests waits size = one-ready K left i qs rests waits size
 
       -- how far a turn goes that moved so many bytes
       goes-far : (bytes size : ℕ) → Goes (min (max 1 bytes) size) size
@@ -375,10 +402,10 @@ module _ {C : Type 0} (all : Stands) where
       Answers Idle t = t.turn ≡ Idle
 
       within-leaves : (K : Behaviour) (name : QueueName) (turn : Turn) (s : State C) → stands_of s ≡ all → AreStreams s → at_place module_rests false here.at (stream here.side s).modules ≡ true
-          → is_waiting (at_place (module_asks here.way) asked.Empty here.at (stream here.side s).modules) ≡ true → Answers turn (moved_within K cells here name turn s) → Leaves (moves all s) s.enabled (moved_within K cells here name turn s).state
+          → is_waiting (at_place (module_asks K cells here.way) asked.Empty here.at (stream here.side s).modules) ≡ true → Answers turn (moved_within K cells here name turn s) → Leaves (moves all s) s.enabled (moved_within K cells here name turn s).state
       within-leaves K name (Moved bytes) s is good rests waits answers =
           let most = min (max 1 bytes) (first_there s) in
-          moved-leaves-here K name most s is good (one-ready most (here.at - 1) (stream here.side s).modules rests waits (goes-far bytes (first_there s)))
+          moved-leaves-here K name most s is good (one-ready K most (here.at - 1) (stream here.side s).modules rests waits (goes-far bytes (first_there s)))
       within-leaves K name Blocked s is good rests waits answers = blocked (calls K cells here (3 * min 0 (first_there s) + 1) false (min 0 (first_there s)) s) answers
         where
           blocked : (t : Calls C) → let u : TurnOutcome C = cond t.ended (record { turn = Moved t.bytes; state = module_turn_ended name here (not (t.bytes == 0)) t.state; gone = t.gone }) (stayed_put Blocked s) in u.turn ≡ Blocked → Leaves (moves all s) s.enabled u.state
@@ -397,7 +424,7 @@ module _ {C : Type 0} (all : Stands) where
               at false answers = (is, inr (omega arith, refl))
 
       asked-leaves : (K : Behaviour) (asks : Asks) (name : QueueName) (turn : Turn) (s : State C) → stands_of s ≡ all → AreStreams s → at_place module_rests false here.at (stream here.side s).modules ≡ true
-          → at_place (module_asks here.way) asked.Empty here.at (stream here.side s).modules ≡ asks → Answers turn (asked_turn K cells here asks name turn s) → Leaves (moves all s) s.enabled (asked_turn K cells here asks name turn s).state
+          → at_place (module_asks K cells here.way) asked.Empty here.at (stream here.side s).modules ≡ asks → Answers turn (asked_turn K cells here asks name turn s) → Leaves (moves all s) s.enabled (asked_turn K cells here asks name turn s).state
       asked-leaves K asked.Empty name turn s is good rests asks answers = stayed-leaves Idle s is
       asked-leaves K asked.Held name turn s is good rests asks answers = stayed-leaves Blocked s is
       asked-leaves K asked.Free name turn s is good rests asks answers = within-leaves K name turn s is good rests (ap is_waiting asks) answers
@@ -414,7 +441,7 @@ module _ {C : Type 0} (all : Stands) where
           ps = (stream here.side s).modules
 
           asks : Asks
-          asks = at_place (module_asks here.way) asked.Empty here.at ps
+          asks = at_place (module_asks K cells here.way) asked.Empty here.at ps
 
           at : (rests : Bool) → at_place module_rests false here.at ps ≡ rests → Answers turn (cond rests (asked_turn K cells here asks name turn s) (stayed_put Blocked s))
               → Leaves (moves all s) s.enabled (cond rests (asked_turn K cells here asks name turn s) (stayed_put Blocked s)).state

@@ -14,20 +14,20 @@ use Rattle.strm_laws.specs.Behaviours.{Behaviour}
 use Rattle.strm_laws.specs.Earlier.{driver_place, places_of}
 use Rattle.strm_laws.specs.ModuleTurns.{module_turned, named_from, place_named, turned_named, turned_there}
 use Rattle.strm_laws.specs.Puts.{across_of, earlier_at, noted}
-use Rattle.strm_laws.specs.Rest.{EchoesOnce, NoLdterm, count_enabled, count_others, echoes, is_pckt, moves, packs_below, queue_names, work}
+use Rattle.strm_laws.specs.Rest.{EchoesOnce, NoOwnQueues, NoneQueues, count_enabled, count_others, echoes, is_pckt, moves, own_queues, packs_below}
+use Rattle.strm_laws.specs.Rest.{queue_names, work}
 use Rattle.strm_laws.specs.Restorable.{is_ldterm}
 use Rattle.strm_laws.specs.StackCosts.{Stands, stands_of, stands_on}
 use Rattle.strm_laws.specs.Stacked.{Standing, module_name}
 use Rattle.strm_laws.specs.State.{State, stream, with_stream}
 use Rattle.strm_laws.specs.Step.{IsTurn}
 use Rattle.strm_laws.specs.Turns.{turned, turned_at}
-use Rattle.strm_types.proofs.EnabledNames.{queues-ldterm}
+use Rattle.strm_types.proofs.EnabledNames.{same_queue-flip}
 use Rattle.strm_laws.proofs.GoodStreams.{AreStreams}
-use Rattle.strm_laws.proofs.NamesAdded.{noted-adds, one-other, without-adds}
-use Rattle.strm_laws.proofs.PutParts.{Stays}
+use Rattle.strm_laws.proofs.NamesAdded.{one-other, others-keep, without-adds}
+use Rattle.strm_laws.proofs.NamesKept.{turn-kept}
 use Rattle.strm_laws.proofs.RestStates.{Fit, FitNames, names-on}
 use Rattle.strm_laws.proofs.RestTurns.{Answers, Leaves, driver-leaves, there-leaves}
-use Rattle.strm_laws.proofs.TurnHolds.{turn-holds, turns-stay}
 
 -- Enabled queues: one that is taken off the list is no longer among them, and each other one is there as before.
 gone : (name : QueueName) (names : List QueueName) → is_enabled name (without name names) ≡ false
@@ -72,28 +72,20 @@ module _ (name : QueueName) (names : List QueueName) (enabled : is_enabled name 
         sum_by-cons (λ x. cond (is_enabled x names) 1 0) a among,
       )
 
--- each name of a place where queues stand is one of them, once
-named-once : (side : Side) (place : Place) (way : Way) → has_queues_at place ≡ true
-    → count_by (λ a. same_queue (record { side = side; place = place; way = way }) a) queue_names ≡ 1
-named-once Master Head Up has = refl
-named-once Master Head Down has = refl
-named-once Master Driver Up has = refl
-named-once Master Driver Down has = refl
-named-once Slave Head Up has = refl
-named-once Slave Head Down has = refl
-named-once Slave Driver Up has = refl
-named-once Slave Driver Down has = refl
-named-once side (places.Module name) way has =
-    subst (λ n. count_by (λ a. same_queue (record { side = side; place = places.Module n; way = way }) a) queue_names ≡ 1) (sym (queues-ldterm name has)) (at side way)
+-- a name that is among some is one of them
+named-some : (name : QueueName) (among : List QueueName) → is_enabled name among ≡ true → 1 ≤ count_by (λ a. same_queue name a) among
+named-some name [] is = absurd (cc)
+named-some name (a ∷ among) is = at (same_queue a name) refl is (named-some name among)
   where
-    at : (side : Side) (way : Way) → count_by (λ a. same_queue (record { side = side; place = places.Module names.Ldterm; way = way }) a) queue_names ≡ 1
-    at Master Up = refl
-    at Master Down = refl
-    at Slave Up = refl
-    at Slave Down = refl
+    at : (same : Bool) → same_queue a name ≡ same → (same || is_enabled name among) ≡ true → (is_enabled name among ≡ true → 1 ≤ count_by (λ a. same_queue name a) among)
+        → 1 ≤ count_by (λ a. same_queue name a) (a ∷ among)
+    at true same is more =
+        let counts : ◌≡◌ {A = ℕ} (cond (same_queue name a) 1 0) 1 = ap (λ b. cond b 1 0) (same_queue-flip a name same) in
+        omega (arith, counts, sum_by-cons (λ x. cond (same_queue name x) 1 0) a among)
+    at false same is more = let behind = more is in omega (arith, behind, sum_by-cons (λ x. cond (same_queue name x) 1 0) a among)
 
--- Names of places without queues: one that is taken off the list is counted no more.
-other-off : (name : QueueName) (names : List QueueName) → has_queues_at name.place ≡ false → is_enabled name names ≡ true
+-- Other names: one that is taken off the list is counted no more.
+other-off : (name : QueueName) (names : List QueueName) → is_enabled name queue_names ≡ false → is_enabled name names ≡ true
     → suc (count_others (without name names)) ≤ count_others names
 other-off name [] bare is = absurd (cc)
 other-off name (x ∷ names) bare is = at (same_queue x name) refl is (other-off name names bare)
@@ -101,16 +93,16 @@ other-off name (x ∷ names) bare is = at (same_queue x name) refl is (other-off
     at : (same : Bool) → same_queue x name ≡ same → (same || is_enabled name names) ≡ true → (is_enabled name names ≡ true → suc (count_others (without name names)) ≤ count_others names)
         → suc (count_others (cond (not same) (x ∷ without name names) (without name names))) ≤ count_others (x ∷ names)
     at true same is more =
-        let counts : ◌≡◌ {A = ℕ} (cond (not (has_queues_at x.place)) 1 0) 1 =
-        ap (λ b. cond (not b) 1 0) (subst (λ (q : QueueName). has_queues_at q.place ≡ false) (sym (same_queue-sound x name same)) bare) in
+        let counts : ◌≡◌ {A = ℕ} (cond (not (is_enabled x queue_names)) 1 0) 1 =
+        ap (λ b. cond (not b) 1 0) (subst (λ (q : QueueName). is_enabled q queue_names ≡ false) (sym (same_queue-sound x name same)) bare) in
         omega (arith, counts, one-other x names, without-adds name names)
     at false same is more = let less = more is in omega (arith, less, one-other x names, one-other x (without name names))
 
 pub taken-off : (name : QueueName) (names : List QueueName) → is_enabled name names ≡ true → suc (count_enabled (without name names)) ≤ count_enabled names
-taken-off name names enabled = at (has_queues_at name.place) refl
+taken-off name names enabled = at (is_enabled name queue_names) refl
   where
-    at : (has : Bool) → has_queues_at name.place ≡ has → suc (count_enabled (without name names)) ≤ count_enabled names
-    at true has = omega (arith, all-less name names enabled queue_names, named-once name.side name.place name.way has, without-adds name names)
+    at : (among : Bool) → is_enabled name queue_names ≡ among → suc (count_enabled (without name names)) ≤ count_enabled names
+    at true among = omega (arith, all-less name names enabled queue_names, named-some name queue_names among, without-adds name names)
     at false bare = omega (arith, all-less name names enabled queue_names, other-off name names bare enabled)
 
 few-enabled : (names : List QueueName) → count_enabled names ≤ 12 + count_others names
@@ -121,13 +113,19 @@ ldterm_from : ℕ → List ModuleName → ℕ
 ldterm_from at [] = 0
 ldterm_from at (n ∷ ns) = cond (is_ldterm n) at (ldterm_from (suc at) ns)
 
-fits-none : (ns : List ModuleName) (echoed across : Bool) (post at : ℕ) → list_any is_ldterm ns ≡ false → (echoed ≡ false) ⊎ (list_any is_pckt ns ≡ false) → FitNames echoed across post at ns
-fits-none [] echoed across post at none free = tt
-fits-none (names.Ldterm ∷ ns) echoed across post at none free = absurd (cc)
-fits-none (names.Ptem ∷ ns) echoed across post at none free = (tt, fits-none ns echoed across post (suc at) none free)
-fits-none (names.Pckt ∷ ns) echoed across post at none (inl bare) = (ap (λ b. b && nat_le post (at - 1)) bare, fits-none ns echoed across post (suc at) none (inl bare))
-fits-none (names.Pckt ∷ ns) echoed across post at none (inr free) = absurd (cc)
-fits-none (names.Own n ∷ ns) echoed across post at none free = (tt, fits-none ns echoed across post (suc at) none free)
+neither : (a b : Bool) → (a || b) ≡ false → (a ≡ false) × (b ≡ false)
+neither true b none = absurd (cc)
+neither false b none = (refl, none)
+
+fits-none : (ns : List ModuleName) (echoed across : Bool) (post at : ℕ) → list_any own_queues ns ≡ false → list_any is_ldterm ns ≡ false → (echoed ≡ false) ⊎ (list_any is_pckt ns ≡ false) → FitNames echoed across post at ns
+fits-none [] echoed across post at own none free = tt
+fits-none (names.Ldterm ∷ ns) echoed across post at own none free = absurd (cc)
+fits-none (names.Ptem ∷ ns) echoed across post at own none free = (tt, fits-none ns echoed across post (suc at) own none free)
+fits-none (names.Pckt ∷ ns) echoed across post at own none (inl bare) =
+    (ap (λ b. b && nat_le post (at - 1)) bare, fits-none ns echoed across post (suc at) own none (inl bare))
+fits-none (names.Pckt ∷ ns) echoed across post at own none (inr free) = absurd (cc)
+fits-none (names.Own n ∷ ns) echoed across post at own none free =
+    let parts = neither (have_queues (names.Own n)) _ own in (parts.0, fits-none ns echoed across post (suc at) parts.1 none free)
 
 none-counted : (ns : List ModuleName) → count_by is_ldterm ns ≤ 0 → list_any is_ldterm ns ≡ false
 none-counted [] none = refl
@@ -145,20 +143,21 @@ not-above : (echoed : Bool) (post at : ℕ) → 0 < at → at ≤ post → (echo
 not-above false post at some less = refl
 not-above true post at some less = let below : at - 1 < post = omega (arith, some, less) in let no_more : nat_le post (at - 1) ≡ false = grind (arith, nat_tests) in no_more
 
-fits-one : (ns : List ModuleName) (echoed across : Bool) (at : ℕ) → 0 < at → echoed ≡ true → across ≡ false → list_any is_ldterm ns ≡ true → count_by is_ldterm ns ≤ 1 → packs_below ns ≡ false
+fits-one : (ns : List ModuleName) (echoed across : Bool) (at : ℕ) → list_any own_queues ns ≡ false → 0 < at → echoed ≡ true → across ≡ false → list_any is_ldterm ns ≡ true → count_by is_ldterm ns ≤ 1 → packs_below ns ≡ false
     → FitNames echoed across (ldterm_from at ns) at ns
 unfolding ldterm_from
-fits-one [] echoed across at some here there stands one free = tt
-fits-one (names.Ldterm ∷ ns) echoed across at some here there stands one free =
-    ((here, there, refl), fits-none ns echoed across at (suc at) (none-counted ns (omega (arith, one, sum_by-cons (λ n. cond (is_ldterm n) 1 0) names.Ldterm ns))) (inr free))
-fits-one (names.Ptem ∷ ns) echoed across at some here there stands one free =
-    (tt, fits-one ns echoed across (suc at) (omega arith) here there stands (omega (arith, one, sum_by-cons (λ n. cond (is_ldterm n) 1 0) names.Ptem ns)) free)
-fits-one (names.Own n ∷ ns) echoed across at some here there stands one free =
+fits-one [] echoed across at own some here there stands one free = tt
+fits-one (names.Ldterm ∷ ns) echoed across at own some here there stands one free =
+    ((here, there, refl), fits-none ns echoed across at (suc at) own (none-counted ns (omega (arith, one, sum_by-cons (λ n. cond (is_ldterm n) 1 0) names.Ldterm ns))) (inr free))
+fits-one (names.Ptem ∷ ns) echoed across at own some here there stands one free =
+    (tt, fits-one ns echoed across (suc at) own (omega arith) here there stands (omega (arith, one, sum_by-cons (λ n. cond (is_ldterm n) 1 0) names.Ptem ns)) free)
+fits-one (names.Own n ∷ ns) echoed across at own some here there stands one free =
     let less = sum_by-cons (λ n. cond (is_ldterm n) 1 0) (names.Own n) ns in
-    (tt, fits-one ns echoed across (suc at) (omega arith) here there stands (omega (arith, one, less)) free)
-fits-one (names.Pckt ∷ ns) echoed across at some here there stands one free = (
+    let parts = neither (have_queues (names.Own n)) _ own in
+    (parts.0, fits-one ns echoed across (suc at) parts.1 (omega arith) here there stands (omega (arith, one, less)) free)
+fits-one (names.Pckt ∷ ns) echoed across at own some here there stands one free = (
   not-above echoed (ldterm_from (suc at) ns) at some (let behind = ldterm-from ns (suc at) stands in omega (arith, behind)),
-  fits-one ns echoed across (suc at) (omega arith) here there stands (omega (arith, one, sum_by-cons (λ n. cond (is_ldterm n) 1 0) names.Pckt ns)) free,
+  fits-one ns echoed across (suc at) own (omega arith) here there stands (omega (arith, one, sum_by-cons (λ n. cond (is_ldterm n) 1 0) names.Pckt ns)) free,
 )
 
 abbrev posts_of : Stands → Side → ℕ
@@ -168,15 +167,39 @@ fits-once : (all : Stands) → EchoesOnce all → Fit all (posts_of all)
 fits-once all once side = at (echoes all side) refl
   where
     at : (echoed : Bool) → echoes all side ≡ echoed → FitNames (echoes all side) (echoes all (other side)) (posts_of all side) 1 (stands_on side all)
-    at true is = fits-one (stands_on side all) (echoes all side) (echoes all (other side)) 1 (omega arith) is (once.one_side side is) is (once.one_there side) (once.no_packets side)
-    at false is = fits-none (stands_on side all) (echoes all side) (echoes all (other side)) (posts_of all side) 1 is (inl is)
+    at true is = fits-one (stands_on side all) (echoes all side) (echoes all (other side)) 1 (once.no_own side) (omega arith) is (once.one_side side is) is (once.one_there side) (once.no_packets side)
+    at false is = fits-none (stands_on side all) (echoes all side) (echoes all (other side)) (posts_of all side) 1 (once.no_own side) is (inl is)
+
+-- of names that have no queues none is an ldterm's, and none a user's own with queues
+none-echoes : (ns : List ModuleName) → list_any have_queues ns ≡ false → list_any is_ldterm ns ≡ false
+none-echoes [] none = refl
+none-echoes (names.Ldterm ∷ ns) none = absurd (cc)
+none-echoes (names.Ptem ∷ ns) none = none-echoes ns none
+none-echoes (names.Pckt ∷ ns) none = none-echoes ns none
+none-echoes (names.Own n ∷ ns) none = at (have_queues (names.Own n)) none (none-echoes ns)
+  where
+    at : (has : Bool) → (has || list_any have_queues ns) ≡ false → (list_any have_queues ns ≡ false → list_any is_ldterm ns ≡ false) → list_any is_ldterm ns ≡ false
+    at true none more = absurd (cc)
+    at false none more = more none
+
+none-own : (ns : List ModuleName) → list_any have_queues ns ≡ false → list_any own_queues ns ≡ false
+none-own [] none = refl
+none-own (names.Ldterm ∷ ns) none = absurd (cc)
+none-own (names.Ptem ∷ ns) none = none-own ns none
+none-own (names.Pckt ∷ ns) none = none-own ns none
+none-own (names.Own n ∷ ns) none = at (have_queues (names.Own n)) none (none-own ns)
+  where
+    at : (has : Bool) → (has || list_any have_queues ns) ≡ false → (list_any have_queues ns ≡ false → list_any own_queues ns ≡ false) → (has || list_any own_queues ns) ≡ false
+    at true none more = absurd (cc)
+    at false none more = more none
 
 -- where none stands
-pub plain-once : (all : Stands) → NoLdterm all → EchoesOnce all
+pub plain-once : (all : Stands) → NoneQueues all → EchoesOnce all
 plain-once all none = record {
-  one_side = λ side is. none (other side);
-  one_there = λ side. few (stands_on side all) (none side);
-  no_packets = λ side. packs (stands_on side all) (none side);
+  one_side = λ side is. none-echoes (stands_on (other side) all) (none (other side));
+  one_there = λ side. few (stands_on side all) (none-echoes (stands_on side all) (none side));
+  no_packets = λ side. packs (stands_on side all) (none-echoes (stands_on side all) (none side));
+  no_own = λ side. none-own (stands_on side all) (none side);
 }
   where
     few : (ns : List ModuleName) → list_any is_ldterm ns ≡ false → count_by is_ldterm ns ≤ 1
@@ -189,7 +212,7 @@ plain-once all none = record {
     packs (names.Ldterm ∷ ns) none = absurd (cc)
     packs (n ∷ ns) none = packs ns none
 
--- a module's queue is at a place from 1 on, and where no ldterm stands there is none
+-- a module's queue is at a place from 1 on, and where no module with queues stands there is none
 named-least : (place : Place) (from : ℕ) (places : List (Option Place)) (at : ℕ) → named_from place from places ≡ Some at → from ≤ at
 named-least place from [] at is = absurd (cc)
 named-least place from (None ∷ places) at is = let least = named-least place (suc from) places at is in omega (arith, least)
@@ -200,19 +223,16 @@ named-least place from (Some other ∷ places) at is = by (same_place other plac
     by false is least = let more = least is in omega (arith, more)
 
 module _ {C : Type 0} where
-  named-none : (place : Place) (n from : ℕ) (ps : List (Standing C)) → list_any is_ldterm (map module_name ps) ≡ false → named_from place from (places_of (take n ps)) ≡ None
+  named-none : (place : Place) (n from : ℕ) (ps : List (Standing C)) → list_any have_queues (map module_name ps) ≡ false → named_from place from (places_of (take n ps)) ≡ None
   named-none place zero from ps none = refl
   named-none place (suc n) from [] none = refl
-  named-none place (suc n) from (p ∷ ps) none = by (module_name p) none (λ rest. named-none place n (suc from) ps rest)
+  named-none place (suc n) from (p ∷ ps) none = at (have_queues (module_name p)) none (named-none place n (suc from) ps)
     where
-      by : (name : ModuleName) → (is_ldterm name || list_any is_ldterm (map module_name ps)) ≡ false
-          → (list_any is_ldterm (map module_name ps) ≡ false → named_from place (suc from) (places_of (take n ps)) ≡ None)
-          → named_from place from (place_of name ∷ places_of (take n ps)) ≡ None
-      by name none rest = at (have_queues name) none
-        where
-          at : (has : Bool) → (has || list_any is_ldterm (map module_name ps)) ≡ false → named_from place from (cond has (Some (places.Module name)) None ∷ places_of (take n ps)) ≡ None
-          at true none = absurd (cc)
-          at false none = rest none
+      at : (has : Bool) → (has || list_any have_queues (map module_name ps)) ≡ false
+          → (list_any have_queues (map module_name ps) ≡ false → named_from place (suc from) (places_of (take n ps)) ≡ None)
+          → named_from place from (cond has (Some (places.Module (module_name p))) None ∷ places_of (take n ps)) ≡ None
+      at true none more = absurd (cc)
+      at false none more = more none
 
   module _ (K : Behaviour) (cells : Cells C) (name : QueueName) (turn : Turn) where
     -- a turn of a module's queue
@@ -241,42 +261,27 @@ module _ {C : Type 0} where
     turned-leaves all Driver s once is good answered = driver-leaves all cells (posts_of all) (fits-once all once) K name.side (stream name.side s).driver.queue.messages s is refl
     turned-leaves all (places.Module owner) s once is good answered = module-leaves all owner s once is good answered
 
-    -- where no ldterm stands each turn is a driver's, or does nothing
-    plain-leaves : (all : Stands) (place : Place) (s : State C) → EchoesOnce all → NoLdterm all → stands_of s ≡ all → let called = record name { place = place } in
+    -- where no module with queues stands each turn is a driver's, or does nothing
+    plain-leaves : (all : Stands) (place : Place) (s : State C) → EchoesOnce all → NoneQueues all → stands_of s ≡ all → let called = record name { place = place } in
         Leaves all (moves all s) s.enabled (turned_at K cells place called turn s).state
     plain-leaves all Head s once none is = (is, inr (omega arith, refl))
     plain-leaves all Driver s once none is = driver-leaves all cells (posts_of all) (fits-once all once) K name.side (stream name.side s).driver.queue.messages s is refl
     plain-leaves all (places.Module owner) s once none is = named (place_named (places.Module owner) (stream name.side s).modules) nowhere
       where
         nowhere : place_named (places.Module owner) (stream name.side s).modules ≡ None
-        nowhere = named-none (places.Module owner) MODULES 1 (stream name.side s).modules (ap (λ (ns : List ModuleName). list_any is_ldterm ns) (names-on all name.side s is) ∙ none name.side)
+        nowhere = named-none (places.Module owner) MODULES 1 (stream name.side s).modules (ap (λ (ns : List ModuleName). list_any have_queues ns) (names-on all name.side s is) ∙ none name.side)
 
         named : (o : Option ℕ) → o ≡ None → Leaves all (moves all s) s.enabled (turned_named K cells (record name { place = places.Module owner }) turn s o).state
         named None nothing = (is, inr (omega arith, refl))
         named (Some at) nothing = absurd (cc)
 
-  -- a turn adds no name of a place without queues
-  others-stay : (n : ℕ) → Stays {C = C} (λ s. count_others s.enabled ≤ n)
-  others-stay n = record {
-    head = λ side here m s few. at-head side here m s (is_open (stream side s).opened) few;
-    driver = λ side here m s few. omega (arith, few, noted-adds side (Some Driver) (earlier_at side (driver_place side s) s) (driver_put side (across_of side s) (record here { at = driver_place side s }) m (stream side s).driver.queue).notes s.enabled);
-    modules = λ side ps s same few. few;
-    names = λ names s adds few. omega (arith, adds, few);
-    books = λ dir n s few. few;
-    waits = λ side way band s few. few;
-  }
-    where
-      at-head : (side : Side) (here : Spot) (m : Message C) (s : State C) (opened : Bool) → count_others s.enabled ≤ n
-          → let h = head_put here m (stream side s).head in
-          count_others (cond {A = Took C (State C)} opened (record { state = record (with_stream side (record (stream side s) { head = h.state }) s) { enabled = noted side (Some Head) (earlier_at side 0 s) h.notes s.enabled }; sent = h.sent; gone = h.gone })
-          (record { state = s; sent = []; gone = Goes (direction_at Up side) EndClosed (cells_of m) ∷ [] })).state.enabled ≤ n
-      at-head side here m s true few = omega (arith, few, noted-adds side (Some Head) (earlier_at side 0 s) (head_put here m (stream side s).head).notes s.enabled)
-      at-head side here m s false few = few
-
-  turn-others : (K : Behaviour) (cells : Cells C) (name : QueueName) (turn : Turn) (s : State C) → count_others (turned K cells name turn s).state.enabled ≤ count_others s.enabled
-  turn-others K cells name turn s =
+  -- a turn adds no other name
+  turn-others : (K : Behaviour) (cells : Cells C) (name : QueueName) (turn : Turn) (s : State C) → NoOwnQueues (stands_of s)
+      → count_others (turned K cells name turn s).state.enabled ≤ count_others s.enabled
+  turn-others K cells name turn s none =
+      let all = stands_of s in
       let n = count_others s.enabled in
-      turn-holds K (λ t. count_others t.enabled ≤ n) (turns-stay K (λ t. count_others t.enabled ≤ n) (λ side q s few. few) (others-stay n)) cells name turn s (omega arith)
+      (turn-kept all (λ names. count_others names ≤ n) (others-keep all none n) cells name K turn s (refl, omega arith)).1
 
   -- fewer moves, or a queue less enabled, are less work
   work-less : (name : QueueName) (s t : State C) → is_enabled name s.enabled ≡ true → count_others t.enabled ≤ count_others s.enabled
@@ -289,15 +294,15 @@ module _ {C : Type 0} where
       same : moves (stands_of t) t ≡ moves (stands_of s) t
       same = ap (λ (all : Stands). moves all t) leaves.0
 
-  plain-behind : (K : Behaviour) (cells : Cells C) (name : QueueName) (turn : Turn) (s : State C) → NoLdterm (stands_of s) → Leaves (stands_of s) (moves (stands_of s) s) (without name s.enabled) (turned K cells name turn s).state
+  plain-behind : (K : Behaviour) (cells : Cells C) (name : QueueName) (turn : Turn) (s : State C) → NoneQueues (stands_of s) → Leaves (stands_of s) (moves (stands_of s) s) (without name s.enabled) (turned K cells name turn s).state
   plain-behind K cells name turn s none = plain-leaves K cells name turn (stands_of s) name.place (record s { enabled = without name s.enabled }) (plain-once (stands_of s) none) none refl
 
-  pub plain-turn : (K : Behaviour) (cells : Cells C) (name : QueueName) (turn : Turn) (s : State C) → NoLdterm (stands_of s)
+  pub plain-turn : (K : Behaviour) (cells : Cells C) (name : QueueName) (turn : Turn) (s : State C) → NoneQueues (stands_of s)
       → is_enabled name s.enabled ≡ true
       → (stands_of (turned K cells name turn s).state ≡ stands_of s) × (work (turned K cells name turn s).state < work s)
   plain-turn K cells name turn s none enabled =
       let behind = plain-behind K cells name turn s none in
-      (behind.0, work-less name s (turned K cells name turn s).state enabled (turn-others K cells name turn s) behind)
+      (behind.0, work-less name s (turned K cells name turn s).state enabled (turn-others K cells name turn s (plain-once (stands_of s) none).no_own) behind)
 
   echoed-behind : (K : Behaviour) (cells : Cells C) (name : QueueName) (turn : Turn) (s : State C) → EchoesOnce (stands_of s) → AreStreams s → (turned K cells name turn s).turn ≡ turn
       → Leaves (stands_of s) (moves (stands_of s) s) (without name s.enabled) (turned K cells name turn s).state
@@ -307,4 +312,4 @@ module _ {C : Type 0} where
       → (stands_of new ≡ stands_of old) × (work new < work old)
   echoed-turn K cells old new name turn once good step =
       let behind = echoed-behind K cells name turn old once good step.answered in
-      subst (λ (t : State C). (stands_of t ≡ stands_of old) × (work t < work old)) step.leads (behind.0, work-less name old (turned K cells name turn old).state step.enabled (turn-others K cells name turn old) behind)
+      subst (λ (t : State C). (stands_of t ≡ stands_of old) × (work t < work old)) step.leads (behind.0, work-less name old (turned K cells name turn old).state step.enabled (turn-others K cells name turn old once.no_own) behind)

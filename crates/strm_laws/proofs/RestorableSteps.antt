@@ -30,7 +30,7 @@ module _ {C : Type 0} where
     step-named old new (Called caller asked answer) are step =
         subst (λ s. Named s) step.leads (of-allowed K cells caller asked old (λ outcome. Named outcome.state) (λ signal. are) step.allowed (λ fits. call-named cells K caller asked old are))
     step-named old new (Turned name turn) are step =
-        subst (λ s. Named s) step.leads (named-of (stands_of old) (turned K cells name turn old).state (turn-enabled (stands_of old) K cells name turn old step.enabled (refl, are)))
+        subst (λ s. Named s) step.leads (named-of (stands_of old) (turned K cells name turn old).state (turn-enabled (stands_of old) K cells name turn old (refl, are)))
 
     pub step-restorable : (old new : State C) (entry : PlainEntry) → IsWithinEntry entry → Restorable old → Step K cells old entry new
         → Restorable new

@@ -7,7 +7,7 @@ use Rattle.strm_types.specs.ModuleQueues.{waits_past}
 use Rattle.strm_laws.specs.Behaviours.{Behaviour}
 use Rattle.strm_laws.specs.Pushes.{kind_named}
 use Rattle.strm_laws.specs.Stacked.{Standing, kind_name, module_name, module_puts, module_serves}
-use Rattle.strm_laws.proofs.LawfulKinds.{lawful, puts-lawfully}
+use Rattle.strm_laws.proofs.LawfulKinds.{calls-lawfully, puts-lawfully}
 
 -- a module has the name by which it was made
 pub kind-is : (C : Type 0) (K : Behaviour) (name : ModuleName) → kind_name (kind_named {C = C} K name) ≡ name
@@ -35,10 +35,10 @@ module _ {C : Type 0} where
       → map module_name (put_among (module_puts K cells made) i here m ps).state ≡ map module_name ps
   keep-names K cells made i here m ps = act-names (module_puts K cells made here m) (λ p. (puts-lawfully K p cells made here m).name) i ps
 
-  pub serve-names : (cells : Cells C) (here : Spot) (made : ℕ) (again : Bool) (stop : Option ℕ) (i : ℕ) (ps : List (Standing C))
-      → map module_name (act_among (λ p. (module_serves cells here made again stop p).acted) i ps).state ≡ map module_name ps
-  serve-names cells here made again stop i ps =
-      act-names (λ p. (module_serves cells here made again stop p).acted) (λ p. ((lawful p).call cells here made again).name stop) i ps
+  pub serve-names : (K : Behaviour) (cells : Cells C) (here : Spot) (made : ℕ) (again : Bool) (stop : Option ℕ) (i : ℕ) (ps : List (Standing C))
+      → map module_name (act_among (λ p. (module_serves K cells here made again stop p).acted) i ps).state ≡ map module_name ps
+  serve-names K cells here made again stop i ps =
+      act-names (λ p. (module_serves K cells here made again stop p).acted) (λ p. (calls-lawfully K p cells here made again).name stop) i ps
 
   -- a queue of one changes, or a writer waits at one
   pub queue-names : (way : Way) (change : Queue C → Queue C) (i : ℕ) (ps : List (Standing C))

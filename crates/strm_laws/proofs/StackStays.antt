@@ -38,7 +38,7 @@ module _ {C : Type 0} where
       head = head-stands;
       driver = λ side here m s is. driver-stands side _ s is;
       modules = λ side ps s same is. same-names side (record (stream side s) { modules = ps }) s same ∙ is;
-      names = λ names s adds is. is;
+      names = λ names s is. is;
       books = λ dir n s is. is;
       waits = waiting-stands;
     }

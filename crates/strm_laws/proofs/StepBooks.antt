@@ -17,7 +17,7 @@ use Rattle.strm_laws.proofs.InOrder.{BooksMade, books-both}
 use Rattle.strm_laws.proofs.PutsBook.{SameBooks, acted-books, booked-before, booked-behind, delivered-books, nothing-booked, sent-books}
 use Rattle.strm_laws.proofs.TurnHolds.{any-holds}
 use Rattle.strm_laws.proofs.TurnOrder.{TurnOrder, order-none}
-use Rattle.strm_laws.proofs.LawfulKinds.{lawful}
+use Rattle.strm_laws.proofs.LawfulKinds.{calls-lawfully}
 
 module _ {C : Type 0} where
   pub waits-books : (side : Side) (way : Way) (at band : ℕ) (s : State C) → SameBooks s (writer_waits side way at band s)
@@ -28,16 +28,16 @@ module _ {C : Type 0} (cells : Cells C) where
   Books s told t = BooksMade cells s told t
 
   module _ (here : Spot) where
-    acts-order : (made : ℕ) (again : Bool) (left : ℕ) (i : ℕ) (ps : List (Standing C)) → TurnOrder cells here.side made (act_among (λ q. (module_serves cells here made again (Some left) q).acted) i ps).gone
-    acts-order made again left i [] = order-none cells here.side made [] refl
-    acts-order made again left zero (q ∷ ps) = ((lawful q).call cells here made again).order (Some left)
-    acts-order made again left (suc i) (q ∷ ps) = acts-order made again left i ps
+    acts-order : (K : Behaviour) (made : ℕ) (again : Bool) (left : ℕ) (i : ℕ) (ps : List (Standing C)) → TurnOrder cells here.side made (act_among (λ q. (module_serves K cells here made again (Some left) q).acted) i ps).gone
+    acts-order K made again left i [] = order-none cells here.side made [] refl
+    acts-order K made again left zero (q ∷ ps) = (calls-lawfully K q cells here made again).order (Some left)
+    acts-order K made again left (suc i) (q ∷ ps) = acts-order K made again left i ps
 
-    called-books : (again : Bool) (left : ℕ) (s : State C) → let t = module_called cells here again left s in Books s t.gone t.state
-    called-books again left s =
+    called-books : (K : Behaviour) (again : Bool) (left : ℕ) (s : State C) → let t = module_called K cells here again left s in Books s t.gone t.state
+    called-books K again left s =
         let ps = (stream here.side s).modules in
         let made = made_below here.side s in
-        acted-books cells here.side here (call_at cells here made again left ps) s (acts-order made again left (here.at - 1) ps)
+        acted-books cells here.side here (call_at K cells here made again left ps) s (acts-order K made again left (here.at - 1) ps)
 
     calls-books : (K : Behaviour) (n : ℕ) (again : Bool) (left : ℕ) (s : State C)
         → let v = calls K cells here n again left s in Books s v.gone v.state
@@ -45,12 +45,12 @@ module _ {C : Type 0} (cells : Cells C) where
     calls-books K (suc more) again left s =
         let ps = (stream here.side s).modules in
         let made = made_below here.side s in
-        let t = module_called cells here again left s in
+        let t = module_called K cells here again left s in
         let u = in_turn (carried (put_in K cells) HOPS) t.sent t.state in
-        let less = left - bytes_at cells here made again left ps in
+        let less = left - bytes_at K cells here made again left ps in
         let v = calls K cells here more true less u.state in
-        let out = books-both cells s t.state u.state t.gone u.gone (called-books again left s) (sent-books cells K t.sent t.state) in
-        either-calls (again_at cells here made again left ps) _ _ (books-both cells s u.state v.state (t.gone ++ u.gone) v.gone out (calls-books K more true less u.state)) out
+        let out = books-both cells s t.state u.state t.gone u.gone (called-books K again left s) (sent-books cells K t.sent t.state) in
+        either-calls (again_at K cells here made again left ps) _ _ (books-both cells s u.state v.state (t.gone ++ u.gone) v.gone out (calls-books K more true less u.state)) out
       where
         either-calls : (b : Bool) (one another : Calls C) → Books s one.gone one.state → Books s another.gone another.state → Books s (cond b one another).gone (cond b one another).state
         either-calls true one another first second = first
@@ -93,7 +93,7 @@ module _ {C : Type 0} (cells : Cells C) where
     there-books : (K : Behaviour) (name : QueueName) (turn : Turn) (s : State C) → TurnBooks s (turned_there K cells here name turn s)
     there-books K name turn s =
         let ps = (stream here.side s).modules in
-        let asks = at_place (module_asks here.way) asked.Empty here.at ps in
+        let asks = at_place (module_asks K cells here.way) asked.Empty here.at ps in
         either-turns s (at_place module_rests false here.at ps) (asked_turn K cells here asks name turn s) (stayed_put Blocked s) (asked-books K asks name turn s) (stays-books Blocked s)
 
   pub module-books : (K : Behaviour) (name : QueueName) (turn : Turn) (s : State C)

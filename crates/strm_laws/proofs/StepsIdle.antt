@@ -33,7 +33,7 @@ module _ {C : Type 0} where
   }
 
   turns : (K : Behaviour) → Turns {C = C} K AreIdle
-  turns K = record { drivers = driver-each Idle K AllIdle (changes K); named = λ names s adds idle. idle; given = delivered-idle K; waits = waits-idle; modules = module_turned-rests K }
+  turns K = record { drivers = driver-each Idle K AllIdle (changes K); named = λ names s idle. idle; given = delivered-idle K; waits = waits-idle; modules = module_turned-rests K }
 
   pub step-idle : (K : Behaviour) (cells : Cells C) (old new : State C) (entry : PlainEntry) → AreIdle old → Step K cells old entry new → AreIdle new
   step-idle K cells old new entry idle step = step-each Idle K AllIdle (changes K) cells (delivered-idle K cells) (turn-holds K AreIdle (turns K) cells) old new entry idle step

@@ -14,12 +14,11 @@ use Rattle.strm_laws.specs.State.{State, stream}
 use Rattle.strm_laws.specs.TurnOutcomes.{TurnOutcome}
 use Rattle.strm_laws.specs.Turns.{driver_serves, held_back, is_stopped_across, moved_across, turned, turned_at, turned_queue, up_across, with_driver}
 use Rattle.strm_laws.proofs.ModuleTurnEnds.{module_turned-holds, past-holds}
-use Rattle.strm_laws.proofs.NamesAdded.{AddsNone, if-adds, some-adds, without-adds}
 use Rattle.strm_laws.proofs.PutParts.{Stays, delivered-holds}
 
 pub record Turns {C : Type 0} (K : Behaviour) (P : State C → Type 0) : Type 0 where
   pub drivers : (side : Side) (q : Queue C) (s : State C) → P s → P (with_driver side q s)
-  pub named : (names : List QueueName) (s : State C) → AddsNone s.enabled names → P s → P (record s { enabled = names })
+  pub named : (names : List QueueName) (s : State C) → P s → P (record s { enabled = names })
   pub given : (cells : Cells C) (to : Spot) (m : Message C) (s : State C) → P s → P (delivered K cells to m s).state
   pub waits : (side : Side) (way : Way) (at band : ℕ) (s : State C) → P s → P (writer_waits side way at band s)
   pub modules : (cells : Cells C) (name : QueueName) (turn : Turn) (s : State C) → P s → P (module_turned K cells name turn s).state
@@ -45,15 +44,7 @@ module _ {C : Type 0} (K : Behaviour) (P : State C → Type 0) (turns : Turns K 
   moved-holds cells side m rest s holds =
       let from = with_driver side (left_with rest (stream side s).driver.queue) s in
       let went = (delivered K cells (up_across side from) m from).state in
-      let q = turned_queue (stream side went).driver.queue in
-      let lets_go = not (size_of m == 0) && relieves q in
-      let adds : AddsNone went.enabled (enable_if (not (is_none_left q.messages)) (driver_of side) (enable_some lets_go (before_driver side went) went.enabled)) =
-      omega (
-        arith,
-        some-adds lets_go (before_driver side went) went.enabled,
-        if-adds (not (is_none_left q.messages)) (driver_of side) (enable_some lets_go (before_driver side went) went.enabled),
-      ) in
-      turns.named _ _ adds (turns.drivers side _ went (turns.given cells (up_across side from) m from (turns.drivers side (left_with rest (stream side s).driver.queue) s holds)))
+      turns.named _ _ (turns.drivers side _ went (turns.given cells (up_across side from) m from (turns.drivers side (left_with rest (stream side s).driver.queue) s holds)))
 
   serves-hold : (cells : Cells C) (side : Side) (ms : List (Message C)) (s : State C) → P s → P (driver_serves K cells side ms s).state
   serves-hold cells side [] s holds = turns.drivers side (record (stream side s).driver.queue { want_read = true }) s holds
@@ -64,7 +55,7 @@ module _ {C : Type 0} (K : Behaviour) (P : State C → Type 0) (turns : Turns K 
       waits (turns.waits (other side) Up (driver_place (other side) kept) (band_of m) kept waits) (moved-holds cells side m rest s holds)
 
   pub turn-holds : (cells : Cells C) (name : QueueName) (turn : Turn) (s : State C) → P s → P (turned K cells name turn s).state
-  turn-holds cells name turn s holds = at name.place (record s { enabled = without name s.enabled }) (turns.named (without name s.enabled) s (without-adds name s.enabled) holds)
+  turn-holds cells name turn s holds = at name.place (record s { enabled = without name s.enabled }) (turns.named (without name s.enabled) s holds)
     where
       at : (place : Place) (s : State C) → P s → P (turned_at K cells place name turn s).state
       at Driver s holds = serves-hold cells name.side (stream name.side s).driver.queue.messages s holds

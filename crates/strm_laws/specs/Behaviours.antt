@@ -1,12 +1,14 @@
 -- What modules of a user's own do, over any cells: which numbers they have, what one is set to as it is pushed, what it does with a message that is
--- put at it, and what it owes the stream on which it stands (STREAMS Programming Guide, "Modules", "Put Procedures"). Such a module has no queues and
--- no service procedure, and makes no cells: it hands on what comes to it, changed or not, drops it by a rule, or answers an M_IOCTL.
+-- put at it, and what it owes the stream on which it stands (STREAMS Programming Guide, "Modules", "Put Procedures"). Such a module makes no cells:
+-- it hands on what comes to it, changed or not, drops it by a rule, or answers an M_IOCTL. One that has queues, by its number, may have messages wait
+-- there, and then does with each what it does with one that comes, in a turn of its queue ("Service Procedures"; OwnStands).
 use Rattle.std.specs.Prelude.{ℕ, ◌≡◌, ◌+◌, ◌-◌, ◌/◌, ◌≤◌, ◌<◌, max, Bool, true, false, List, [], ◌∷◌, length, sum_by, Option, None, Some}
 use Rattle.std.specs.List.{AllByRecursion}
 use Rattle.strm_laws.specs.Prelude.{Dir, MsgKind, Data, Ioctl, Spot, Within, emits_at, AreCells, Cells, plain, Acted, Fate, Goes, Message}
-use Rattle.strm_laws.specs.Prelude.{weight_of, chunk_count, direction_at, map_acted, shape_of, onward, map_message}
+use Rattle.strm_laws.specs.Prelude.{weight_of, chunk_count, direction_at, map_acted, shape_of, onward, map_message, map_messages, Way}
 use Rattle.strm_types.specs.declared.limits.TheConstants.{BLOCK_SIZE, SETTINGS_MAX}
 use Rattle.strm_types.specs.declared.rules.Rule.TheVariants.{Read}
+use Rattle.strm_types.specs.OwnStands.{OwnActs}
 use Rattle.strm_types.specs.Owns.{Own}
 use Rattle.strm_types.specs.Tables.{own_does}
 use Rattle.strm_laws.specs.GoodMessages.{AreGood, GoodMessage}
@@ -41,7 +43,7 @@ module _ {C : Type 0} where
 
 -- What a put owes of a message that comes to one at a spot, where such modules change bytes (true) or don't.
 pub record OwnPut {C : Type 0} (changes : Bool) (cells : Cells C) (here : Spot) (m : Message C) (x : Own) (t : Acted C Own) : Type 0 where
-  -- it stays a module of its number, and has no queues of which there is something to note
+  -- it stays a module of its number, and notes nothing of queues
   pub number : t.state.number ≡ x.number
   pub notes : t.notes ≡ []
   -- It loses no cell and doubles none, whatever test on cells is chosen, and makes none. Where such modules change bytes, the test says the same of a
@@ -66,6 +68,10 @@ pub record Behaviour : Type 1 where
   -- what one does with a message that is put at it, and whether any changes bytes
   pub puts : {C : Type 0} → Cells C → Spot → Message C → Own → Acted C Own
   pub changes : Bool
+  -- Of one that has queues: which messages wait that come, and whether the first of those goes on that stand on the queue of a way, where there is
+  -- room ahead. Both see the bytes, whatever stands for them.
+  pub holds : Spot → Message ℕ → Own → Bool
+  pub goes : Way → List (Message ℕ) → Own → Bool
   -- what each owes
   pub good : (n : ℕ) → knows n ≡ true → GoodOwn (record { number = n; settings = fresh n })
   pub put : {C : Type 0} (cells : Cells C) (here : Spot) (m : Message C) (x : Own) → OwnPut changes cells here m x (puts cells here m x)
@@ -84,3 +90,11 @@ MayTestOwn K cells p = K.changes ≡ true → IgnoresMapping cells p
 -- what passes all that comes to it on
 abbrev pub passes_all : {C : Type 0} → Spot → Message C → Own → Acted C Own
 passes_all here m x = record { state = x; notes = []; sent = onward here.way here m ∷ []; gone = [] }
+
+-- what they do with these cells
+abbrev pub own_by : {C : Type 0} → Behaviour → Cells C → OwnActs C
+own_by K cells = record {
+  puts = λ here m x. K.puts cells here m x;
+  holds = λ here m x. K.holds here (map_message cells.byte m) x;
+  goes = λ way ms x. K.goes way (map_messages cells.byte ms) x;
+}

@@ -65,22 +65,21 @@ module _ {C : Type 0} where
   abbrev pub made_below : Side → State C → ℕ
   made_below side s = (book (direction_at Down side) s).made
 
-  module _ (cells : Cells C) (here : Spot) where
+  module _ (K : Behaviour) (cells : Cells C) (here : Spot) where
     -- One call of the service procedure of the module at a place, which goes as far as so many bytes: what it does, how many bytes
     -- it treated, and whether it is to be called again.
     abbrev pub call_at : ℕ → Bool → ℕ → List (Standing C) → Acted C (List (Standing C))
-    call_at made again left ps = act_among (λ p. (module_serves cells here made again (Some left) p).acted) (here.at - 1) ps
+    call_at made again left ps = act_among (λ p. (module_serves K cells here made again (Some left) p).acted) (here.at - 1) ps
 
     abbrev pub bytes_at : ℕ → Bool → ℕ → List (Standing C) → ℕ
-    bytes_at made again left ps = at_place (λ p. (module_serves cells here made again (Some left) p).bytes) 0 here.at ps
+    bytes_at made again left ps = at_place (λ p. (module_serves K cells here made again (Some left) p).bytes) 0 here.at ps
 
     abbrev pub again_at : ℕ → Bool → ℕ → List (Standing C) → Bool
-    again_at made again left ps = at_place (λ p. (module_serves cells here made again (Some left) p).again) false here.at ps
+    again_at made again left ps = at_place (λ p. (module_serves K cells here made again (Some left) p).again) false here.at ps
 
     abbrev pub module_called : Bool → ℕ → State C → Took C (State C)
     module_called again left s = module_acted here (call_at (made_below here.side s) again left (stream here.side s).modules) s
 
-  module _ (K : Behaviour) (cells : Cells C) (here : Spot) where
     -- Calls one after the other, so many at most, until the turn's bytes are treated: what each has sent is delivered before the next
     -- one.
     abbrev pub calls : ℕ → Bool → ℕ → State C → Calls C
@@ -88,11 +87,11 @@ module _ {C : Type 0} where
     calls (suc more) again left s =
         let ps = (stream here.side s).modules in
         let made = made_below here.side s in
-        let t = module_called cells here again left s in
+        let t = module_called again left s in
         let u = in_turn (carried (put_in K cells) HOPS) t.sent t.state in
-        let bytes = bytes_at cells here made again left ps in
+        let bytes = bytes_at made again left ps in
         let v = calls more true (left - bytes) u.state in
-        if again_at cells here made again left ps
+        if again_at made again left ps
         then record { state = v.state; gone = t.gone ++ u.gone ++ v.gone; bytes = bytes + v.bytes; ended = v.ended }
         else record { state = u.state; gone = t.gone ++ u.gone; bytes = bytes; ended = true }
 
@@ -123,7 +122,7 @@ module _ {C : Type 0} where
     turned_there name turn s =
         let ps = (stream here.side s).modules in
         if at_place module_rests false here.at ps
-        then asked_turn (at_place (module_asks here.way) asked.Empty here.at ps) name turn s
+        then asked_turn (at_place (module_asks K cells here.way) asked.Empty here.at ps) name turn s
         else stayed_put Blocked s
 
   -- A turn of a module's queue, taken off the enabled list, which is answered so. Without such a module it is idle.

@@ -3,7 +3,7 @@
 use Rattle.std.specs.Prelude.{ℕ, suc, ◌≡◌, ◌≤◌, ◌+◌, ◌*◌, Bool, true, false, not, List, [], ◌∷◌, length, sum_by, count_by, Option, None, Some}
 use Rattle.std.specs.List.{list_any}
 use Rattle.strm_laws.specs.Prelude.{MsgKind, Data, Proto, Ioctl, ModuleName, Driver, QueueName, Side, Master, Slave, Up, Down, disciplined}
-use Rattle.strm_laws.specs.Prelude.{Discipline, Stage, Between, Begun, Answered, Message, cells_of, has_queues_at, is_enabled, other, echo_most}
+use Rattle.strm_laws.specs.Prelude.{Discipline, Stage, Between, Begun, Answered, Message, cells_of, have_queues, is_enabled, other, echo_most}
 use Rattle.strm_types.specs.declared.names.ModuleName.TheVariants as names
 use Rattle.strm_types.specs.declared.names.Place.TheVariants.{Head}
 use Rattle.strm_types.specs.declared.names.Place.TheVariants as places
@@ -77,7 +77,7 @@ module _ {C : Type 0} where
   abbrev pub moves : Stands → State C → ℕ
   moves all s = stream_moves (echoes all Slave) (stream Master s) + stream_moves (echoes all Master) (stream Slave s)
 
--- each name of a place where queues stand
+-- each name of a place where queues stand, but of those of modules of a user's own
 abbrev pub queue_names : List QueueName
 queue_names =
     record { side = Master; place = Head; way = Up } ∷ record { side = Master; place = Head; way = Down }
@@ -89,21 +89,30 @@ queue_names =
     ∷ record { side = Slave; place = places.Module names.Ldterm; way = Down }
     ∷ record { side = Slave; place = Driver; way = Up } ∷ record { side = Slave; place = Driver; way = Down } ∷ []
 
--- how many names stand in a list of places where no queue stands: nothing adds one
+-- how many names stand in a list beside these: nothing adds one, where no module of a user's own has queues
 abbrev pub count_others : List QueueName → ℕ
-count_others names = count_by (λ name. not (has_queues_at name.place)) names
+count_others names = count_by (λ name. not (is_enabled name queue_names)) names
 
 -- how many queues are enabled
 abbrev pub count_enabled : List QueueName → ℕ
 count_enabled names = count_by (λ name. is_enabled name names) queue_names + count_others names
 
--- The work of a pair: one for each enabled queue, and for each move of a message 13, as it may enable each of the 12 queues that have a name.
+-- The work of a pair: one for each enabled queue, and for each move of a message 13, as it may enable each of the 12 queues that have such a name.
 abbrev pub work : {C : Type 0} → State C → ℕ
 work s = 13 * moves (stands_of s) s + count_enabled s.enabled
 
--- no ldterm stands on either stream
-abbrev pub NoLdterm : Stands → Type 0
-NoLdterm all = (side : Side) → echoes all side ≡ false
+-- no module that has queues stands on either stream
+abbrev pub NoneQueues : Stands → Type 0
+NoneQueues all = (side : Side) → list_any have_queues (stands_on side all) ≡ false
+
+-- whether modules of a name are a user's own and have queues
+abbrev pub own_queues : ModuleName → Bool
+own_queues (names.Own n) = have_queues (names.Own n)
+own_queues _ = false
+
+-- no such module stands there: how often a message moves that waits at one, its behaviour says
+abbrev pub NoOwnQueues : Stands → Type 0
+NoOwnQueues all = (side : Side) → list_any own_queues (stands_on side all) ≡ false
 
 abbrev pub is_pckt : ModuleName → Bool
 is_pckt names.Pckt = true
@@ -115,8 +124,10 @@ packs_below [] = false
 packs_below (names.Ldterm ∷ ns) = list_any is_pckt ns
 packs_below (n ∷ ns) = packs_below ns
 
--- At most one ldterm stands on a pair's streams, and pckt doesn't stand below it. One on each side echo each other's echo.
+-- At most one ldterm stands on a pair's streams, pckt doesn't stand below it, and no module of a user's own has queues. An ldterm on each side echo
+-- each other's echo.
 pub record EchoesOnce (all : Stands) : Type 0 where
   pub one_side : (side : Side) → echoes all side ≡ true → echoes all (other side) ≡ false
   pub one_there : (side : Side) → count_by is_ldterm (stands_on side all) ≤ 1
   pub no_packets : (side : Side) → packs_below (stands_on side all) ≡ false
+  pub no_own : NoOwnQueues all

@@ -1,9 +1,10 @@
 -- What an image of a pair may hold. A checkpoint is refused for what no pair can have: each field here is one such reason turned round. What is
 -- said of the message in work and of options isn't stored: by it calls and turns keep the rest.
-use Rattle.std.specs.Prelude.{◌≡◌, ◌≤◌, ◌<◌, ◌^◌, ◌&&◌, ◌||◌, Bool, true, false, List, [], map, length, Option, None, Some}
+use Rattle.std.specs.Prelude.{◌≡◌, ◌≤◌, ◌<◌, ◌^◌, ◌&&◌, ◌||◌, Bool, true, false, List, [], ◌∷◌, ◌++◌, map, length, Option, None, Some}
 use Rattle.std.specs.List.{AllByRecursion, list_any}
 use Rattle.strm_laws.specs.Prelude.{Put, Called, Turned, MsgKind, BANDS, IOCTL_END, MODULES, LINE_MAX}
-use Rattle.strm_laws.specs.Prelude.{COLUMN_MAX, Prio, High, ModuleName, Place, Driver, QueueName, Side, Way, Up, Down, Free, Termios}
+use Rattle.strm_laws.specs.Prelude.{COLUMN_MAX, Prio, High, ModuleName, Place, Driver, QueueName, Side, Master, Slave, Way, Up, Down, Free, Termios}
+use Rattle.strm_laws.specs.Prelude.{driver_of}
 use Rattle.strm_laws.specs.Prelude.{AllSides, crosses, Request, Head as TheHead, is_data, PlainEntry, is_ioctl}
 use Rattle.strm_laws.specs.Prelude.{waits_there, Message, is_master, is_open, have_queues, same_module, Flow}
 use Rattle.strm_laws.specs.Prelude.{IsOrdered, Queue}
@@ -14,6 +15,7 @@ use Rattle.strm_types.specs.declared.names.Place.TheVariants.{Head}
 use Rattle.strm_types.specs.declared.names.Place.TheVariants as places
 use Rattle.strm_types.specs.Ldterms.{Ldterm as TheLdterm}
 use Rattle.strm_types.specs.Names.{IsOnce}
+use Rattle.strm_types.specs.OwnStands.{may_wait}
 use Rattle.strm_laws.specs.Behaviours.{GoodOwn}
 use Rattle.strm_laws.specs.GoodMessages.{GoodMessage, is_part_kind}
 use Rattle.strm_laws.specs.Kept.{AreIdle}
@@ -22,9 +24,9 @@ use Rattle.strm_laws.specs.Within.{AreWithin}
 use Rattle.strm_laws.specs.Stacked.{Module, OfLdterm, OfOwn, OfPtem, OfPckt, Standing, module_name}
 use Rattle.strm_laws.specs.State.{State, Stream}
 
--- the kinds that stand on ldterm's write queue: M_DATA, M_PROTO, and M_IOCTL behind them (ldterm(7M); termio(7I): TCSETSW)
+-- the kinds that stand on a module's write queue: M_DATA, M_PROTO, and M_IOCTL behind them (ldterm(7M); termio(7I): TCSETSW)
 abbrev pub goes_out : MsgKind → Bool
-goes_out kind = waits_there kind || is_ioctl kind
+goes_out kind = may_wait Down kind
 
 -- the kinds that stand on a driver's queue: what crosses, and M_IOCTL (ptm(7D), pts(7D))
 abbrev pub stands_below : MsgKind → Bool
@@ -64,6 +66,15 @@ IsThere all name = is_there_among name.place name.way (stands_on name.side all) 
 pub record AreEnabled (all : Stands) (enabled : List QueueName) : Type 0 where
   pub once : IsOnce enabled
   pub there : AllByRecursion (λ name. IsThere all name) enabled
+
+-- the queues of modules of these names on a side's stream, and with a driver's on each side all that may be enabled
+abbrev pub queues_on : Side → List ModuleName → List QueueName
+queues_on side [] = []
+queues_on side (name ∷ on) =
+    record { side = side; place = places.Module name; way = Up } ∷ record { side = side; place = places.Module name; way = Down } ∷ queues_on side on
+
+abbrev pub queues_there : Stands → List QueueName
+queues_there all = driver_of Master ∷ driver_of Slave ∷ (queues_on Master (stands_on Master all) ++ queues_on Slave (stands_on Slave all))
 
 -- a termios has 19 control bytes (termio(7I): c_cc)
 abbrev pub IsWhole : Termios → Type 0

@@ -9,10 +9,11 @@ use Rattle.strm_types.specs.declared.spots.Asks.TheVariants.{Empty}
 use Rattle.strm_types.specs.LdtermStands.{as_stands, asks_there, puts_there, serves_there}
 use Rattle.strm_types.specs.Ldterms.{Ldterm, lineless}
 use Rattle.strm_types.specs.Service.{acts_alone, unserved}
+use Rattle.strm_types.specs.OwnStands.{OwnActs, own_asks, own_puts, own_serves}
 use Rattle.strm_types.specs.Owns.{Own}
 use Rattle.strm_types.specs.Standings as standings
 use Rattle.strm_types.specs.Standings.{map_standing}
-use Rattle.strm_laws.specs.Behaviours.{Behaviour}
+use Rattle.strm_laws.specs.Behaviours.{Behaviour, own_by}
 use Rattle.strm_laws.specs.LdtermOrigins.{map_own}
 use Rattle.strm_laws.specs.LdtermTurns.{ldterm_rests}
 use Rattle.strm_laws.specs.LdtermWeights.{own_weight}
@@ -95,30 +96,33 @@ module _ {C : Type 0} where
   abbrev pub module_weight : (Dir → C → Bool) → Side → Standing C → ℕ
   module_weight p side x = kind_weight p side x.part + queues_weight p side x.queues
 
-  -- A message that is put at it, where so many cells were made before in the direction of what goes up; only pckt makes more. What one of a user's
-  -- own does is said beside.
-  abbrev pub puts_by : (Spot → Message C → Own → Acted C Own) → Cells C → ℕ → Spot → Message C → Standing C → Acted C (Standing C)
+  -- A message that is put at it, where so many cells were made before in the direction of what goes up; only pckt makes more. What those of a user's
+  -- own do is said beside.
+  abbrev pub puts_by : OwnActs C → Cells C → ℕ → Spot → Message C → Standing C → Acted C (Standing C)
   puts_by own cells made here m x = by x.part
     where
       by : Module C → Acted C (Standing C)
       by (OfLdterm l) = done_by (of_kind OfLdterm) (puts_there here m (record { part = l; queues = x.queues }))
       by (OfPtem p) = done_by (of_kind OfPtem) (acts_alone (ptem_puts here m) (record { part = p; queues = x.queues }))
       by (OfPckt p) = done_by (of_kind OfPckt) (acts_alone (λ q. pckt_puts cells made here m) (record { part = p; queues = x.queues }))
-      by (OfOwn o) = done_by (of_kind OfOwn) (acts_alone (own here m) (record { part = o; queues = x.queues }))
+      by (OfOwn o) = done_by (of_kind OfOwn) (own_puts own here m (record { part = o; queues = x.queues }))
 
   -- and by a behaviour
   abbrev pub module_puts : Behaviour → Cells C → ℕ → Spot → Message C → Standing C → Acted C (Standing C)
-  module_puts K cells made here m x = puts_by (K.puts cells) cells made here m x
+  module_puts K cells made here m x = puts_by (own_by K cells) cells made here m x
 
   -- what the first message of its queue of a way asks before it goes on
-  abbrev pub module_asks : Way → Standing C → Asks
-  module_asks way x = by x.part
+  abbrev pub asks_by : OwnActs C → Way → Standing C → Asks
+  asks_by own way x = by x.part
     where
       by : Module C → Asks
       by (OfLdterm l) = asks_there way (record { part = l; queues = x.queues })
       by (OfPtem p) = Empty
       by (OfPckt p) = Empty
-      by (OfOwn o) = Empty
+      by (OfOwn o) = own_asks own way (record { part = o; queues = x.queues })
+
+  abbrev pub module_asks : Behaviour → Cells C → Way → Standing C → Asks
+  module_asks K cells way x = asks_by (own_by K cells) way x
 
   -- whether nothing of a turn is under way in it
   abbrev pub kind_rests : Module C → Bool
@@ -141,14 +145,17 @@ module _ {C : Type 0} where
 
   -- a call of the service procedure of its queue: so many cells were made before, the turn begins or goes on, and it stops or not
   -- when so many bytes are treated
-  abbrev pub module_serves : Cells C → Spot → ℕ → Bool → Option ℕ → Standing C → Serving C (Standing C)
-  module_serves cells here made again stop x = by x.part
+  abbrev pub serves_by : OwnActs C → Cells C → Spot → ℕ → Bool → Option ℕ → Standing C → Serving C (Standing C)
+  serves_by own cells here made again stop x = by x.part
     where
       by : Module C → Serving C (Standing C)
       by (OfLdterm l) = served_by (of_kind OfLdterm) (serves_there cells here made again stop (record { part = l; queues = x.queues }))
       by (OfPtem p) = unserved x
       by (OfPckt p) = unserved x
-      by (OfOwn o) = unserved x
+      by (OfOwn o) = served_by (of_kind OfOwn) (own_serves own here (record { part = o; queues = x.queues }))
+
+  abbrev pub module_serves : Behaviour → Cells C → Spot → ℕ → Bool → Option ℕ → Standing C → Serving C (Standing C)
+  module_serves K cells here made again stop x = serves_by (own_by K cells) cells here made again stop x
 
   -- the same of all modules of a stream: their queues, and how many cells that they hold pass the test of their direction
   abbrev pub queues_of_modules : List (Standing C) → List (Queue C)

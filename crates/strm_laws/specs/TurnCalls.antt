@@ -27,25 +27,26 @@ module _ (here : Spot) where
   abbrev pub module_at : State ℕ → Standing ℕ
   module_at s = slice_index_or (stream here.side s).modules (here.at - 1) none_there
 
-  module _ (again : Bool) (stop : Option ℕ) where
+  module _ (K : Behaviour) (again : Bool) (stop : Option ℕ) where
     -- a call as a store makes it: what the modules do, how many bytes it treated, and whether it asks for another one
     abbrev pub called : List (Standing ℕ) → Acted ℕ (List (Standing ℕ))
-    called ps = act_among (λ p. (module_serves plain here 0 again stop p).acted) (here.at - 1) ps
+    called ps = act_among (λ p. (module_serves K plain here 0 again stop p).acted) (here.at - 1) ps
 
     abbrev pub treated : List (Standing ℕ) → ℕ
-    treated ps = at_place (λ p. (module_serves plain here 0 again stop p).bytes) 0 here.at ps
+    treated ps = at_place (λ p. (module_serves K plain here 0 again stop p).bytes) 0 here.at ps
 
     abbrev pub asks_on : List (Standing ℕ) → Bool
-    asks_on ps = at_place (λ p. (module_serves plain here 0 again stop p).again) false here.at ps
+    asks_on ps = at_place (λ p. (module_serves K plain here 0 again stop p).again) false here.at ps
 
   -- Where a call stops, it did so at what it treated, and what had begun is among that.
-  abbrev pub Stopped : Bool → State ℕ → Option ℕ → Type 0
-  Stopped again s None = Unit {0}
-  Stopped again s (Some bytes) = (bytes ≡ treated again (Some bytes) (stream here.side s).modules) × Ends here.way again (discipline_of (module_at s)) bytes
+  abbrev pub Stopped : Behaviour → Bool → State ℕ → Option ℕ → Type 0
+  Stopped K again s None = Unit {0}
+  Stopped K again s (Some bytes) =
+      (bytes ≡ treated K again (Some bytes) (stream here.side s).modules) × Ends here.way again (discipline_of (module_at s)) bytes
 
 -- what a call leads to, with what it sent
 abbrev pub led : Behaviour → Spot → Bool → Option ℕ → State ℕ → Carried ℕ (State ℕ)
 led K here again stop s =
-    let t = module_acted here (called here again stop (stream here.side s).modules) s in
+    let t = module_acted here (called here K again stop (stream here.side s).modules) s in
     let u = in_turn (carried (put_in K plain) HOPS) t.sent t.state in
     record { state = u.state; gone = t.gone ++ u.gone }

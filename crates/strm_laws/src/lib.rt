@@ -9,6 +9,7 @@ pub mod laws;
 pub mod ledger_laws;
 pub mod line_laws;
 pub mod output_laws;
+pub mod own_laws;
 pub mod pckt_laws;
 pub mod ptem_laws;
 pub mod put_laws;

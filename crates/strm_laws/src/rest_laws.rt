@@ -11,7 +11,7 @@ ghost use Rattle.strm_types.specs.Journal.{room_used};
 ghost use Rattle.strm_types.specs.Names.{is_enabled};
 ghost use Rattle.strm_laws.specs.Pair.{PairState, RanTurns, next_refused};
 ghost use Rattle.strm_laws.specs.Refusals.{enough, in_range};
-ghost use Rattle.strm_laws.specs.Rest.{EchoesOnce, NoLdterm, work};
+ghost use Rattle.strm_laws.specs.Rest.{EchoesOnce, NoneQueues, work};
 ghost use Rattle.strm_laws.specs.Restorable.{Restorable};
 ghost use Rattle.strm_laws.specs.StackCosts.{stands_of};
 ghost use Rattle.strm_laws.specs.State.{State};
@@ -20,11 +20,11 @@ ghost use Rattle.strm_laws.specs.Turns.{turned};
 
 use crate::behaviours::Behaves;
 
-/// A turn of an enabled queue leaves less work: where no ldterm stands on either stream, whichever answer it is given; and where one ldterm stands
-/// there, with no pckt below it, of a pair that an image may hold, as each is. A turn of ldterm's treats a byte at least of a message that has any,
-/// which is enough, however short blocks are. Two ldterms that echo each other don't come to rest.
+/// A turn of an enabled queue leaves less work: where no module that has queues stands on either stream, whichever answer it is given; and where of
+/// such modules one ldterm stands there, with no pckt below it, of a pair that an image may hold, as each is. A turn of ldterm's treats a byte at
+/// least of a message that has any, which is enough, however short blocks are. Two ldterms that echo each other don't come to rest.
 pub fn turns_leave_less<C, K: Behaves>()
-    ensures plain { (cells : Cells C) (name : QueueName) (turn : Turn) (s : State C) → NoLdterm (stands_of s) → is_enabled name s.enabled ≡ true →
+    ensures plain { (cells : Cells C) (name : QueueName) (turn : Turn) (s : State C) → NoneQueues (stands_of s) → is_enabled name s.enabled ≡ true →
         work (turned K.does cells name turn s).state < work s }
     ensures echoed { (cells : Cells C) (old new : State C) (name : QueueName) (turn : Turn) → EchoesOnce (stands_of old) → Restorable old →
         IsTurn K.does cells old name turn new → work new < work old }
@@ -34,7 +34,8 @@ pub fn turns_leave_less<C, K: Behaves>()
 /// room in the journal for as many the next turn isn't refused for the journal's sake: in the end no queue is enabled, or the turn of the first one
 /// that is is refused for another reason. That is none where `STOP_BLOCKS` blocks of each kind are free and no book is full.
 pub fn turns_come_to_rest<K: Behaves>()
-    ensures plain { (n : ℕ) (old new : PairState) → RanTurns K.does n old new → NoLdterm (stands_of old.state) → n + work new.state ≤ work old.state }
+    ensures plain { (n : ℕ) (old new : PairState) → RanTurns K.does n old new → NoneQueues (stands_of old.state) →
+        n + work new.state ≤ work old.state }
     ensures echoed { (n : ℕ) (old new : PairState) → RanTurns K.does n old new → EchoesOnce (stands_of old.state) → Restorable old.state →
         n + work new.state ≤ work old.state }
     ensures room { (n : ℕ) (old new : PairState) → RanTurns K.does n old new → n + work new.state ≤ work old.state →

@@ -1,12 +1,12 @@
 -- Blocks and bytes that leave the front of a message of data in hand.
-use Rattle.strm_ldterm.proofs.Prelude.{cases_eq, inl, inr, ℕ, ◌≡◌, ◌≢◌, ◌≤◌, ◌<◌, ◌+◌, false, cond, eqb, List, [], ◌∷◌, ◌++◌, length, take, drop}
+use Rattle.strm_ldterm.proofs.Prelude.{ℕ, ◌≡◌, ◌≢◌, ◌≤◌, ◌<◌, ◌+◌, false, cond, eqb, List, [], ◌∷◌, ◌++◌, length, take, drop}
 use Rattle.strm_ldterm.proofs.Prelude.{refl, sym, ap, subst, ◌∙◌, arith, append_assoc, take-append-drop, slice_index_or, sum_by-cons, total-held}
 use Rattle.strm_ldterm.proofs.Prelude.{total-dropped, total-changed, used-is, references-is, free_m-is, free_d-more, in_hand-changed}
 use Rattle.strm_ldterm.proofs.Prelude.{in_hand-changed_other, data_in, data-shown, data-all, data-control, data_in-cells, held-changed, stays-chain}
-use Rattle.strm_ldterm.proofs.Prelude.{times-replaced, once-self, once-apart}
-use Rattle.strm_ldterm.specs.Prelude.{left_of, Message, cells_of, is_high_priority, Block, Held, StoreValue, IsStore, IsFreshName, IsInHand, in_hand}
+use Rattle.strm_ldterm.proofs.Prelude.{times-replaced, once-apart}
+use Rattle.strm_ldterm.specs.Prelude.{left_of, Message, cells_of, is_high_priority, Block, StoreValue, IsStore, IsFreshName, IsInHand, in_hand}
 use Rattle.strm_ldterm.specs.Prelude.{block_at, held, dropped, changed, banded, with_block, times_in, names_of, bytes_of, message_of, IsChain}
-use Rattle.strm_ldterm.specs.Prelude.{AreData, once, CanPut, Shifts, message_in}
+use Rattle.strm_ldterm.specs.Prelude.{AreData, once, Shifts, message_in}
 use Rattle.std.proofs.Math.Seq.{drop-append_seam}
 use Rattle.strm_types.specs.declared.kinds.MsgKind.TheVariants as kinds
 use Rattle.strm_blocks.specs.Blocks.{trimmed_head, without}
@@ -14,7 +14,7 @@ use Rattle.strm_blocks.specs.Outcomes.{Unlinked}
 use Rattle.strm_blocks.proofs.Laws.{IsInHand-held_other, IsInHand-changed}
 use Rattle.strm_msg.proofs.Hands.{other-name, held-is, held-chain, dropped-changed}
 use Rattle.strm_msg.proofs.InHand.{fresh-dropped}
-use Rattle.strm_frame.proofs.Handing.{freed-hands}
+use Rattle.strm_frame.proofs.Handing.{can-of, freed-hands, times-held}
 use Rattle.strm_ldterm.specs.Becoming.{Becomes, IsFronted}
 use Rattle.strm_ldterm.specs.Stands.{IsData}
 
@@ -96,23 +96,6 @@ without-first (b ∷ c ∷ rest) one kind more none =
           let z = sum_by-cons (λ (x : Block). cond {A = ℕ} (eqb x.number d) 1 0) next rest in omega arith;
     }
 
-times-came : (s : StoreValue) (i : ℕ) (chain : List Block) (j : ℕ) → times_in j (held s i chain).hand ≡ once i j + times_in j s.hand
-unfolding once
-times-came s i chain j = sum_by-cons (λ (h : Held). cond (eqb h.name j) 1 0) (record { name = i; chain = chain }) s.hand
-
--- a message in hand, where nothing is kept
-once-none : (i j : ℕ) → i ≢ j → once i j ≡ 0
-unfolding once
-once-none i j ne = ap (λ v. cond {A = ℕ} v 1 0) (other-name i j ne)
-
-can-of : (s : StoreValue) (i : ℕ) → IsInHand s i → CanPut s i (λ _. 0)
-can-of s i is = record {
-  apart = λ j. elim (cases_eq i j) [
-    | inl e ↦ (let t = ap (λ k. times_in k s.hand) e in let o = ap (λ k. once i k) e in let u = once-self i in omega arith)
-    | inr ne ↦ (let o = once-none i j ne in omega arith)
-  ];
-}
-
 -- one message comes for another one
 module _ (s : StoreValue) (i j : ℕ) (st : IsStore s) (is : IsInHand s i) (fresh : IsFreshName s j) (new : List Block) (fewer : length new ≤ length (in_hand s i)) (names : (d : ℕ) → names_of d new ≤ names_of d (in_hand s i)) where
   swapped : Shifts s (held (dropped s i) j new) (once i) (once j) 0
@@ -120,7 +103,7 @@ module _ (s : StoreValue) (i j : ℕ) (st : IsStore s) (is : IsInHand s i) (fres
       let t = held (dropped s i) j new in
       let h = freed-hands s i (λ _. 0) st (can-of s i is) in
       record {
-        counts = λ k. let c = h.counts k in let n = times-came (dropped s i) j new k in omega arith;
+        counts = λ k. let c = h.counts k in let n = times-held (dropped s i) j new k in omega arith;
         others = λ k none some.
             stays-chain (dropped s i) j new k (λ e. (let w = ap (λ n. times_in n s.hand) e in absurd (omega arith))) ∙ h.others k none refl some;
         mblks = (let a = total-held length (dropped s i) j new in let b = total-dropped length s i is in let c = free_m-is s in let d = free_m-is t in let e = used-is s in let f = used-is t in omega arith);

@@ -25,14 +25,14 @@ ghost use Rattle.strm_ldterm.specs.TakingUp.{flush_takes, line_takes, termios_se
 
 use crate::flushes::flush_read;
 use crate::ldterm::Ldterm;
-use crate::puts::{note_if, pass_on};
+use crate::puts::pass_on;
 use crate::sending_keys::make_line;
 use crate::signal_keys::send_up;
 use arrayvec::ArrayVec;
 use bitflags::Flags;
 use strm_blocks::{Blocks, InHand};
 use strm_frame::ioctls::{header_of, payload_of, sets_termios};
-use strm_frame::{Acts, Outbox, QueuePair, Sent};
+use strm_frame::{Acts, Outbox, QueuePair, Sent, note_if};
 use strm_types::{Fates, FlushAsked, Ioc, LocalModes, MsgKind, Note, Spot, TCSETSF, Termios, Way};
 
 // The read modes of a head, by their numbers (streamio(7I): I_SRDOPT): a stream of bytes, and a message a read.

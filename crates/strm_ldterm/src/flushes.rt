@@ -2,34 +2,17 @@
 
 ghost use Rattle.std.specs.Prelude.{◌≡◌, [], ◌∷◌, if◌then◌else◌};
 ghost use Rattle.strm_types.specs.declared.names.Way.TheVariants.{Up, Down};
-ghost use Rattle.strm_types.specs.declared.rules.Rule.TheVariants.{Flushed};
 ghost use Rattle.strm_types.specs.declared.spots.Note.TheVariants.{Room};
-ghost use Rattle.strm_types.specs.Deliver.{Goes, counted_with};
-ghost use Rattle.strm_types.specs.Emptied.{of_data, cells_gone, queue_behind, writer_goes};
 ghost use Rattle.strm_types.specs.Ldterms.{takes_band_0, line_flushed, read_flushed, write_flushed};
-ghost use Rattle.strm_types.specs.Names.{direction_at};
 ghost use Rattle.strm_blocks.specs.Blocks.{StoreValue};
-ghost use Rattle.strm_queue.specs.Stored.{queue_in, messages_on, IsReady, Changes, FreesBlocks};
 ghost use Rattle.strm_frame.specs.declared.queue_pair.QueuePair.{QueuePair};
 ghost use Rattle.strm_ldterm.specs.Stands.{ldterm_in, IsHeld, paired};
 ghost use Rattle.strm_ldterm.specs.Does.{Flushes};
 
 use crate::ldterm::Ldterm;
 use strm_blocks::Blocks;
-use strm_frame::QueuePair;
-use strm_queue::Queue;
-use strm_queue::emptying::{Chosen, empty, going};
-use strm_types::{Band, Dir, Fates, FlushAsked, Rule, Side, Spot, Way};
-
-/// The direction in which messages go a way on a side's stream.
-pub(crate) fn direction_at(way: Way, side: Side) -> Dir
-    ensures { result ≡ direction_at way side }
-{
-    match way {
-        Way::Down => side.direction(),
-        Way::Up => side.other().direction(),
-    }
-}
+use strm_frame::{QueuePair, direction_at, flush_queue};
+use strm_types::{Band, Fates, FlushAsked, Rule, Spot, Way};
 
 // Whether a flush takes band 0.
 fn takes_band_0(band: Option<Band>) -> bool
@@ -39,27 +22,6 @@ fn takes_band_0(band: Option<Band>) -> bool
         Some(band) => band.0 == 0,
         None => true,
     }
-}
-
-// Takes from a queue what a flush takes, and says whether that lets a waiting writer go.
-fn flush_queue<B: Blocks>(
-    store: &mut B,
-    queue: &mut Queue,
-    direction: Dir,
-    band: Option<Band>,
-    told: &mut Fates,
-) -> bool
-    requires ready { IsReady (B.value store.old) queue.old }
-    ensures queue { queue_in (B.value store.new) queue.new ≡ queue_behind (of_data band) (queue_in (B.value store.old) queue.old) }
-    ensures went { result ≡ writer_goes (of_data band) (queue_in (B.value store.old) queue.old) }
-    ensures told { told.new ≡ counted_with
-        (Goes direction Flushed (cells_gone (of_data band) (messages_on (B.value store.old) queue.old.list))) told.old }
-    ensures changes { Changes (B.value store.old) (B.value store.new) queue.old queue.new }
-    ensures frees { FreesBlocks (B.value store.old) (B.value store.new) }
-{
-    let chosen = Chosen::of_data(band);
-    told.tell(direction, Rule::Flushed, going(store, queue, chosen));
-    empty(store, queue, chosen)
 }
 
 /// The unfinished line goes, where a flush takes band 0.

@@ -20,7 +20,6 @@ mod output_runs;
 mod plain_runs;
 mod posts;
 mod puts;
-mod reads;
 mod sending_keys;
 mod service_calls;
 mod signal_keys;

@@ -18,11 +18,11 @@ ghost use Rattle.strm_ldterm.specs.Stands.{ldterm_in, keeps, IsGathered, IsHeld,
 ghost use Rattle.strm_ldterm.specs.Does.{Proceeds};
 ghost use Rattle.strm_ldterm.specs.Quiet.{is_quiet, is_dropped};
 
-use crate::flushes::direction_at;
 use crate::grown_messages::{begin, grow};
 use crate::ldterm::Ldterm;
 use bitflags::Flags;
 use strm_blocks::Blocks;
+use strm_frame::direction_at;
 use strm_types::{Fates, InputModes, Key, LocalModes, Rule, Spot, Way};
 
 // Tells of bytes that came up and have gone by a rule, where there are any.

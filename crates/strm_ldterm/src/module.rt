@@ -7,7 +7,7 @@ use crate::asks::asked_on;
 use crate::ldterm::Ldterm;
 use crate::{ldterm, puts, service_calls};
 use strm_blocks::{Blocks, InHand};
-use strm_frame::{Acts, Module, PutProcedure, QueuePair, Served};
+use strm_frame::{Acts, Module, Procedures, QueuePair, Served};
 use strm_types::{Asks, Fates, ModuleName, Spot, Way};
 
 impl Module for Ldterm {
@@ -20,7 +20,7 @@ impl Module for Ldterm {
     ghost use Rattle.strm_ldterm.specs.Frames.{own-frame, own-rested};
     ghost use Rattle.strm_ldterm.specs.Resting.{own-rests};
     ghost use Rattle.strm_ldterm.specs.Served as served;
-    ghost use Rattle.strm_ldterm.specs.ServedLaws.{either-served, line-served, serves-served};
+    ghost use Rattle.strm_ldterm.specs.ServedLaws.{either-served, line-served};
     ghost use Rattle.strm_ldterm.specs.Stands as stands;
 
     ghost Plain = { plain.Ldterm ℕ };
@@ -39,9 +39,9 @@ impl Module for Ldterm {
 
     ghost without_line = { plain.lineless };
 
-    ghost asks = { there.asks_there };
+    ghost asks = { λ by way x. there.asks_there way x };
 
-    ghost serves = { λ here again stop x. there.serves_there cells.plain here 0 again stop x };
+    ghost serves = { λ by here again stop x. there.serves_there cells.plain here 0 again stop x };
 
     ghost MayServe = { λ way again p. served.MayBeServed way again p };
 
@@ -55,6 +55,50 @@ impl Module for Ldterm {
 
     fn name(&self) -> ModuleName {
         ldterm::name()
+    }
+
+    fn line_len(&self) -> usize {
+        self.line.len()
+    }
+
+    fn clear_line(&mut self) -> usize {
+        self.line.clear()
+    }
+
+    ghost frame = { λ s t x queues others lists same held. own-frame s t x queues others lists same held };
+
+    ghost rested = { λ s t x queues others lists none held. own-rested s t x queues others lists none held };
+
+    ghost rests = { λ s x queues way i held may. own-rests s x queues way i held may };
+
+    ghost either_way = { λ way other p may. either-served way other p may };
+
+    ghost line_stays = { λ p way again may. line-served way again p may };
+}
+
+impl Procedures<()> for Ldterm {
+    ghost use Rattle.std.specs.Prelude.{false};
+    ghost use Rattle.strm_types.specs.Cells as cells;
+    ghost use Rattle.strm_types.specs.LdtermStands as there;
+    ghost use Rattle.strm_types.proofs.LdtermWithin.{ldterm-within};
+    ghost use Rattle.strm_frame.specs.NoOwn.{no_own};
+    ghost use Rattle.strm_ldterm.specs.ServedLaws.{puts-served, serves-served};
+
+    ghost by = { no_own };
+
+    ghost wide = { false };
+
+    fn put<B: Blocks>(
+        &mut self,
+        queues: &mut Option<QueuePair>,
+        store: &mut B,
+        here: Spot,
+        message: InHand,
+        told: &mut Fates,
+    ) -> Acts {
+        let Some(pair) = queues else { unreachable!() };
+        store.audit();
+        puts::put(self, pair, store, here, message, told)
     }
 
     fn asks<B: Blocks>(&self, queues: &Option<QueuePair>, store: &B, way: Way) -> Asks {
@@ -76,51 +120,9 @@ impl Module for Ldterm {
         service_calls::serve(self, pair, store, here, again, told)
     }
 
-    fn line_len(&self) -> usize {
-        self.line.len()
-    }
-
-    fn clear_line(&mut self) -> usize {
-        self.line.clear()
-    }
-
-    ghost frame = { λ s t x queues others lists same held. own-frame s t x queues others lists same held };
-
-    ghost rested = { λ s t x queues others lists none held. own-rested s t x queues others lists none held };
-
-    ghost rests = { λ s x queues way i held may. own-rests s x queues way i held may };
-
-    ghost either_way = { λ way other p may. either-served way other p may };
-
-    ghost turn_goes = { λ here again stop x may. serves-served cells.plain here 0 again stop (there.discipline_at x) may };
-
-    ghost line_stays = { λ p way again may. line-served way again p may };
-}
-
-impl PutProcedure<()> for Ldterm {
-    ghost use Rattle.std.specs.Prelude.{false, []};
-    ghost use Rattle.strm_types.specs.LdtermStands as there;
-    ghost use Rattle.strm_types.proofs.LdtermWithin.{ldterm-within};
-    ghost use Rattle.strm_ldterm.specs.ServedLaws.{puts-served};
-
-    ghost by = { λ here m x. record { state = x; notes = []; sent = []; gone = [] } };
-
-    ghost wide = { false };
-
-    fn put<B: Blocks>(
-        &mut self,
-        queues: &mut Option<QueuePair>,
-        store: &mut B,
-        here: Spot,
-        message: InHand,
-        told: &mut Fates,
-    ) -> Acts {
-        let Some(pair) = queues else { unreachable!() };
-        store.audit();
-        puts::put(self, pair, store, here, message, told)
-    }
-
     ghost within = { λ here m x. ldterm-within here m (there.discipline_at x) };
 
     ghost put_stays = { λ here m x way again may. puts-served here m way again (there.discipline_at x) may };
+
+    ghost turn_goes = { λ here again stop x may. serves-served cells.plain here 0 again stop (there.discipline_at x) may };
 }

@@ -12,11 +12,11 @@ ghost use Rattle.strm_types.specs.OutputTurns.{output_dir};
 ghost use Rattle.strm_types.specs.Termios.{olcuc};
 ghost use Rattle.strm_ldterm.specs.Posting.{FlowsAs, bytes_given, is_printed};
 
-use crate::flushes::direction_at;
 use crate::graphic::{graphic_len, is_graphic};
 use crate::posts::{moved_on, post, raised};
 use arrayvec::ArrayVec;
 use bitflags::Flags;
+use strm_frame::direction_at;
 use strm_types::{Fates, Given, OutputModes, Rule, Spot, Termios, Way};
 
 /// How many bytes a buffer of output has room for.

@@ -24,14 +24,13 @@ ghost use Rattle.strm_ldterm.specs.Turns.{ahead, bytes_on, stages_left};
 
 use crate::echoes::RUN_MAX;
 use crate::first_steps::skip_empty;
-use crate::flushes::direction_at;
 use crate::ldterm::Ldterm;
 use crate::line_keys::gather;
 use crate::standing_echo::stand_run;
 use arrayvec::ArrayVec;
 use bitflags::Flags;
 use strm_blocks::{Blocks, InHand};
-use strm_frame::QueuePair;
+use strm_frame::{QueuePair, direction_at};
 use strm_queue::standing::count;
 use strm_types::{
     Band, Fates, InputModes, LINE_MAX, LocalModes, Note, STOP_BLOCKS, Spot, Termios, Way,

@@ -9,7 +9,6 @@ ghost use Rattle.strm_types.specs.Deliver.{onward};
 ghost use Rattle.strm_types.specs.Ldterms.{queued_at, sends, flush_passes};
 ghost use Rattle.strm_types.specs.Budgets.{own_at};
 ghost use Rattle.strm_types.specs.Flushing.{is_flush};
-ghost use Rattle.strm_types.specs.declared.spots.Note.TheVariants.{Room};
 ghost use Rattle.strm_types.specs.Tables.{ldterm_does};
 ghost use Rattle.strm_types.specs.Message.{is_held, is_high_priority};
 ghost use Rattle.strm_types.specs.Ldterms.{waits_there};
@@ -26,23 +25,12 @@ use crate::answers::pass;
 use crate::behind::goes_behind;
 use crate::flushes::{flush_read, flush_write};
 use crate::ldterm::Ldterm;
-use crate::reads::asked_of;
 use arrayvec::ArrayVec;
 use strm_blocks::{Blocks, InHand};
-use strm_frame::{Acts, Outbox, QueuePair, Sent};
+use strm_frame::flushes::asked_of;
+use strm_frame::{Acts, Outbox, QueuePair, Sent, note_if, rooms};
 use strm_queue::standing::enqueue;
 use strm_types::{Fates, MsgKind, Note, Spot, Way};
-
-/// A note, where a condition holds.
-pub(crate) fn note_if(holds: bool, note: Note) -> ArrayVec<Note, 4>
-    ensures { result.items ≡ (if holds then note ∷ [] else []) }
-{
-    let mut notes = ArrayVec::new();
-    if holds {
-        notes.push(note);
-    }
-    notes
-}
 
 // A message waits to go up.
 fn wait_up<B: Blocks>(
@@ -131,20 +119,6 @@ fn wait<B: Blocks>(
         Way::Up => wait_up(ldterm, queues, store, message),
         Way::Down => wait_down(ldterm, queues, store, message),
     }
-}
-
-/// Which queues have room again, for those before them.
-pub(crate) fn rooms(up: bool, down: bool) -> ArrayVec<Note, 4>
-    ensures { result.items ≡ (if up then Room Up ∷ [] else []) ++ (if down then Room Down ∷ [] else []) }
-{
-    let mut notes = ArrayVec::new();
-    if up {
-        notes.push(Note::Room(Way::Up));
-    }
-    if down {
-        notes.push(Note::Room(Way::Down));
-    }
-    notes
 }
 
 // Obeys an M_FLUSH, which goes on.

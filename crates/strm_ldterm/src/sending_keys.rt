@@ -16,10 +16,9 @@ ghost use Rattle.strm_ldterm.specs.Sending.{MadeOne};
 ghost use Rattle.strm_ldterm.specs.Stands.{ldterm_in, keeps, IsHeld, paired};
 ghost use Rattle.strm_blocks.specs.Blocks.{token};
 
-use crate::flushes::direction_at;
 use crate::ldterm::Ldterm;
 use strm_blocks::{Blocks, InHand};
-use strm_frame::{Outbox, Sent};
+use strm_frame::{Outbox, Sent, direction_at};
 use strm_msg::from_bytes;
 use strm_types::{Band, Fates, MsgKind, Rule, Spot, Way};
 

@@ -21,12 +21,12 @@ ghost use Rattle.strm_ldterm.specs.SignalKeys.{sends_signal};
 ghost use Rattle.strm_ldterm.specs.Stands.{ldterm_in, keeps, IsHeld, Paired, paired};
 
 use crate::call_ends::send_gathered;
-use crate::flushes::{direction_at, flush_line};
+use crate::flushes::flush_line;
 use crate::ldterm::Ldterm;
 use crate::sending_keys::make;
 use bitflags::Flags;
 use strm_blocks::Blocks;
-use strm_frame::{Outbox, Sent};
+use strm_frame::{Outbox, Sent, direction_at};
 use strm_types::{Fates, FlushAsked, Key, LocalModes, MsgKind, Rule, Spot, Termios, Way};
 
 // The signals of the keys (signal.h).

@@ -18,14 +18,12 @@ ghost use Rattle.strm_ldterm.specs.Grown.{Grown, Begins, BeginsLast, GrowsLast};
 ghost use Rattle.strm_blocks.specs.Blocks.{token};
 
 use crate::echoes::Echo;
-use crate::flushes::direction_at;
 use crate::grown_messages::{begin, grow};
 use crate::ldterm::Ldterm;
 use crate::lines::Line;
-use crate::puts::note_if;
 use arrayvec::ArrayVec;
 use strm_blocks::{Blocks, InHand};
-use strm_frame::QueuePair;
+use strm_frame::{QueuePair, direction_at, note_if};
 use strm_queue::Queue;
 use strm_queue::standing::{enqueue, is_full};
 use strm_queue::taking::take_last;

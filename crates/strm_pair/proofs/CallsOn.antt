@@ -8,19 +8,21 @@ use Rattle.strm_pair.specs.Prelude.{is_data, passes, stages, stages_done, treats
 use Rattle.strm_pair.specs.Prelude.{unchanged, first_size, left_with, Serving, opost, AreIdle, disciplined, Discipline, module_turn_ended}
 use Rattle.strm_pair.specs.Prelude.{module_turned, moved_on, IsKeptAhead, in_range, spare, IsAtRest, KindRests, Module, OfLdterm, Standing}
 use Rattle.strm_pair.specs.Prelude.{module_serves, State, stream, Begins, Ends, bytes_left, stood, asks_on, discipline_of, led, module_at, treated}
-use Rattle.strm_pair.specs.Prelude.{none_there, TurnOutcome, StoreValue, least_free, stop_at, stands_of, Behaviour}
+use Rattle.strm_pair.specs.Prelude.{none_there, TurnOutcome, StoreValue, least_free, stop_at, stands_of, Behaviour, OfOwn}
 use Rattle.std.proofs.Common.{◌*◌}
 use Rattle.std.specs.Bool.{OnTrue}
 use Rattle.std.specs.List.{AllByRecursion}
 use Rattle.strm_types.specs.Input.{to_treat}
 use Rattle.strm_types.specs.Ldterms.{Stage, Between, Begun, Answered, new_ldterm}
 use Rattle.strm_types.specs.Standings.{QueuePair}
+use Rattle.strm_laws.specs.Behaviours.{own_by}
 use Rattle.strm_laws.specs.TurnCalls.{Stopped}
 use Rattle.strm_laws.proofs.ModuleTurnCalls.{Reached, led-at, led-length, moves-within, reached-last, reached-next}
 use Rattle.strm_pair.specs.AnyModules.{HasAsNamed, turn_cost}
 use Rattle.strm_pair.specs.declared.service_calls.Call.{Call}
 use Rattle.strm_pair.specs.ModuleServed.{LeavesFew, MayBook, StopsFew, TellsAs, TreatsAs, call_cost, call_units, stop_in}
 use Rattle.strm_pair.specs.ModuleTurned.{MayMove}
+use Rattle.strm_pair.proofs.OwnCalls.{own-whole}
 use Rattle.strm_pair.proofs.StopsFew.{led-same, led-stands}
 
 -- What calls that go on have led to so far: so many bytes were treated, by so many calls, each of which came a stage further.
@@ -84,30 +86,30 @@ module _ (here : Spot) where
     pub begun : stages_done (discipline_of (module_at here st)).stage ≤ 3 * bytes_left here.way true (discipline_of (module_at here st))
     pub all : (again ≡ false → Full (module_at here s)) → bytes_left here.way again (discipline_of (module_at here s)) ≤ bytes_left here.way true (discipline_of (module_at here st)) + call.bytes
 
-  further : (K : Behaviour) (again : Bool) (call : Call) (s st : State ℕ) → TellsAs here again call s → st ≡ (led K here again (stop_in call) s).state → here.at - 1 < length (stream here.side s).modules
+  further : (K : Behaviour) (again : Bool) (call : Call) (s st : State ℕ) → TellsAs K here again call s → st ≡ (led K here again (stop_in call) s).state → here.at - 1 < length (stream here.side s).modules
       → Begins here.way again (discipline_of (module_at here s)) → call.again ≡ true → Further again call s st
   further K again call s st tells state low begins works =
       let none = none-in call (not-stopped call.stopped call.again tells.over works) in
       let i = here.at - 1 in
       let ps = (stream here.side s).modules in
       let l = module_at here s in
-      let t = module_serves plain here 0 again None l in
-      let asks = ap (λ o. asks_on here again o ps) (sym none) ∙ sym tells.asks ∙ works in
-      let more : t.again ≡ true = sym (index-map none_there (λ p. (module_serves plain here 0 again None p).again) false i ps low) ∙ asks in
-      let bytes : call.bytes ≡ t.bytes = tells.bytes ∙ ap (λ o. treated here again o ps) none ∙ index-map none_there (λ p. (module_serves plain here 0 again None p).bytes) 0 i ps low in
-      let g = module-goes here again l begins more in
+      let t = module_serves K plain here 0 again None l in
+      let asks = ap (λ o. asks_on here K again o ps) (sym none) ∙ sym tells.asks ∙ works in
+      let more : t.again ≡ true = sym (index-map none_there (λ p. (module_serves K plain here 0 again None p).again) false i ps low) ∙ asks in
+      let bytes : call.bytes ≡ t.bytes = tells.bytes ∙ ap (λ o. treated here K again o ps) none ∙ index-map none_there (λ p. (module_serves K plain here 0 again None p).bytes) 0 i ps low in
+      let g = module-goes here again K l begins more in
       let at = ap (λ v. under_way (module_at here v)) (state ∙ ap (λ o. (led K here again o s).state) none) ∙ led-at here K again None s low in
       let stage = ap (λ (x : UnderWay). stages_done x.stage) at in
       let left = ap (λ w. bytes_left w true (discipline_of (module_at here st))) g.up ∙ ap (λ (x : UnderWay). bytes_left Up true (record (discipline_of (module_at here st)) { stage = x.stage; in_work = x.in_work })) at in
       record { stop = none; treat = omega (arith, g.treat, bytes, left); all = λ full. omega (arith, g.all (λ first. (full first).0), bytes, left); done = omega (arith, g.done, bytes, stage); begun = subst (λ w. stages_done (discipline_of (module_at here st)).stage ≤ 3 * bytes_left w true (discipline_of (module_at here st))) (sym g.up) (begun-few (discipline_of (module_at here st)).stage (discipline_of (module_at here st))) }
 
   -- where a call stopped
-  stopped-at : (stopped : Bool) (again : Bool) (bytes : ℕ) (s : State ℕ) → bytes ≡ treated here again (stop_at stopped bytes) (stream here.side s).modules → OnTrue stopped (Ends here.way again (discipline_of (module_at here s)) bytes)
-      → Stopped here again s (stop_at stopped bytes)
-  stopped-at true again bytes s is ends = (is, ends)
-  stopped-at false again bytes s is ends = tt
+  stopped-at : (K : Behaviour) (stopped : Bool) (again : Bool) (bytes : ℕ) (s : State ℕ) → bytes ≡ treated here K again (stop_at stopped bytes) (stream here.side s).modules → OnTrue stopped (Ends here.way again (discipline_of (module_at here s)) bytes)
+      → Stopped here K again s (stop_at stopped bytes)
+  stopped-at K true again bytes s is ends = (is, ends)
+  stopped-at K false again bytes s is ends = tt
 
-  module _ (K : Behaviour) (s0 : State ℕ) (again : Bool) (bytes : ℕ) (gone : List (Fate ℕ)) (s st : State ℕ) (r : Reached here s0 K again bytes gone s) (call : Call) (tells : TellsAs here again call s)
+  module _ (K : Behaviour) (s0 : State ℕ) (again : Bool) (bytes : ℕ) (gone : List (Fate ℕ)) (s st : State ℕ) (r : Reached here s0 K again bytes gone s) (call : Call) (tells : TellsAs K here again call s)
       (state : st ≡ (led K here again (stop_in call) s).state) (f f' f'' : Fates) (was : f' ≡ tallied gone f) (told : f'' ≡ tallied (led K here again (stop_in call) s).gone f') (falls : spare s ≤ spare st + call_units call.bytes) where
     any_name : QueueName
     any_name = record { side = here.side; place = Driver; way = here.way }
@@ -121,9 +123,9 @@ module _ (here : Spot) where
     goes-on count few held since works =
         let on = further K again call s st tells state r.inside r.begins works in
         let ps = (stream here.side s).modules in
-        let asks = ap (λ o. asks_on here again o ps) (sym on.stop) ∙ sym tells.asks ∙ works in
+        let asks = ap (λ o. asks_on here K again o ps) (sym on.stop) ∙ sym tells.asks ∙ works in
         let next = reached-next here s0 K again bytes gone s r asks in
-        let same = tells.bytes ∙ ap (λ o. treated here again o ps) on.stop in
+        let same = tells.bytes ∙ ap (λ o. treated here K again o ps) on.stop in
         let gone_is : gone ++ (led K here again None s).gone ≡ gone ++ (led K here again (stop_in call) s).gone = ap (λ o. gone ++ (led K here again o s).gone) (sym on.stop) in
         let state_is : (led K here again None s).state ≡ st = ap (λ o. (led K here again o s).state) (sym on.stop) ∙ sym state in
         let at = subst (λ n. Reached here s0 K true (bytes + n) (gone ++ (led K here again None s).gone) (led K here again None s).state) (sym same)
@@ -148,8 +150,8 @@ module _ (here : Spot) where
     ends-there count few held went over =
         let ps = (stream here.side s).modules in
         let stop = stop_in call in
-        let last = λ (name : QueueName). reached-last here s0 K name again bytes gone s r stop (sym tells.asks ∙ over) (stopped-at call.stopped again call.bytes s tells.bytes tells.ends) in
-        let same : bytes + treated here again stop ps ≡ bytes + call.bytes = ap (λ n. bytes + n) (sym tells.bytes) in
+        let last = λ (name : QueueName). reached-last here s0 K name again bytes gone s r stop (sym tells.asks ∙ over) (stopped-at K call.stopped again call.bytes s tells.bytes tells.ends) in
+        let same : bytes + treated here K again stop ps ≡ bytes + call.bytes = ap (λ n. bytes + n) (sym tells.bytes) in
         let all = gone ++ (led K here again stop s).gone in
         let to : QueueName → ℕ → State ℕ → TurnOutcome ℕ = λ name n v. record { turn = Moved n; state = module_turn_ended name here (not (n == 0)) v; gone = all } in
         record {
@@ -218,10 +220,10 @@ module _ (here : Spot) where
   none-left Down false None none = omega arith
   none-left Down true None none = omega arith
 
-  whole-at : (way : Way) (again : Bool) (p : Standing ℕ) → Full p → let t = module_serves plain (record here { way = way }) 0 again None p in t.again ≡ false → bytes_left way again (discipline_of p) ≤ t.bytes
-  whole-at way again p full over = by way again p.part full over
+  whole-at : (K : Behaviour) (way : Way) (again : Bool) (p : Standing ℕ) → Full p → let t = module_serves K plain (record here { way = way }) 0 again None p in t.again ≡ false → bytes_left way again (discipline_of p) ≤ t.bytes
+  whole-at K way again p full over = by way again p.part full over
     where
-      by : (way : Way) (again : Bool) (part : Module ℕ) → let q = stood part p.queues in Full q → let t = module_serves plain (record here { way = way }) 0 again None q in t.again ≡ false
+      by : (way : Way) (again : Bool) (part : Module ℕ) → let q = stood part p.queues in Full q → let t = module_serves K plain (record here { way = way }) 0 again None q in t.again ≡ false
           → bytes_left way again (discipline_of q) ≤ t.bytes
       by Up false (OfLdterm l) full over = let d = disciplined l p.queues in input-whole d.read_queue.messages d full.0 over
       by Up true (OfLdterm l) full over =
@@ -231,18 +233,19 @@ module _ (here : Spot) where
           omega (arith, bytes)
       by Down false (OfLdterm l) full over = let d = disciplined l p.queues in output-whole d.write_queue.messages d full.1
       by Down true (OfLdterm l) full over = let d = disciplined l p.queues in output-whole d.write_queue.messages d full.1
+      by way again (OfOwn o) full over = own-whole (own_by K plain) here way again o p.queues
       by way again other full over = none-left way again p.queues full.2
 
   -- a last call that didn't stop treats all that was left
-  module _ (again : Bool) (call : Call) (s : State ℕ) (tells : TellsAs here again call s) (low : here.at - 1 < length (stream here.side s).modules) (full : Full (module_at here s)) (over : call.again ≡ false) where
+  module _ (K : Behaviour) (again : Bool) (call : Call) (s : State ℕ) (tells : TellsAs K here again call s) (low : here.at - 1 < length (stream here.side s).modules) (full : Full (module_at here s)) (over : call.again ≡ false) where
     went-all : call.stopped ≡ false → bytes_left here.way again (discipline_of (module_at here s)) ≤ call.bytes
     went-all goes =
         let on = none-in here call goes in
         let i = here.at - 1 in
         let ps = (stream here.side s).modules in
-        let ended = sym (index-map none_there (λ p. (module_serves plain here 0 again None p).again) false i ps low) ∙ ap (λ o. asks_on here again o ps) (sym on) ∙ sym tells.asks ∙ over in
-        let bytes = sym (index-map none_there (λ p. (module_serves plain here 0 again None p).bytes) 0 i ps low) ∙ ap (λ o. treated here again o ps) (sym on) ∙ sym tells.bytes in
-        omega (arith, whole-at here.way again (module_at here s) full ended, bytes)
+        let ended = sym (index-map none_there (λ p. (module_serves K plain here 0 again None p).again) false i ps low) ∙ ap (λ o. asks_on here K again o ps) (sym on) ∙ sym tells.asks ∙ over in
+        let bytes = sym (index-map none_there (λ p. (module_serves K plain here 0 again None p).bytes) 0 i ps low) ∙ ap (λ o. treated here K again o ps) (sym on) ∙ sym tells.bytes in
+        omega (arith, whole-at K here.way again (module_at here s) full ended, bytes)
 
     -- so one that left some stopped, and few blocks are free behind it
     leaves-few : (bytes : ℕ) (s0 : State ℕ) (t : StoreValue) → Since here again bytes s0 s → LeavesFew here again call s t → StopsFew here (bytes + call.bytes) s0 t
@@ -254,9 +257,9 @@ module _ (here : Spot) where
         at false is few = λ less ahead. absurd (let all = went-all is in omega (arith, all, since.all, less))
 
   -- a first call that is the last one
-  module _ (call : Call) (s : State ℕ) (tells : TellsAs here false call s) (low : here.at - 1 < length (stream here.side s).modules) (full : Full (module_at here s)) (over : call.again ≡ false) (none : call.bytes ≡ 0) where
+  module _ (K : Behaviour) (call : Call) (s : State ℕ) (tells : TellsAs K here false call s) (low : here.at - 1 < length (stream here.side s).modules) (full : Full (module_at here s)) (over : call.again ≡ false) (none : call.bytes ≡ 0) where
     went-whole : call.stopped ≡ false → bytes_left here.way false (discipline_of (module_at here s)) ≡ 0
-    went-whole goes = let all = went-all false call s tells low full over goes in omega (arith, all, none)
+    went-whole goes = let all = went-all K false call s tells low full over goes in omega (arith, all, none)
 
     stopped-some : (stopped : Bool) (A : Type 0) → A → OnTrue stopped (A → 0 < call.bytes) → stopped ≡ true → 0 < call.bytes
     stopped-some true A many some is = some many
@@ -270,9 +273,9 @@ module _ (here : Spot) where
         at false is = went-whole is
 
   -- the last call treats what has begun
-  last-done : (again : Bool) (call : Call) (s : State ℕ) → TellsAs here again call s → here.at - 1 < length (stream here.side s).modules → Begins here.way again (discipline_of (module_at here s)) → call.again ≡ false
+  last-done : (K : Behaviour) (again : Bool) (call : Call) (s : State ℕ) → TellsAs K here again call s → here.at - 1 < length (stream here.side s).modules → Begins here.way again (discipline_of (module_at here s)) → call.again ≡ false
       → stages_done (discipline_of (module_at here s)).stage ≤ 3 * call.bytes
-  last-done again call s tells low begins over = at call.stopped refl tells.ends
+  last-done K again call s tells low begins over = at call.stopped refl tells.ends
     where
       at : (stopped : Bool) → call.stopped ≡ stopped → OnTrue stopped (Ends here.way again (discipline_of (module_at here s)) call.bytes) → stages_done (discipline_of (module_at here s)).stage ≤ 3 * call.bytes
       at true is ends = ends.done
@@ -280,16 +283,16 @@ module _ (here : Spot) where
           let on = none-in here call is in
           let i = here.at - 1 in
           let qs = (stream here.side s).modules in
-          let ended = sym (index-map none_there (λ p. (module_serves plain here 0 again None p).again) false i qs low) ∙ ap (λ o. asks_on here again o qs) (sym on) ∙ sym tells.asks ∙ over in
-          let bytes = tells.bytes ∙ ap (λ o. treated here again o qs) on ∙ index-map none_there (λ p. (module_serves plain here 0 again None p).bytes) 0 i qs low in
-          let e = (module-ends here again (module_at here s) begins ended).0.done in
+          let ended = sym (index-map none_there (λ p. (module_serves K plain here 0 again None p).again) false i qs low) ∙ ap (λ o. asks_on here K again o qs) (sym on) ∙ sym tells.asks ∙ over in
+          let bytes = tells.bytes ∙ ap (λ o. treated here K again o qs) on ∙ index-map none_there (λ p. (module_serves K plain here 0 again None p).bytes) 0 i qs low in
+          let e = (module-ends here again K (module_at here s) begins ended).0.done in
           omega (arith, e, bytes)
 
   -- and so calls behind the first one treat a byte
-  pub later-went : (K : Behaviour) (bytes : ℕ) (s0 s : State ℕ) (f f' : Fates) (call : Call) → GoOn K here bytes s0 s f f' → TellsAs here true call s → call.again ≡ false → bytes + call.bytes ≡ 0
+  pub later-went : (K : Behaviour) (bytes : ℕ) (s0 s : State ℕ) (f f' : Fates) (call : Call) → GoOn K here bytes s0 s f f' → TellsAs K here true call s → call.again ≡ false → bytes + call.bytes ≡ 0
       → bytes_left here.way false (discipline_of (module_at here s0)) ≡ 0
   later-went K bytes s0 s f f' call on tells over none =
-      let done = last-done true call s tells on.reached.inside on.reached.begins over in
+      let done = last-done K true call s tells on.reached.inside on.reached.begins over in
       absurd (let few = on.few in let some = on.some in omega (arith, few, some, done, none))
 
 -- few blocks are free where the turn is at its end
@@ -297,10 +300,10 @@ abbrev pub FewAt : Bool → Spot → ℕ → State ℕ → StoreValue → Type 0
 FewAt true here bytes s0 t = Unit {0}
 FewAt false here bytes s0 t = StopsFew here bytes s0 t
 
-pub few-along : (here : Spot) (again : Bool) (call : Call) (s : State ℕ) → TellsAs here again call s → here.at - 1 < length (stream here.side s).modules → Full (module_at here s)
+pub few-along : (K : Behaviour) (here : Spot) (again : Bool) (call : Call) (s : State ℕ) → TellsAs K here again call s → here.at - 1 < length (stream here.side s).modules → Full (module_at here s)
     → (bytes : ℕ) (s0 : State ℕ) (t : StoreValue) → Since here again bytes s0 s → LeavesFew here again call s t → (more : Bool) → call.again ≡ more → FewAt more here (bytes + call.bytes) s0 t
-few-along here again call s tells low full bytes s0 t since few true is = tt
-few-along here again call s tells low full bytes s0 t since few false is = leaves-few here again call s tells low full is bytes s0 t since few
+few-along K here again call s tells low full bytes s0 t since few true is = tt
+few-along K here again call s tells low full bytes s0 t since few false is = leaves-few here K again call s tells low full is bytes s0 t since few
 
 -- what a first call begins with
 module _ (here : Spot) where

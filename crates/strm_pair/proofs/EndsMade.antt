@@ -1,16 +1,16 @@
--- A stream of a text, on four lists of a store: its queues one after the other, and then its modules.
-use Rattle.strm_pair.proofs.Prelude.{ℕ, ◌≡◌, ◌≢◌, ◌≤◌, ◌<◌, ◌+◌, Bool, true, false, List, [], ◌∷◌, map, refl, sym, ap, subst, ◌∙◌, arith, ◌==◌}
-use Rattle.strm_pair.proofs.Prelude.{is_some, sum_by, Option, nat_tests, sum_by-cons, kind-is, ready-same}
+-- A stream of a text, on eight lists of a store: its queues one after the other, and then its modules.
+use Rattle.strm_pair.proofs.Prelude.{ℕ, ◌≡◌, ◌≤◌, ◌+◌, true, List, [], ◌∷◌, map, refl, sym, ap, subst, ◌∙◌, arith}
+use Rattle.strm_pair.proofs.Prelude.{Option, None, Some, sum_by, sum_by-cons, kind-is, ready-same}
 use Rattle.strm_pair.specs.Prelude.{MsgKind, Openness, is_data_kind, is_body_kind, is_control_kind, EachOnce, module_name, is_part_kind, Block}
-use Rattle.strm_pair.specs.Prelude.{StoreValue, block_at, list_at, message_of, queue_in, HoldsReadable, IsHeadQueue, Head, head_in, all_of, Stack}
-use Rattle.strm_pair.specs.Prelude.{ModuleText, StreamText, laid_blocks, module_now, modules_now, names_now, queue_now, laid_now, Tables, owns}
+use Rattle.strm_pair.specs.Prelude.{StoreValue, block_at, list_at, message_of, queue_in, HoldsReadable, IsHeadQueue, Head, head_in, Stack}
+use Rattle.strm_pair.specs.Prelude.{ModuleText, StreamText, laid_blocks, module_now, modules_now, names_now, queue_now, laid_now}
 use Rattle.std.specs.List.{AllByRecursion}
 use Rattle.strm_types.specs.declared.kinds.MsgKind.TheVariants as kinds
 use Rattle.strm_types.specs.Queue as state
 use Rattle.strm_types.specs.Heads as heads
 use Rattle.strm_laws.specs.Restorable.{StandsOn}
 use Rattle.strm_queue.specs.declared.queue.Queue.{Queue}
-use Rattle.strm_image.specs.declared.modules.ModuleText.TheVariants as texts
+use Rattle.strm_image.specs.declared.modules.QueuesText.{QueuesText}
 use Rattle.strm_image.specs.Counts as counts
 use Rattle.strm_image.specs.Counts.{queue_blocks}
 use Rattle.strm_pair.specs.declared.ends.StreamEnd.{StreamEnd}
@@ -19,10 +19,10 @@ use Rattle.strm_pair.specs.AnyModules.{module_in}
 use Rattle.strm_pair.specs.Laying.{IsStood, IsStreamText, stream_now}
 use Rattle.strm_pair.specs.Placing.{AreStacked, module_blocks}
 use Rattle.strm_pair.specs.Runs.{Spent}
-use Rattle.strm_pair.specs.Standing.{Fills, FillsTwo}
+use Rattle.strm_pair.specs.declared.shelves.Shelf.{Shelf}
+use Rattle.strm_pair.specs.Standing.{Fills}
 use Rattle.strm_pair.specs.Streams.{AreApart}
 use Rattle.strm_pair.proofs.Sides.{queue-same}
-use Rattle.strm_pair.proofs.StacksMade.{own-both, own-within-two}
 
 -- ---- what a text tells
 
@@ -44,10 +44,11 @@ blocks-same [] = refl
 blocks-same (m ∷ ms) = omega (arith, sum_by-cons counts.module_blocks (module_now m) (modules_now ms), sum_by-cons module_blocks m ms, one m, blocks-same ms)
   where
     one : (m : ModuleText) → counts.module_blocks (module_now m) ≡ module_blocks m
-    one (texts.Ldterm l) = omega arith
-    one (texts.Ptem p) = refl
-    one texts.Pckt = refl
-    one (texts.Own o) = refl
+    one m = by m.queues
+      where
+        by : (queues : Option QueuesText) → let n = record m { queues = queues } in counts.module_blocks (module_now n) ≡ module_blocks n
+        by None = refl
+        by (Some q) = omega arith
 
 -- ---- the lists
 
@@ -56,18 +57,18 @@ module _ {s a b : StoreValue} {first : ℕ} {q r : Queue} (h : Fills s a first q
   pub list-free : (k : ℕ) → first + 2 ≤ k → list_at b k ≡ list_at s k
   list-free k low = w.others k (λ e. absurd (omega (arith, low, e))) ∙ h.others k (λ e. absurd (omega (arith, low, e)))
 
-  module _ {d : StoreValue} (f : FillsTwo b d (first + 2)) where
+  module _ (d : StoreValue) (f : (k : ℕ) → (first + 2 ≤ k → first + 2 + 6 ≤ k) → list_at d k ≡ list_at b k) where
     head-list : list_at d q.list ≡ list_at a q.list
     head-list =
-        f.others q.list (λ e. absurd (omega (arith, e, h.list_is))) (λ e. absurd (omega (arith, e, h.list_is)))
+        f q.list (λ low. absurd (omega (arith, low, h.list_is)))
         ∙ w.others q.list (λ e. absurd (omega (arith, e, h.list_is)))
 
     driver-list : list_at d r.list ≡ list_at b r.list
-    driver-list = f.others r.list (λ e. absurd (omega (arith, e, w.list_is))) (λ e. absurd (omega (arith, e, w.list_is)))
+    driver-list = f r.list (λ low. absurd (omega (arith, low, w.list_is)))
 
-    outside : (k : ℕ) → (first ≤ k → first + 4 ≤ k) → list_at d k ≡ list_at s k
+    outside : (k : ℕ) → (first ≤ k → first + 8 ≤ k) → list_at d k ≡ list_at s k
     outside k out =
-        f.others k (λ e. absurd (omega (arith, e, out (omega (arith, e))))) (λ e. absurd (omega (arith, e, out (omega (arith, e)))))
+        f k (λ low. omega (arith, out (omega (arith, low))))
         ∙ w.others k (λ e. absurd (omega (arith, e, out (omega (arith, e)))))
         ∙ h.others k (λ e. absurd (omega (arith, e, out (omega (arith, e)))))
 
@@ -80,45 +81,28 @@ names-same (m ∷ ms) = ap (λ ns. module_name (module_now m) ∷ ns) (names-sam
 module _ {s a b d : StoreValue} {first : ℕ} {q r : Queue} (text : StreamText) (opened : Openness) (good : IsStreamText text)
     (h : Fills s a first q) (head_is : queue_in a q ≡ queue_now text.head) (head_spent : Spent s a (queue_blocks (queue_now text.head)))
     (w : Fills a b (first + 1) r) (driver_is : queue_in b r ≡ queue_now text.driver) (driver_spent : Spent a b (queue_blocks (queue_now text.driver)))
-    (stack : Stack AnyModule) (shelf : Option Tables) (stacked : AreStacked b d (first + 2) text.modules.items stack.modules.items shelf)
+    (stack : Stack AnyModule) {was is_now : Shelf} (stacked : AreStacked b d (first + 2) was is_now text.modules.items stack.modules.items)
     (head : Head) (is : head.queue ≡ q) (shown : (t : StoreValue) → head_in t head ≡ record (laid_now text).head { queue = queue_in t q }) where
   abbrev made : StreamEnd
-  made = record { opened = opened; head = head; stack = stack; driver = r; shelf = shelf }
+  made = record { opened = opened; head = head; stack = stack; driver = r }
 
   abbrev ms : List ModuleText
   ms = text.modules.items
 
   head-same : queue_in d q ≡ queue_now text.head
-  head-same = queue-same a d q (head-list h w stacked.fills) ∙ head_is
+  head-same = queue-same a d q (head-list h w d stacked.others) ∙ head_is
 
   driver-same : queue_in d r ≡ queue_now text.driver
-  driver-same = queue-same b d r (driver-list h w stacked.fills) ∙ driver_is
+  driver-same = queue-same b d r (driver-list h w d stacked.others) ∙ driver_is
 
   readable : HoldsReadable (list_at d q.list)
   readable = record { each = readable-each (list_at d q.list) (subst (λ (x : state.Queue ℕ). AllByRecursion (λ m. StandsOn is_part_kind m) x.messages) (sym head-same) good.head.messages) }
 
   head-fits : IsHeadQueue d head.queue
-  head-fits = subst (IsHeadQueue d) (sym is) (record { ready = ready-same a d q (head-list h w stacked.fills) h.ready; readable = readable })
+  head-fits = subst (IsHeadQueue d) (sym is) (record { ready = ready-same a d q (head-list h w d stacked.others) h.ready; readable = readable })
 
   names-once : AreApart (map (module_in d) stack.modules.items)
   names-once = subst (λ ps. EachOnce (map module_name ps)) (sym stacked.state) (subst EachOnce (names-same ms) good.modules.names)
-
-  -- the lists of the modules
-  owned-two : (k : ℕ) → 0 < all_of owns stack.modules.items k → (first + 2 ≤ k) × (k < first + 4)
-  owned-two k some = let at = own-within-two (first + 2) k ms (omega (arith, some, stacked.own k)) in (at.0, omega (arith, at.1))
-
-  spare-two : (k : ℕ) → first + 2 ≤ k → k < first + 4 → all_of owns stack.modules.items k ≡ 0 → list_at d k ≡ []
-  spare-two k low high none = by (k == first + 2) refl
-    where
-      free : (list_at d (first + 2) ≡ []) × ((list_at d (first + 2 + 1) ≡ []) × (is_some shelf ≡ true))
-      free = stacked.free (omega (arith, none, stacked.own k, stacked.own (first + 2), own-both (first + 2) k low (omega (arith, high)) ms))
-
-      by : (v : Bool) → (k == first + 2) ≡ v → list_at d k ≡ []
-      by true e = let at : k ≡ first + 2 = grind (arith, nat_tests) in ap (list_at d) at ∙ free.0
-      by false e =
-          let other : k ≢ first + 2 = λ same. grind (arith, nat_tests) in
-          let at : k ≡ first + 2 + 1 = omega (arith, low, high, other) in
-          ap (list_at d) at ∙ free.1.0
 
   pub stood : IsStood s d first (stream_now opened text) (laid_blocks (laid_now text)) made
   stood = record {
@@ -131,19 +115,17 @@ module _ {s a b d : StoreValue} {first : ℕ} {q r : Queue} (text : StreamText) 
       head_list = ap (λ (x : Queue). x.list) is ∙ h.list_is;
       driver_list = w.list_is;
       head = head-fits;
-      driver = ready-same b d r (driver-list h w stacked.fills) w.ready;
+      driver = ready-same b d r (driver-list h w d stacked.others) w.ready;
       stack = stacked.held;
       once = names-once;
-      owned = owned-two;
-      spare = spare-two;
-      shelf = λ none. (stacked.free none).1.1;
+      lists = stacked.lists;
     };
     rests = stacked.rests;
-    before = λ k low. outside h w stacked.fills k (λ up. absurd (omega (arith, low, up)));
-    behind = λ k high. outside h w stacked.fills k (λ up. high);
-    hand = stacked.fills.hand ∙ w.hand ∙ h.hand;
-    mblks = stacked.fills.mblks ∙ w.mblks ∙ h.mblks;
-    dblks = stacked.fills.dblks ∙ w.dblks ∙ h.dblks;
+    before = λ k low. outside h w d stacked.others k (λ up. absurd (omega (arith, low, up)));
+    behind = λ k high. outside h w d stacked.others k (λ up. high);
+    hand = stacked.hand ∙ w.hand ∙ h.hand;
+    mblks = stacked.mblks ∙ w.mblks ∙ h.mblks;
+    dblks = stacked.dblks ∙ w.dblks ∙ h.dblks;
     spent = record {
       mblks = omega (arith, head_spent.mblks, driver_spent.mblks, stacked.spent.mblks, blocks-same ms);
       dblks = omega (arith, head_spent.dblks, driver_spent.dblks, stacked.spent.dblks, blocks-same ms);

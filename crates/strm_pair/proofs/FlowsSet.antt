@@ -85,8 +85,8 @@ module _ (fs : List Flow) (first : plain.Flow) (none : first.want_write ≡ fals
 
 none-waits : (at : QueueKind) → (first_flow at).want_write ≡ false
 none-waits queues.Head = refl
-none-waits queues.LdtermRead = refl
-none-waits queues.LdtermWrite = refl
+none-waits queues.ModuleRead = refl
+none-waits queues.ModuleWrite = refl
 none-waits queues.Driver = refl
 
 -- all bands of a new queue with the marks of the last one of the first

@@ -3,11 +3,12 @@ use Rattle.std.proofs.Common.{ℕ, zero, suc, ◌≡◌, ◌≤◌, ◌+◌, con
 use Rattle.std.specs.Prelude.{sum_by, slice_index_or}
 use Rattle.std.proofs.lemmas.Bool.Decides.{nat_tests}
 use Rattle.std.proofs.lemmas.List.Sums.{sum_by-cons}
+use Rattle.strm_types.specs.declared.limits.TheConstants.{LISTS}
 use Rattle.strm_blocks.specs.Blocks.{Block, Held, StoreValue, IsStore, list_at, names_of, references, total, used, free_m, free_d, zeros_below}
 use Rattle.strm_blocks.proofs.Laws.{references-is, used-is, free_m-is}
 use Rattle.strm_queue.proofs.Sizes.{all-long}
 
--- the sum of a number over eight lists
+-- the sum of a number over all lists
 sum_from : (List (List Block) → ℕ) → List (List (List Block)) → ℕ → ℕ → ℕ
 sum_from f lists k zero = 0
 sum_from f lists k (suc n) = f (slice_index_or lists k []) + sum_from f lists (suc k) n
@@ -22,42 +23,40 @@ unfolding sum_from
 sum-all f [] = refl
 sum-all f (q ∷ lists) = omega (arith, sum_by-cons f q lists, sum-all f lists, sum-shifts f q lists 0 (length lists))
 
-pub eight-lists : (f : List (List Block) → ℕ) (s : StoreValue) → length s.lists ≡ 8
-    → sum_by f s.lists ≡ f (list_at s 0) + (f (list_at s 1) + (f (list_at s 2) + (f (list_at s 3) + (f (list_at s 4) + (f (list_at s 5) + (f (list_at s 6) + f (list_at s 7)))))))
+-- the sum of a number over the eight lists of a side
+abbrev pub side_sum : (ℕ → ℕ) → ℕ → ℕ
+side_sum f k = f k + (f (k + 1) + (f (k + 2) + (f (k + 3) + (f (k + 4) + (f (k + 5) + (f (k + 6) + f (k + 7)))))))
+
+pub all-lists : (f : List (List Block) → ℕ) (s : StoreValue) → length s.lists ≡ LISTS
+    → sum_by f s.lists ≡ side_sum (λ k. f (list_at s k)) 0 + side_sum (λ k. f (list_at s k)) 8
 unfolding sum_from
-eight-lists f s eight = let counted = sum-all f s.lists in let all = ap (λ n. sum_from f s.lists 0 n) eight in omega arith
+all-lists f s many = let counted = sum-all f s.lists in let all = ap (λ n. sum_from f s.lists 0 n) many in omega arith
 
 -- each message takes a message block at least
 pub used-enough : (s : StoreValue) → IsStore s
-    → length (list_at s 0) + (length (list_at s 1) + (length (list_at s 2) + (length (list_at s 3) + (length (list_at s 4) + (length (list_at s 5) + (length (list_at s 6) + length (list_at s 7))))))) ≤ used s
-used-enough s is = omega (arith, eight-lists (λ q. length q) s is.eight, all-long s.lists, is.filled, used-is s)
+    → side_sum (λ k. length (list_at s k)) 0 + side_sum (λ k. length (list_at s k)) 8 ≤ used s
+used-enough s is = omega (arith, all-lists (λ q. length q) s is.eight, all-long s.lists, is.filled, used-is s)
 
 -- A store that holds nothing, on its lists and in hand.
 pub record IsBare (s : StoreValue) : Type 0 where
-  pub eight : length s.lists ≡ 8
   pub hand : s.hand ≡ []
-  pub at_0 : list_at s 0 ≡ []
-  pub at_1 : list_at s 1 ≡ []
-  pub at_2 : list_at s 2 ≡ []
-  pub at_3 : list_at s 3 ≡ []
-  pub at_4 : list_at s 4 ≡ []
-  pub at_5 : list_at s 5 ≡ []
-  pub at_6 : list_at s 6 ≡ []
-  pub at_7 : list_at s 7 ≡ []
+  pub none : sum_by (λ (q : List (List Block)). length q) s.lists ≡ 0
+
+sum-none : (f : List Block → ℕ) (lists : List (List (List Block))) → sum_by (λ (q : List (List Block)). length q) lists ≡ 0 → sum_by (λ q. sum_by f q) lists ≡ 0
+sum-none f [] none = refl
+sum-none f ([] ∷ lists) none = omega (
+  arith,
+  sum_by-cons (λ (q : List (List Block)). length q) [] lists,
+  sum_by-cons (λ q. sum_by f q) [] lists,
+  none,
+  sum-none f lists (omega (arith, sum_by-cons (λ (q : List (List Block)). length q) [] lists, none)),
+)
+sum-none f ((chain ∷ q) ∷ lists) none = absurd (omega (arith, sum_by-cons (λ (r : List (List Block)). length r) (chain ∷ q) lists, none))
 
 total-bare : (f : List Block → ℕ) (s : StoreValue) → IsBare s → total f s ≡ 0
 total-bare f s bare =
-    let lists = eight-lists (λ q. sum_by f q) s bare.eight in
     let hand : sum_by (λ (h : Held). f h.chain) s.hand ≡ 0 = ap (λ xs. sum_by (λ (h : Held). f h.chain) xs) bare.hand in
-    let a = ap (λ q. sum_by f q) bare.at_0 in
-    let b = ap (λ q. sum_by f q) bare.at_1 in
-    let c = ap (λ q. sum_by f q) bare.at_2 in
-    let d = ap (λ q. sum_by f q) bare.at_3 in
-    let e = ap (λ q. sum_by f q) bare.at_4 in
-    let g = ap (λ q. sum_by f q) bare.at_5 in
-    let h = ap (λ q. sum_by f q) bare.at_6 in
-    let i = ap (λ q. sum_by f q) bare.at_7 in
-    omega arith
+    omega (arith, sum-none f s.lists bare.none, hand)
 
 all-zero : (f : ℕ → ℕ) → ((d : ℕ) → f d ≡ 0) → (n : ℕ) → zeros_below f n ≡ n
 unfolding zeros_below

@@ -1,6 +1,6 @@
 -- A pair over a store with nothing in it, with an empty journal, is as new.
 use Rattle.strm_pair.proofs.Prelude.{ℕ, ◌≡◌, List, [], ap, sym, subst, refl, ◌∙◌, replicate}
-use Rattle.strm_pair.specs.Prelude.{Config, Second, HasImage, imaged, image, PlainEntry, opening, plain, Fates, told_by, no_fates, IsLegal, new_pair}
+use Rattle.strm_pair.specs.Prelude.{LISTS, Config, Second, HasImage, imaged, image, PlainEntry, opening, plain, Fates, told_by, no_fates, IsLegal, new_pair}
 use Rattle.strm_pair.specs.Prelude.{Block, Held, StoreValue, empty_store, IsBase, FewBooked, AreWithinEntries, Behaviour}
 use Rattle.std.specs.Prelude.{◌≤◌, length}
 use Rattle.strm_pair.specs.declared.streams.Streams.{Streams}
@@ -61,10 +61,10 @@ fresh-shown s p j b limits fates is blank fresh empty none =
     ∙ rw (none, fresh.state, empty, is, free-empty limits.mblks limits.dblks) refl
 
 -- a store that holds nothing, as it stands with its numbers of blocks, all of which are free
-pub vacant : (s : StoreValue) → s.lists ≡ replicate 8 [] → s.hand ≡ [] → s ≡ empty_store s.mblks s.dblks
+pub vacant : (s : StoreValue) → s.lists ≡ replicate LISTS [] → s.hand ≡ [] → s ≡ empty_store s.mblks s.dblks
 vacant s lists hand =
     ap (λ (ls : List (List (List Block))). record { lists = ls; hand = s.hand; mblks = s.mblks; dblks = s.dblks }) lists
-    ∙ ap (λ (hs : List Held). record { lists = replicate 8 []; hand = hs; mblks = s.mblks; dblks = s.dblks }) hand
+    ∙ ap (λ (hs : List Held). record { lists = replicate LISTS []; hand = hs; mblks = s.mblks; dblks = s.dblks }) hand
 
-pub all-free : (s : StoreValue) → s.lists ≡ replicate 8 [] → s.hand ≡ [] → free_in s ≡ record { mblks = s.mblks; dblks = s.dblks }
+pub all-free : (s : StoreValue) → s.lists ≡ replicate LISTS [] → s.hand ≡ [] → free_in s ≡ record { mblks = s.mblks; dblks = s.dblks }
 all-free s lists hand = ap free_in (vacant s lists hand) ∙ free-empty s.mblks s.dblks

@@ -5,6 +5,7 @@ use Rattle.strm_pair.specs.Prelude.{in_hand, message_of, IsChain, Takes, Behavio
 use Rattle.strm_pair.specs.declared.streams.Streams.{Streams}
 use Rattle.strm_pair.specs.Alone.{IsAlone}
 use Rattle.strm_pair.specs.Effects.{AreAtRest, Leads}
+use Rattle.strm_pair.specs.Enabling.{AreFewEnabled}
 use Rattle.strm_pair.specs.Framing.{rests, same-state, same-beside}
 use Rattle.strm_pair.specs.Pairs.{state_in, Stays, kept_by}
 use Rattle.strm_pair.proofs.Leading.{pool-both}
@@ -27,6 +28,7 @@ module _ (s t : StoreValue) (p : Streams) (at_rest : AreAtRest s p) (i : ℕ) (a
     chain = chain;
     beside = same-beside s t (ap (λ (v : StoreValue). v.lists) after) p at_rest.held.beside none-moved;
     idle = subst AreIdle (sym made-state) at_rest.idle;
+    enabled = subst AreFewEnabled (sym made-state) at_rest.enabled;
   }
 
   -- what a delivery of it led to, by the message that it stands for

@@ -13,6 +13,7 @@ use Rattle.strm_frame.specs.Does.{Serves}
 use Rattle.strm_ldterm.specs.Stands as stands
 use Rattle.strm_pty.specs.declared.pckt.Pckt.{Pckt}
 use Rattle.strm_pty.specs.declared.ptem.Ptem.{Ptem}
+use Rattle.strm_own.specs.Stands.{HasQueues}
 use Rattle.strm_pair.specs.declared.modules.AnyModule.{AnyModule}
 use Rattle.strm_pair.specs.declared.modules.AnyModule.TheVariants as kinds
 use Rattle.strm_pair.specs.AnyModules.{IsKindHeld, kind_in, kind_keeps}
@@ -105,5 +106,5 @@ ptem-kind = record { shows = λ s x. refl; fits = λ s x queues held. held; back
 pub pckt-kind : IsKind kinds.Pckt OfPckt (λ (s : StoreValue) (x : Pckt). pckt_in) (λ s x queues. queues ≡ None) (λ x i. 0)
 pckt-kind = record { shows = λ s x. refl; fits = λ s x queues held. held; back = λ s x queues held. held; keeps_same = λ x. refl }
 
-pub own-kind : IsKind kinds.Own OfOwn (λ (s : StoreValue) (x : Own). x) (λ s x queues. queues ≡ None) (λ x i. 0)
+pub own-kind : IsKind kinds.Own OfOwn (λ (s : StoreValue) (x : Own). x) (λ s x queues. HasQueues x queues) (λ x i. 0)
 own-kind = record { shows = λ s x. refl; fits = λ s x queues held. held; back = λ s x queues held. held; keeps_same = λ x. refl }

@@ -3,6 +3,7 @@ use Rattle.strm_pair.proofs.Prelude.{ℕ, List, [], ◌++◌, refl, sym, ap, sub
 use Rattle.strm_pair.specs.Prelude.{Fates, Carried, Fate, tallied, AreIdle, State, StoreValue}
 use Rattle.strm_pair.specs.declared.streams.Streams.{Streams}
 use Rattle.strm_pair.specs.Effects.{AreAtRest, Becomes, Leads}
+use Rattle.strm_pair.specs.Enabling.{AreFewEnabled}
 use Rattle.strm_pair.specs.Pairs.{state_in, AreHeld, SamePool}
 
 pub pool-both : (s t u : StoreValue) → SamePool s t → SamePool t u → SamePool s u
@@ -52,6 +53,11 @@ leads-becoming step s t p q f g a leads becomes = record {
 pub leads-alone : (step : State ℕ → State ℕ) (s : StoreValue) (p q : Streams) (f : Fates) → AreHeld s p → Becomes p q step → Leads s s q f f (step (state_in s p)) []
 leads-alone step s p q f held becomes = leads-becoming step s s p q f f (record { state = state_in s p; gone = [] }) (leads-nowhere s p f held) becomes
 
--- the streams are at rest behind it where nothing of a turn is under way
-pub rests-behind : (s t : StoreValue) (p : Streams) (f g : Fates) (led : State ℕ) (gone : List (Fate ℕ)) → Leads s t p f g led gone → AreIdle led → AreAtRest t p
-rests-behind s t p f g led gone leads idle = record { held = leads.held; idle = subst AreIdle (sym leads.state) idle }
+-- the streams are at rest behind it where nothing of a turn is under way and enabled queues are there
+pub rests-behind : (s t : StoreValue) (p : Streams) (f g : Fates) (led : State ℕ) (gone : List (Fate ℕ)) → Leads s t p f g led gone → AreIdle led
+    → AreFewEnabled led → AreAtRest t p
+rests-behind s t p f g led gone leads idle few = record {
+  held = leads.held;
+  idle = subst AreIdle (sym leads.state) idle;
+  enabled = subst AreFewEnabled (sym leads.state) few;
+}

@@ -3,8 +3,6 @@ pub mod Peeked
 pub mod Idle
 pub mod Leading
 pub mod InHand
-pub mod Replies
-pub mod OwnPassing
 pub mod Sides
 pub mod Becoming
 pub mod KindsDo
@@ -13,6 +11,9 @@ pub mod ModuleTaken
 pub mod Takings
 pub mod Dropping
 pub mod Puttings
+pub mod StackTops
+pub mod ShelfSteps
+pub mod CallsStand
 pub mod ModulePushed
 pub mod Modes
 pub mod PlaceCosts
@@ -31,6 +32,7 @@ pub mod ReadSteps
 pub mod GetSteps
 pub mod PutBooks
 pub mod FreeBlocks
+pub mod ModuleSums
 pub mod Steps
 pub mod Shown
 pub mod DataLemmas
@@ -65,3 +67,8 @@ mod PairsMade
 mod RestoredPairs
 mod ImagesBack
 pub mod Holding
+pub mod OwnCalls
+pub mod Coming
+pub mod EnabledKnown
+pub mod Enabling
+pub mod DriverNoted

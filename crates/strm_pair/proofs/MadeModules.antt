@@ -1,10 +1,11 @@
 -- The queues that a module is given as its name makes it.
 use Rattle.strm_pair.proofs.Prelude.{ℕ, zero, suc, ◌≡◌, ◌≢◌, ◌<◌, ◌≤◌, ◌+◌, Bool, true, false, cond, [], refl, sym, ap, arith, nat_tests, false≢true}
 use Rattle.strm_pair.proofs.Prelude.{Option, None, Some, IfSome, is_some, ◌==◌, once-self}
-use Rattle.strm_pair.specs.Prelude.{ModuleName, queues_named, StoreValue, list_at, QueuePair, once, IsPairReady, queues_in, queues_own}
+use Rattle.strm_pair.specs.Prelude.{ModuleName, queues_named, StoreValue, list_at, QueuePair, once, IsPairReady, queues_in, queues_own, HasInHand}
+use Rattle.strm_ldterm.specs.declared.ldterm.Ldterm.{Ldterm}
 use Rattle.strm_types.specs.Standings.{new_pair}
 use Rattle.strm_pair.specs.Given.{GivenFor}
-use Rattle.strm_pair.proofs.ModuleTaken.{once-is}
+use Rattle.strm_pair.specs.ModuleLists.{once-is}
 
 -- two names are never one
 pub once-two : (a b k : ℕ) → a ≢ b → once a k + once b k ≤ 1
@@ -21,6 +22,12 @@ once-two a b k apart = by (a == k) (b == k) refl refl
 pub none-are : (queues : Option QueuePair) → is_some queues ≡ false → queues ≡ None
 none-are None is = refl
 none-are (Some pair) is = absurd (false≢true (sym is))
+
+-- an ldterm fits them where there are some
+pub ldterm-fits : (s : StoreValue) (x : Ldterm) (queues : Option QueuePair) → is_some queues ≡ true
+    → ((pair : QueuePair) → HasInHand s x (Some pair)) → HasInHand s x queues
+ldterm-fits s x None has held = absurd (false≢true has)
+ldterm-fits s x (Some pair) has held = held pair
 
 pub some-own : (queues : Option QueuePair) (k : ℕ) → 0 < queues_own queues k → is_some queues ≡ true
 some-own None k some = absurd (omega (arith, some))

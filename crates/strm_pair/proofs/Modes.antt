@@ -1,19 +1,16 @@
 -- A head that is told its read mode, and what stands on the stream beside it.
-use Rattle.strm_pair.proofs.Prelude.{ℕ, suc, ◌≡◌, Bool, true, false, cond, List, [], ◌∷◌, refl, sym, ap, ◌∙◌, arith, nat_tests, Option, None, Some}
-use Rattle.strm_pair.proofs.Prelude.{◌&&◌, ◌||◌, not, nat_le, nat_lt, min, get-set-same}
-use Rattle.strm_pair.specs.Prelude.{MODULES, ReadMode, ModuleName, Side, Master, Slave, Up, EndClosed, plain, Carried, Fate, Goes, Took, before_among}
-use Rattle.strm_pair.specs.Prelude.{before_by, places_of, cells_of, first_place, stands, direction_at, driver_of, enable_if, have_queues, is_open}
-use Rattle.strm_pair.specs.Prelude.{same_module, mode_message, head_above, may_stand, mode_put, module_named, named_by, with_modules, delivered}
-use Rattle.strm_pair.specs.Prelude.{is_none_left, other, Standing, module_name, State, Stream, stream, with_stream, Behaviour}
+use Rattle.strm_pair.proofs.Prelude.{ℕ, ◌≡◌, Bool, true, false, cond, List, [], ◌∷◌, refl, sym, ap, ◌∙◌, Option, None, Some, is_some, ◌&&◌, ◌||◌}
+use Rattle.strm_pair.proofs.Prelude.{not, nat_lt, get-set-same}
+use Rattle.strm_pair.specs.Prelude.{MODULES, ReadMode, ModuleName, Side, Master, Slave, Up, EndClosed, plain, Carried, Goes, Took, cells_of, stands}
+use Rattle.strm_pair.specs.Prelude.{direction_at, has_queues, have_queues, is_open, mode_message, head_above, may_stand, mode_put, module_named}
+use Rattle.strm_pair.specs.Prelude.{named_by, with_modules, delivered, Standing, module_name, State, Stream, stream, with_stream, Behaviour}
 use Rattle.std.specs.Prelude.{length}
-use Rattle.std.specs.List.{AllByRecursion}
-use Rattle.strm_types.specs.declared.names.ModuleName.TheVariants as names
 use Rattle.strm_types.specs.Heads.{with_options}
+use Rattle.strm_types.specs.Standings.{new_pair}
 use Rattle.strm_types.specs.Options.{options_in, mode_number}
-use Rattle.strm_laws.specs.Pushes.{enable_waiting, is_known, let_come, mode_on_push, pushed_named}
+use Rattle.strm_laws.specs.Pushes.{is_known, let_come, mode_on_push, pushed_named}
 use Rattle.strm_laws.proofs.FlushDelivered.{carries, went_on}
 use Rattle.strm_laws.proofs.SameNames.{kind-is}
-use Rattle.strm_pair.specs.AnyModules.{HasAsNamed}
 
 -- what it does at a head that is open, and at one that isn't
 abbrev told_mode : Bool → Side → ReadMode → State ℕ → Carried ℕ (State ℕ)
@@ -107,72 +104,33 @@ may-known K name ms = by (is_known K name)
     by true = ap (λ name. nat_lt (length ms) MODULES && not (stands module_name name ms)) (sym (kind-is ℕ K name))
     by false = refl
 
--- what may come to the read queue of a module that is pushed, where it has one, is what the other side's driver has
-abbrev pub driver_comes : Bool → Side → State ℕ → State ℕ
-driver_comes comes side s = record s { enabled = enable_if (comes && not (is_none_left (stream (other side) s).driver.queue.messages)) (driver_of (other side)) s.enabled }
-
--- as no other module has one
-pub bare : (name : ModuleName) → same_module name names.Ldterm ≡ false → have_queues name ≡ false
-bare name other = other
-
 pub neither : (a b : Bool) → (a || b) ≡ false → (a ≡ false) × (b ≡ false)
 neither true b none = absurd (cc)
 neither false b none = (refl, none)
 
-none-below : (ms : List (Standing ℕ)) (place : ℕ) → AllByRecursion HasAsNamed ms → stands module_name names.Ldterm ms ≡ false → first_place place ms ≡ None
-none-below [] place has none = refl
-none-below (p ∷ ms) place has none =
-    let apart = neither (same_module (module_name p) names.Ldterm) (stands module_name names.Ldterm ms) none in
-    ap (λ b. cond b (Some place) (first_place (suc place) ms)) (has.0 ∙ bare (module_name p) apart.0) ∙ none-below ms (suc place) has.1 apart.1
-
-not-there : (a b : Bool) → (a && not b) ≡ true → b ≡ false
-not-there true true may = absurd (cc)
-not-there true false may = refl
-not-there false b may = absurd (cc)
-
-low : (n : ℕ) → nat_le 1 (min MODULES (suc n)) ≡ true
-low n = grind (arith, nat_tests)
-
-before-first : (side : Side) (l : Standing ℕ) (ms : List (Standing ℕ)) → AllByRecursion HasAsNamed ms → stands module_name names.Ldterm ms ≡ false
-    → before_among side Up 1 (l ∷ ms) ≡ Some (driver_of (other side))
-before-first side l ms has none =
-    ap (before_by side Up 1 (places_of (l ∷ ms))) (none-below ms 2 has none) ∙ ap (λ (b : Bool). cond b (Some (driver_of (other side))) None) (low (length (places_of ms)))
-
-comes : (side : Side) (l : Standing ℕ) (ms : List (Standing ℕ)) (s : State ℕ) → AllByRecursion HasAsNamed ms → stands module_name names.Ldterm ms ≡ false
-    → let_come true side (with_modules side (l ∷ ms) s) ≡ driver_comes true side (with_modules side (l ∷ ms) s)
-comes Master l ms s has none = let t = with_modules Master (l ∷ ms) s in ap (λ first. record t { enabled = enable_waiting first t }) (before-first Master l ms has none)
-comes Slave l ms s has none = let t = with_modules Slave (l ∷ ms) s in ap (λ first. record t { enabled = enable_waiting first t }) (before-first Slave l ms has none)
-
-abbrev led : List (Fate ℕ) → State ℕ → Carried ℕ (State ℕ)
-led gone s = record { state = s; gone = gone }
-
-abbrev or_new : (K : Behaviour) → Option (Standing ℕ) → Standing ℕ
-or_new K None = module_named K names.Ldterm
-or_new K (Some p) = p
-
-stays-there : (side : Side) (p : Standing ℕ) (s : State ℕ) → with_modules side (p ∷ (stream side s).modules) s ≡ driver_comes false side (with_modules side (p ∷ (stream side s).modules) s)
-stays-there side p s = refl
+-- modules of a name have queues where they are given some
+has-named : (K : Behaviour) (name : ModuleName) → has_queues (module_named {C = ℕ} K name) ≡ have_queues name
+has-named K name = by (have_queues name)
+  where
+    by : (has : Bool) → is_some (cond has (Some (new_pair {C = ℕ})) None) ≡ has
+    by true = refl
+    by false = refl
 
 -- A module is pushed: the head may be told its mode before it stands there.
-pub pushed-is : (K : Behaviour) (side : Side) (name : ModuleName) (p : Standing ℕ) (s : State ℕ) → named_by K (Some name) ≡ Some p → AllByRecursion HasAsNamed (stream side s).modules
-    → may_stand (named_by K (Some name)) (stream side s).modules ≡ true → let t = mode_put side (mode_on_push name) s in
-    pushed_named side (named_by K (Some name)) s ≡ record { state = driver_comes (have_queues name) side (with_modules side (p ∷ (stream side t.state).modules) t.state); gone = t.gone }
-pushed-is K side names.Pckt p s is has may =
-    ap (led []) (stays-there side (module_named K names.Pckt) s) ∙ ap (λ q. led [] (driver_comes false side (with_modules side (q ∷ (stream side s).modules) s))) (ap (or_new K) is)
-pushed-is K side names.Ptem p s is has may =
-    ap (led []) (stays-there side (module_named K names.Ptem) s) ∙ ap (λ q. led [] (driver_comes false side (with_modules side (q ∷ (stream side s).modules) s))) (ap (or_new K) is)
-pushed-is K side (names.Own n) p s is has may =
+pub pushed-is : (K : Behaviour) (side : Side) (name : ModuleName) (s : State ℕ) → named_by {C = ℕ} K (Some name) ≡ Some (module_named K name)
+    → let t = mode_put side (mode_on_push name) s in pushed_named side (named_by K (Some name)) s ≡ record {
+      state = let_come (have_queues name) side (with_modules side (module_named K name ∷ (stream side t.state).modules) t.state);
+      gone = t.gone;
+    }
+pushed-is K side name s known =
+    let p = module_named K name in
     let ms = (stream side s).modules in
-    let o = module_named K (names.Own n) in
-    let known = named-known K (names.Own n) (stands-known K (names.Own n) ms may) in
+    let t = mode_put side (mode_on_push name) s in
     ap (λ q. pushed_named side q s) known
-    ∙ ap (led []) (stays-there side o s)
-    ∙ ap (λ q. led [] (driver_comes false side (with_modules side (q ∷ ms) s))) (ap (or_new K) (sym known ∙ is))
-pushed-is K side names.Ldterm p s is has may =
-    let ms = (stream side s).modules in
-    let t = mode_put side (mode_on_push names.Ldterm) s in
-    let l = module_named K names.Ldterm in
-    ap (λ (u : Carried ℕ (State ℕ)). led u.gone (let_come true side u.state)) (mode-among side (mode_on_push names.Ldterm) (l ∷ ms) s)
-    ∙ ap (led t.gone) (comes side l ms t.state has (not-there (nat_lt (length ms) MODULES) (stands module_name names.Ldterm ms) may))
-    ∙ ap (λ ms. led t.gone (driver_comes true side (with_modules side (l ∷ ms) t.state))) (sym (modules-stay side (mode_on_push names.Ldterm) s))
-    ∙ ap (λ q. led t.gone (driver_comes true side (with_modules side (q ∷ (stream side t.state).modules) t.state))) (ap (or_new K) is)
+    ∙ ap (λ n. comes (has_queues p) (mode_put side (mode_on_push n) (with_modules side (p ∷ ms) s))) (kind-is ℕ K name)
+    ∙ ap (λ has. comes has (mode_put side (mode_on_push name) (with_modules side (p ∷ ms) s))) (has-named K name)
+    ∙ ap (comes (have_queues name)) (mode-among side (mode_on_push name) (p ∷ ms) s)
+    ∙ ap (λ qs. comes (have_queues name) (among side (p ∷ qs) t)) (sym (modules-stay side (mode_on_push name) s))
+  where
+    comes : Bool → Carried ℕ (State ℕ) → Carried ℕ (State ℕ)
+    comes has t = record { state = let_come has side t.state; gone = t.gone }

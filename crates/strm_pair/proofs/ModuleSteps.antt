@@ -14,7 +14,7 @@ use Rattle.strm_laws.proofs.PlainPuts.{among-same}
 use Rattle.strm_laws.proofs.StackSpares.{among-makes, among-one, spare-fits}
 use Rattle.strm_pair.specs.declared.ends.StreamEnd.{StreamEnd}
 use Rattle.strm_pair.specs.declared.streams.Streams.{Streams}
-use Rattle.strm_pair.specs.Framing.{kept-parts, kept-with}
+use Rattle.strm_pair.specs.Framing.{for-same, kept-parts, kept-with}
 use Rattle.strm_pair.specs.Lists.{first_list}
 use Rattle.strm_pair.specs.Pairs.{state_in, end_at, with_end, AreBeside, Stays, kept_by}
 use Rattle.strm_pair.specs.ModuleServed.{BookTakes, between, with_more}
@@ -33,9 +33,9 @@ none zero not = refl
 none (suc n) not = absurd (not (omega arith))
 
 module _ (s t : StoreValue) (first : ℕ) (e : StreamEnd) (x : Stack) (is : IsSide s first e) (own : OnlyOwn s t (stack_owns e.stack) (stack_owns x)) where
-  -- a list that isn't one of the two for the modules of this side
-  apart : (k : ℕ) → (first + 2 ≤ k → k < first + 4 → ⊥) → list_at t k ≡ list_at s k
-  apart k away = own.lists k (none (stack_owns e.stack k) (λ some. let within = is.owned k some in away within.0 within.1))
+  -- a list that isn't one of those for the modules of this side
+  apart : (k : ℕ) → (first + 2 ≤ k → k < first + 2 + 6 → ⊥) → list_at t k ≡ list_at s k
+  apart k away = own.lists k (none (stack_owns e.stack k) (λ some. let within = is.lists.owned k some in away within.0 within.1))
 
   head-apart : list_at t e.head.queue.list ≡ list_at s e.head.queue.list
   head-apart = apart e.head.queue.list (λ low high. let l = is.head_list in absurd (omega (arith, l, low)))
@@ -51,9 +51,11 @@ module _ (s t : StoreValue) (first : ℕ) (e : StreamEnd) (x : Stack) (is : IsSi
     driver = ready-same s t e.driver driver-apart is.driver;
     stack = held;
     once = subst EachOnce (sym names) is.once;
-    owned = λ k some. is.owned k (omega (arith, some, own.owns_same k));
-    spare = λ k low high none. let was : stack_owns e.stack k ≡ 0 = sym (own.owns_same k) ∙ none in own.lists k was ∙ is.spare k low high was;
-    shelf = λ none. is.shelf (sym (own.owns_same (first + 2)) ∙ none);
+    lists = let same = for-same s (first + 2) (stack_owns e.stack) (stack_owns x) own.owns_same is.lists in record {
+      owned = same.owned;
+      closed = same.closed;
+      spare = λ k low high none. let was : stack_owns e.stack k ≡ 0 = sym (own.owns_same k) ∙ none in own.lists k was ∙ is.lists.spare k low high was;
+    };
   }
 
   stack-stream : (ms : List (Standing ℕ)) → modules_in t x ≡ ms → stream_in t (record e { stack = x }) ≡ record (stream_in s e) { modules = ms }
@@ -88,7 +90,7 @@ module _ (s t : StoreValue) (p : Streams) (x : Stack) (beside : AreBeside s p) w
   module _ (side : Side) (own : OnlyOwn s t (stack_owns (end_at side p).stack) (stack_owns x)) (stays : Stays s t (stack_keeps (end_at (other side) p).stack)) where
     elsewhere : OtherStays s t p beside side
     elsewhere = record {
-      lists = λ k low high. apart s t (first_list side) (end_at side p) x (beside side) own k (λ above below. never-both side k (omega (arith, above)) below low high);
+      lists = λ k low high. apart s t (first_list side) (end_at side p) x (beside side) own k (λ above below. never-both side k (omega (arith, above)) (omega (arith, below)) low high);
       keeps = stays;
     }
 

@@ -1,6 +1,6 @@
 -- The module on top of a stack, taken off it.
 use Rattle.strm_pair.proofs.Prelude.{ℕ, zero, suc, ◌≡◌, ◌<◌, ◌+◌, Bool, true, false, cond, List, [], ◌∷◌, map, refl, sym, ap, subst, ◌∙◌, arith}
-use Rattle.strm_pair.proofs.Prelude.{nat_tests, sum_by-cons, Option, None, Some, ◌==◌, all-gone}
+use Rattle.strm_pair.proofs.Prelude.{sum_by, sum_by-cons, Option, None, Some, all-gone}
 use Rattle.strm_pair.specs.Prelude.{ModuleName, Side, Up, Down, Fates, Rule, tallied, of_all, emptied, none_goes, queue_behind, act_among, top_name}
 use Rattle.strm_pair.specs.Prelude.{Message, Standing, module_name, Block, StoreValue, list_at, message_of, FreesBlocks, queue_in, once, OnlyOwn}
 use Rattle.strm_pair.specs.Prelude.{SameHand, all_of, AreHeld, Stack, QueuePair, owns, queues_in, queues_own}
@@ -12,6 +12,8 @@ use Rattle.strm_types.specs.Standings.{messages_on}
 use Rattle.strm_pair.specs.declared.modules.AnyModule.{AnyModule}
 use Rattle.strm_pair.specs.AnyModules.{AnyStanding, IsHeld, keeps, module_in}
 use Rattle.strm_pair.specs.declared.stacks.Taken.{Taken}
+use Rattle.strm_pair.specs.ModuleLists.{closed-below, held-below, once-is, pairs-same}
+use Rattle.strm_pair.specs.Shows.{one_pair, pairs_of}
 use Rattle.strm_pair.specs.Taken.{TookTop, let_go_of}
 
 -- nothing is left on a queue from which all went
@@ -25,15 +27,6 @@ none-behind q = by (none_goes of_all q)
 no-chain : (l : List (List Block)) → map message_of l ≡ [] → l ≡ []
 no-chain [] none = refl
 no-chain (chain ∷ l) none = absurd (cc)
-
--- the name that a list is of
-pub once-is : (l k : ℕ) → 0 < once l k → l ≡ k
-unfolding once
-once-is l k some = by (l == k) refl some
-  where
-    by : (b : Bool) → (l == k) ≡ b → 0 < cond {A = ℕ} b 1 0 → l ≡ k
-    by true same some = grind (arith, nat_tests)
-    by false other some = absurd (omega (arith, some))
 
 abbrev rest_of : {A : Type 0} → List A → List A
 rest_of [] = []
@@ -53,6 +46,27 @@ none-top s [] none = refl
 none-top s (x ∷ xs) none = absurd (cc)
 
 module _ (s t : StoreValue) (side : Side) (rule : Rule) where
+  -- as many have queues as before
+  kept-pair : (p : Standing ℕ) → one_pair (let_go_of side rule p).state.queues ≡ one_pair p.queues
+  kept-pair p = by p.queues
+    where
+      by : (queues : Option (plain.QueuePair ℕ)) → one_pair (let_go_of side rule (plain.stood p.part queues)).state.queues ≡ one_pair queues
+      by None = refl
+      by (Some pair) = refl
+
+  kept-pairs : (ms : List (Standing ℕ)) → pairs_of (act_among (let_go_of side rule) 0 ms).state ≡ pairs_of ms
+  kept-pairs [] = refl
+  kept-pairs (p ∷ ps) = omega (
+    arith,
+    sum_by-cons (λ (q : Standing ℕ). one_pair q.queues) (let_go_of side rule p).state ps,
+    sum_by-cons (λ (q : Standing ℕ). one_pair q.queues) p ps,
+    kept-pair p,
+  )
+
+  pub cleared-pairs : (xs ys : List AnyStanding) → map (module_in t) ys ≡ (act_among (let_go_of side rule) 0 (map (module_in s) xs)).state
+      → sum_by (λ (y : AnyStanding). one_pair y.queues) ys ≡ sum_by (λ (y : AnyStanding). one_pair y.queues) xs
+  cleared-pairs xs ys state = sym (pairs-same t ys) ∙ ap pairs_of state ∙ kept-pairs (map (module_in s) xs) ∙ pairs-same s xs
+
   -- nothing stands on the lists of queues that let all go
   abbrev let_go : Option (plain.QueuePair ℕ) → Option (plain.QueuePair ℕ)
   let_go queues = (queues_cleared side rule Down (queues_cleared side rule Up queues).state).state
@@ -108,9 +122,10 @@ module _ (s t : StoreValue) (side : Side) (rule : Rule) where
           notes = notes ∙ ap (λ ps. (act ps).notes) was;
           tells = tells ∙ ap (λ ps. tallied (act ps).gone told) was;
           stays = ap rest_of all;
-          held = record { each = both.each.1; apart = λ k. omega (arith, both.apart k, sum_by-cons (λ z. owns z k) y c.modules.items) };
+          held = held-below t 0 y c.modules.items both;
           rests = λ i. omega (arith, rests i, ap (λ zs. all_of keeps zs i) behind, sum_by-cons (λ z. keeps z i) y c.modules.items);
           owns = λ k. omega (arith, owned k);
+          closed = λ j k le one some. closed-below t 0 y c.modules.items both j k le (omega (arith, one, owned j, sum_by-cons (λ z. owns z j) y c.modules.items)) some;
           others = own.lists;
           emptied = λ k some none. cleared-list x y k (ap (first_or (module_in t y)) all) (omega (arith, owned k, some, none));
           hand = hand;

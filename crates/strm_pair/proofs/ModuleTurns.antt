@@ -43,13 +43,13 @@ turned-nowhere K name turn s none = ap (turned_named K plain name turn s) none
 
 -- with one it goes by what its first message asks
 pub turned-asks : (K : Behaviour) (name : QueueName) (at : ℕ) (asks : Asks) (turn : Turn) (s : State ℕ) → AreIdle s → place_named name.place (stream name.side s).modules ≡ Some at
-    → asks ≡ at_place (module_asks name.way) asked.Empty at (stream name.side s).modules → module_turned K plain name turn s ≡ asked_turn K plain (spot_of name at) asks name turn s
+    → asks ≡ at_place (module_asks K plain name.way) asked.Empty at (stream name.side s).modules → module_turned K plain name turn s ≡ asked_turn K plain (spot_of name at) asks name turn s
 turned-asks K name at asks turn s idle found is =
     let ps = (stream name.side s).modules in
     let low = found-low name.place ps at found in
     let rested : at_place module_rests false at ps ≡ true = rests-at (at - 1) ps (idle name.side) (omega (arith, low.0, low.1)) in
     ap (turned_named K plain name turn s) found
-    ∙ ap (λ b. cond {A = TurnOutcome ℕ} b (asked_turn K plain (spot_of name at) (at_place (module_asks name.way) asked.Empty at ps) name turn s) (stayed_put Blocked s)) rested
+    ∙ ap (λ b. cond {A = TurnOutcome ℕ} b (asked_turn K plain (spot_of name at) (at_place (module_asks K plain name.way) asked.Empty at ps) name turn s) (stayed_put Blocked s)) rested
     ∙ ap (λ a. asked_turn K plain (spot_of name at) a name turn s) (sym is)
 
 pub turned-waits : (K : Behaviour) (name : QueueName) (at : ℕ) (band : Band) (turn : Turn) (s : State ℕ)

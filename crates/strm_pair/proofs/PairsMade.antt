@@ -1,34 +1,38 @@
 -- Both streams of a text, one after the other, in a store that holds nothing.
-use Rattle.strm_pair.proofs.Prelude.{ℕ, ◌≡◌, ◌≤◌, ◌<◌, ◌+◌, List, [], refl, ap, ◌∙◌, arith, replicate, slice_index_or, each-side}
-use Rattle.strm_pair.specs.Prelude.{Stream, Block, StoreValue, list_at, HasRoom}
+use Rattle.strm_pair.proofs.Prelude.{ℕ, ◌≡◌, ◌≤◌, ◌<◌, ◌+◌, List, [], refl, ap, ◌∙◌, arith, map, sum_by, sym, replicate, slice_index_or, each-side}
+use Rattle.strm_pair.specs.Prelude.{LISTS, Openness, Side, Stream, Block, StoreValue, StreamText, list_at, HasRoom, GoodStream, module_name}
 use Rattle.strm_pair.specs.declared.ends.StreamEnd.{StreamEnd}
 use Rattle.strm_pair.specs.Framing.{still}
-use Rattle.strm_pair.specs.Laying.{IsStood}
+use Rattle.strm_pair.specs.Laying.{IsStood, stream_now}
 use Rattle.strm_pair.specs.Lists.{first_list}
 use Rattle.strm_pair.specs.Pairs.{Stays}
+use Rattle.strm_pair.specs.Placing.{text_pair}
 use Rattle.strm_pair.specs.Runs.{Spent}
+use Rattle.strm_pair.specs.Shelves.{pairs_named}
 use Rattle.strm_pair.specs.Stacks.{stack_keeps}
 use Rattle.strm_pair.specs.Streams.{IsBlank, IsSide, AreSides, stream_in}
-use Rattle.strm_pair.proofs.Sides.{side-stays, stream-stays}
+use Rattle.strm_pair.proofs.ShelfSteps.{good-named}
+use Rattle.strm_pair.proofs.Sides.{no-list, side-stays, stream-stays}
+use Rattle.strm_pair.proofs.StacksMade.{text-pairs}
 
 -- each list of such a store is empty
-module _ (s : StoreValue) (lists : s.lists ≡ replicate 8 []) where
-  list-none : (k : ℕ) → slice_index_or (replicate {A = List (List Block)} 8 []) k [] ≡ [] → list_at s k ≡ []
+module _ (s : StoreValue) (lists : s.lists ≡ replicate LISTS []) where
+  list-none : (k : ℕ) → slice_index_or (replicate {A = List (List Block)} LISTS []) k [] ≡ [] → list_at s k ≡ []
   list-none k none = ap (λ (ls : List (List (List Block))). slice_index_or ls k []) lists ∙ none
 
   pub blank-first : IsBlank s 0
-  blank-first = record { head = list-none 0 refl; driver = list-none 1 refl; up = list-none 2 refl; down = list-none 3 refl }
+  blank-first = record { head = list-none 0 refl; driver = list-none 1 refl; modules = λ k low high. list-none k (no-list LISTS k) }
 
-  pub blank-last : IsBlank s 4
-  blank-last = record { head = list-none 4 refl; driver = list-none 5 refl; up = list-none 6 refl; down = list-none 7 refl }
+  pub blank-last : IsBlank s 8
+  blank-last = record { head = list-none 8 refl; driver = list-none 9 refl; modules = λ k low high. list-none k (no-list LISTS k) }
 
-module _ {s t u : StoreValue} {p q : Stream ℕ} {m n : ℕ} {e f : StreamEnd} (master : IsStood s t 0 p m e) (slave : IsStood t u 4 q n f) where
+module _ {s t u : StoreValue} {p q : Stream ℕ} {m n : ℕ} {e f : StreamEnd} (master : IsStood s t 0 p m e) (slave : IsStood t u 8 q n f) where
   -- the master's lists stay
   stays : Stays t u (stack_keeps e.stack)
   stays = still t u (stack_keeps e.stack) slave.hand slave.mblks slave.dblks
 
-  stay : (k : ℕ) → 0 ≤ k → k < 0 + 4 → list_at u k ≡ list_at t k
-  stay k low high = slave.before k high
+  stay : (k : ℕ) → 0 ≤ k → k < 0 + 8 → list_at u k ≡ list_at t k
+  stay k low high = slave.before k (omega (arith, high))
 
   pub master-stream : stream_in u e ≡ p
   master-stream = stream-stays t u 0 e master.side stays stay ∙ master.stream
@@ -44,12 +48,11 @@ module _ {s t u : StoreValue} {p q : Stream ℕ} {m n : ℕ} {e f : StreamEnd} (
 
 -- the slave's lists are empty till then
 module _ {s t : StoreValue} {p : Stream ℕ} {m : ℕ} {e : StreamEnd} (master : IsStood s t 0 p m e) where
-  pub blank-behind : IsBlank s 4 → IsBlank t 4
+  pub blank-behind : IsBlank s 8 → IsBlank t 8
   blank-behind blank = record {
-    head = master.behind 4 (omega arith) ∙ blank.head;
-    driver = master.behind 5 (omega arith) ∙ blank.driver;
-    up = master.behind 6 (omega arith) ∙ blank.up;
-    down = master.behind 7 (omega arith) ∙ blank.down;
+    head = master.behind 8 (omega arith) ∙ blank.head;
+    driver = master.behind 9 (omega arith) ∙ blank.driver;
+    modules = λ k low high. master.behind k (omega (arith, low)) ∙ blank.modules k low high;
   }
 
   pub room-behind : (n : ℕ) → HasRoom s (m + n) → HasRoom t n
@@ -57,3 +60,8 @@ module _ {s t : StoreValue} {p : Stream ℕ} {m : ℕ} {e : StreamEnd} (master :
     mblks = omega (arith, room.mblks, master.spent.mblks);
     dblks = omega (arith, room.dblks, master.spent.dblks);
   }
+
+-- how many modules of a text have queues
+pub text-named : (side : Side) (opened : Openness) (text : StreamText) → GoodStream side (stream_now opened text)
+    → sum_by text_pair text.modules.items ≡ pairs_named (map module_name (stream_now opened text).modules)
+text-named side opened text good = sym (text-pairs text.modules.items) ∙ good-named (stream_now opened text).modules good.modules.each

@@ -1,6 +1,6 @@
 -- A message that was made, and put on a queue behind all that stand there.
 use Rattle.strm_pair.proofs.Prelude.{ℕ, ◌≡◌, ◌≤◌, ◌<◌, ◌+◌, List, [], ◌∷◌, ◌++◌, length, sym, ap, subst, ◌∙◌, arith, sum_by}
-use Rattle.strm_pair.specs.Prelude.{Message, rank_of, Block, StoreValue, IsInHand, IsStore, list_at, in_hand, held, dropped, times_in, free_m, free_d}
+use Rattle.strm_pair.specs.Prelude.{LISTS, Message, rank_of, Block, StoreValue, IsInHand, IsStore, list_at, in_hand, held, dropped, times_in, free_m, free_d}
 use Rattle.strm_pair.specs.Prelude.{AreMessages, plain_flows, AreCounted, OnlyCounts, messages_on, queue_in, IsReady, Changes}
 use Rattle.std.specs.List.{AllByRecursion}
 use Rattle.strm_types.specs.Queue as plain
@@ -22,7 +22,7 @@ module _ {s made : StoreValue} {i n : ℕ} {m : Message ℕ} (k : Makes s made i
   pub makes-in_hand : IsInHand made i
   makes-in_hand = ap (λ v. times_in i v.hand) k.after ∙ held-is s i k.chain k.fresh
 
-  pub lists-kept : IsStore made → length s.lists ≡ 8
+  pub lists-kept : IsStore made → length s.lists ≡ LISTS
   lists-kept is = sym (ap (λ (v : StoreValue). length v.lists) k.after) ∙ is.eight
 
 module _ {s made new : StoreValue} (q : Queue) {i n : ℕ} {m : Message ℕ} (k : Makes s made i n m) (store : IsStore made)

@@ -11,16 +11,16 @@ use Rattle.strm_image.proofs.WrittenRows.{ldterm_told}
 use Rattle.strm_ldterm.specs.declared.ldterm.Ldterm.{Ldterm}
 use Rattle.strm_pair.specs.Imaging.{settings_text}
 
-ldterm_parts : (d : plain.Discipline ℕ) → ldterm_text d ≡ settings_text (by_itself d) ++ ((queue Second queues.LdtermRead).text d.read_queue ++ (queue Second queues.LdtermWrite).text d.write_queue)
+ldterm_parts : (d : plain.Discipline ℕ) → ldterm_text d ≡ settings_text (by_itself d) ++ ((queue Second queues.ModuleRead).text d.read_queue ++ (queue Second queues.ModuleWrite).text d.write_queue)
 ldterm_parts d = simp append_assoc refl
 
 pub ldterm_written : (s : StoreValue) (x : Ldterm) (pair : QueuePair) (g : Given)
-    → put ((queue Second queues.LdtermWrite).text (queue_in s pair.write)) (put ((queue Second queues.LdtermRead).text (queue_in s pair.read)) (put (settings_text (own_in s x)) g))
+    → put ((queue Second queues.ModuleWrite).text (queue_in s pair.write)) (put ((queue Second queues.ModuleRead).text (queue_in s pair.read)) (put (settings_text (own_in s x)) g))
     ≡ put ((module_format Second).text (of_kind OfLdterm (standing_in own_in s (standing x (Some pair))))) g
 ldterm_written s x pair g =
     let d = plain.discipline (own_in s x) (pair_in s pair) in
     let front = settings_text (own_in s x) in
-    let reads = (queue Second queues.LdtermRead).text (queue_in s pair.read) in
-    let writes = (queue Second queues.LdtermWrite).text (queue_in s pair.write) in
+    let reads = (queue Second queues.ModuleRead).text (queue_in s pair.read) in
+    let writes = (queue Second queues.ModuleWrite).text (queue_in s pair.write) in
     put_both reads writes (put front g) ∙ put_both front (reads ++ writes) g
     ∙ ap (λ xs. put xs g) (sym (ldterm_told d ∙ ldterm_parts d))

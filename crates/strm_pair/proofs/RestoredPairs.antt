@@ -1,7 +1,7 @@
 -- A pair that is made of an image: which refusal comes, and what the pair is.
 use Rattle.strm_pair.proofs.Prelude.{ℕ, ◌≡◌, ◌≤◌, ◌-◌, true, false, List, [], refl, sym, ap, subst, ◌∙◌, arith, replicate, Option, Some, same_images}
 use Rattle.strm_pair.proofs.Prelude.{image_length_in}
-use Rattle.strm_pair.specs.Prelude.{Config, Refusal, Einval, Enosr, Fates, plain, IsBase, told_by, FewBooked, Free, enough, AreWithinEntries, IsLegal}
+use Rattle.strm_pair.specs.Prelude.{LISTS, Config, Refusal, Einval, Enosr, Fates, plain, IsBase, told_by, FewBooked, Free, enough, AreWithinEntries, IsLegal}
 use Rattle.strm_pair.specs.Prelude.{StoreValue, IsStore, free_m, free_d, Second, IsTextOf, HasImage, imaged, Imaged, image, imaged_now, Behaviour}
 use Rattle.std.specs.Prelude.{◌↔◌, length}
 use Rattle.std.proofs.lemmas.Bool.{and_from, le-leb}
@@ -84,7 +84,7 @@ module _ (s : StoreValue) (p : Streams) (x : Imaged) (fates : Fates) (state : st
       (omega (arith, same, in-use s p held idle is, is.enough)) (omega (arith, same, state-bytes s p held idle is))
 
 -- the blocks of a store that holds nothing
-pub free-of : (s : StoreValue) (limits : Config) → limits ≡ sizes_over s limits → s.lists ≡ replicate 8 [] → s.hand ≡ [] → free_in s ≡ record { mblks = limits.mblks; dblks = limits.dblks }
+pub free-of : (s : StoreValue) (limits : Config) → limits ≡ sizes_over s limits → s.lists ≡ replicate LISTS [] → s.hand ≡ [] → free_in s ≡ record { mblks = limits.mblks; dblks = limits.dblks }
 free-of s limits same lists hand = all-free s lists hand ∙ sym (ap (λ (l : Config). record { mblks = l.mblks; dblks = l.dblks }) same)
 
 -- ---- which refusal
@@ -115,7 +115,7 @@ module _ (bytes : List ℕ) (i : ImageText) (found : IsTextOf image bytes (image
 
 -- ---- the sizes of a pair over such a store
 
-module _ (s : StoreValue) (sizes : Config) (m d : ℕ) (lists : s.lists ≡ replicate 8 []) (hand : s.hand ≡ []) (mblks : m ≡ free_m s) (dblks : d ≡ free_d s) where
+module _ (s : StoreValue) (sizes : Config) (m d : ℕ) (lists : s.lists ≡ replicate LISTS []) (hand : s.hand ≡ []) (mblks : m ≡ free_m s) (dblks : d ≡ free_d s) where
   pub mblks-all : m ≡ s.mblks
   mblks-all = mblks ∙ ap (λ (f : Free). f.mblks) (all-free s lists hand)
 

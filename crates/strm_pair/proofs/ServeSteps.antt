@@ -6,6 +6,7 @@ use Rattle.strm_pair.proofs.Prelude.{tallied-append}
 use Rattle.strm_pair.specs.Prelude.{Dir, MasterToSlave, SlaveToMaster, Place, QueueName, Side, Way, Up, Down, HOPS, STOP_BLOCKS, Fates, Spot, plain}
 use Rattle.strm_pair.specs.Prelude.{budget, cost_of, most, Carried, Fate, Parcel, tallied, places_of, made_of, Discipline, at_place, act_among}
 use Rattle.strm_pair.specs.Prelude.{IsKeptAhead, earlier_at, module_acted, noted, put_in, spare, spare_behind, costs, stands_of, Module, OfLdterm}
+use Rattle.strm_pair.specs.Prelude.{OfOwn}
 use Rattle.strm_pair.specs.Prelude.{Standing, module_serves, State, book, stream, Begins, Ends, bytes_left, disciplined, HoldsOfPart, stood}
 use Rattle.strm_pair.specs.Prelude.{most_made, asks_on, called, discipline_of, module_at, treated, none_there, IsStore, StoreValue, Served, Sent}
 use Rattle.strm_pair.specs.Prelude.{AreIn, Handles, HasRoom, SamePool, Spends, Takes, sent_of, times_sent, parcels_in, later_cost, least_free}
@@ -21,13 +22,16 @@ use Rattle.strm_ldterm.specs.Turns.{needs}
 use Rattle.strm_pair.specs.AnyModules.{MayServe, turn_cost}
 use Rattle.strm_pair.specs.declared.service_calls.Call.{Call}
 use Rattle.strm_pair.specs.declared.streams.Streams.{Streams}
+use Rattle.strm_pair.specs.Enabling.{AreFewEnabled}
 use Rattle.strm_pair.specs.ModuleServed.{ActsAs, CallsAs, IsKeptAll, LeavesFew, MayBook, StackServes, TellsAs, acts_in, between, call_of, call_units, next_cost, stop_in, with_more}
 use Rattle.strm_pair.specs.Pairs.{state_in, end_at, with_end, AreBeside, kept_by}
 use Rattle.strm_pair.specs.Staying.{ComesToStand}
 use Rattle.strm_ldterm.proofs.Freeing.{stays-few}
 use Rattle.strm_ldterm.proofs.Spared.{call-few}
 use Rattle.strm_pair.specs.Framing.{kept-parts}
+use Rattle.strm_pair.proofs.Enabling.{acted-few}
 use Rattle.strm_pair.proofs.ModuleSteps.{stack-acts, stack-modules}
+use Rattle.strm_pair.proofs.OwnCalls.{own-call-few}
 use Rattle.strm_pair.proofs.Sides.{modules-are}
 use Rattle.strm_pair.proofs.StopsFew.{stopped-stays}
 use Rattle.strm_pair.proofs.PlaceCosts.{once-stands, sent-most}
@@ -52,6 +56,9 @@ may-one way again p begins = by way again p.part begins
     by Up false (OfLdterm l) begins = begins
     by Down true (OfLdterm l) begins = begins
     by Down false (OfLdterm l) begins = begins
+    by Up true (OfOwn o) begins = absurd (false≢true begins)
+    by Up false (OfOwn o) begins = λ up. refl
+    by Down again (OfOwn o) begins = λ up. absurd (cc up)
     by way again other begins = tt
 
 pub may-serve : (way : Way) (again : Bool) (i : ℕ) (ps : List (Standing ℕ)) → i < length ps → Begins way again (discipline_of (slice_index_or ps i none_there)) → HoldsAt (HoldsOfPart (MayServe way again)) ps i
@@ -60,29 +67,29 @@ may-serve way again zero (p ∷ ps) low begins = λ d. may-one way again p begin
 may-serve way again (suc i) (p ∷ ps) low begins = may-serve way again i ps (omega (arith, low)) begins
 
 -- what is booked of a call, and what it told
-module _ (here : Spot) (again : Bool) (call : Call) (st : State ℕ) (tells : TellsAs here again call st) (begins : Begins here.way again (discipline_of (module_at here st))) (low : here.at - 1 < length (stream here.side st).modules) where
+module _ (K : Behaviour) (here : Spot) (again : Bool) (call : Call) (st : State ℕ) (tells : TellsAs K here again call st) (begins : Begins here.way again (discipline_of (module_at here st))) (low : here.at - 1 < length (stream here.side st).modules) where
   -- it treated no more than it might
-  within-by : (stopped : Bool) → OnTrue stopped (Ends here.way again (discipline_of (module_at here st)) call.bytes) → call.bytes ≡ treated here again (stop_at stopped call.bytes) (stream here.side st).modules
+  within-by : (stopped : Bool) → OnTrue stopped (Ends here.way again (discipline_of (module_at here st)) call.bytes) → call.bytes ≡ treated here K again (stop_at stopped call.bytes) (stream here.side st).modules
       → call.bytes ≤ bytes_left here.way again (discipline_of (module_at here st))
   within-by true ends bytes = ends.treat
   within-by false ends bytes =
       let l = module_at here st in
       let i = here.at - 1 in
       let ps = (stream here.side st).modules in
-      let t = module_serves plain here 0 again None l in
-      let same : call.bytes ≡ t.bytes = bytes ∙ index-map none_there (λ p. (module_serves plain here 0 again None p).bytes) 0 i ps low in
+      let t = module_serves K plain here 0 again None l in
+      let same : call.bytes ≡ t.bytes = bytes ∙ index-map none_there (λ p. (module_serves K plain here 0 again None p).bytes) 0 i ps low in
       at t.again refl (omega (arith, same))
     where
-      at : (more : Bool) → (module_serves plain here 0 again None (module_at here st)).again ≡ more → call.bytes ≤ (module_serves plain here 0 again None (module_at here st)).bytes → call.bytes ≤ bytes_left here.way again (discipline_of (module_at here st))
-      at true is most = let g = module-goes here again (module_at here st) begins is in omega (arith, g.treat, most)
-      at false is most = let e = module-ends here again (module_at here st) begins is in omega (arith, e.0.treat, most)
+      at : (more : Bool) → (module_serves K plain here 0 again None (module_at here st)).again ≡ more → call.bytes ≤ (module_serves K plain here 0 again None (module_at here st)).bytes → call.bytes ≤ bytes_left here.way again (discipline_of (module_at here st))
+      at true is most = let g = module-goes here again K (module_at here st) begins is in omega (arith, g.treat, most)
+      at false is most = let e = module-ends here again K (module_at here st) begins is in omega (arith, e.0.treat, most)
 
   pub call-within : call.bytes ≤ bytes_left here.way again (discipline_of (module_at here st))
   call-within = within-by call.stopped tells.ends tells.bytes
 
   -- so what it made fits the books
   abbrev told_in : List (Fate ℕ)
-  told_in = (called here again (stop_in call) (stream here.side st).modules).gone
+  told_in = (called here K again (stop_in call) (stream here.side st).modules).gone
 
   abbrev left : ℕ
   left = bytes_left here.way again (discipline_of (module_at here st))
@@ -98,8 +105,8 @@ module _ (here : Spot) (again : Bool) (call : Call) (st : State ℕ) (tells : Te
   made-fits may SlaveToMaster = fits-by (book SlaveToMaster st).made (made_in SlaveToMaster told_in) (omega (arith, may)) (omega (arith, made-within told_in))
 
   -- it takes some of them
-  pub acted-left : spare st ≤ spare (module_acted here (called here again (stop_in call) (stream here.side st).modules) st).state + (3 * call.bytes + 2)
-  acted-left = acted-falls here (called here again (stop_in call) (stream here.side st).modules) st (3 * call.bytes + 2) (omega (arith, tells.made))
+  pub acted-left : spare st ≤ spare (module_acted here (called here K again (stop_in call) (stream here.side st).modules) st).state + (3 * call.bytes + 2)
+  acted-left = acted-falls here (called here K again (stop_in call) (stream here.side st).modules) st (3 * call.bytes + 2) (omega (arith, tells.made))
 
   -- and the counts tell it
   pub master-between : MayBook here again st → (f f' : Fates) → f.made_from_master < 2 ^ 64 → f' ≡ tallied told_in f → between f.made_from_master f'.made_from_master ≡ made_in MasterToSlave told_in
@@ -125,7 +132,7 @@ all-in s p all = record { apart = λ i. omega (arith, all i) }
 pub within-any : (s t : StoreValue) (p : Streams) (side : Side) (at : ℕ) → at ≤ length (stream side (state_in s p)).modules → at ≤ length (stream side (state_in t p)).modules
 within-any s t p side at low = omega (arith, low, stack-long s t (end_at side p).stack, ap (λ (ms : List (Standing ℕ)). length ms) (modules-are s p side), ap (λ (ms : List (Standing ℕ)). length ms) (modules-are t p side))
 
-module _ (s t : StoreValue) (p q : Streams) (x : Stack) (here : Spot) (again : Bool) (served : Served) (f f' : Fates) where
+module _ (K : Behaviour) (s t : StoreValue) (p q : Streams) (x : Stack) (here : Spot) (again : Bool) (served : Served) (f f' : Fates) where
   abbrev st : State ℕ
   st = state_in s p
 
@@ -136,38 +143,38 @@ module _ (s t : StoreValue) (p q : Streams) (x : Stack) (here : Spot) (again : B
   ms = (stream here.side st).modules
 
   -- what it tells of itself
-  pub tells-by : StackServes s t old x here again served f f' → TellsAs here again (call_of served) st
+  pub tells-by : StackServes K s t old x here again served f f' → TellsAs K here again (call_of served) st
   tells-by e =
       let same = sym (modules-are s p here.side) in
       record {
-        bytes = e.bytes ∙ ap (treated here again (stop_in (call_of served))) same;
-        asks = e.asks ∙ ap (asks_on here again (stop_in (call_of served))) same;
+        bytes = e.bytes ∙ ap (treated here K again (stop_in (call_of served))) same;
+        asks = e.asks ∙ ap (asks_on here K again (stop_in (call_of served))) same;
         ends = on-true served.stopped (holds-there (λ l. Ends here.way again (discipline_of l) served.bytes) none_there (here.at - 1) ms) (subst (λ ls. OnTrue served.stopped (HoldsAt (λ l. Ends here.way again (discipline_of l) served.bytes) ls (here.at - 1))) same e.ends);
         over = e.over;
-        made = subst (λ ls. made_of (called here again (stop_in (call_of served)) ls).gone ≤ most_made served.bytes) same e.made;
+        made = subst (λ ls. made_of (called here K again (stop_in (call_of served)) ls).gone ≤ most_made served.bytes) same e.made;
       }
 
   -- what the module does, and what is booked of it
-  pub acts-by : (place : Option Place) (earlier : Way → Option QueueName) (m n : ℕ) → IsStore s → IsKeptAll s p → AreBeside s p
+  pub acts-by : (place : Option Place) (earlier : Way → Option QueueName) (m n : ℕ) → IsStore s → IsKeptAll s p → AreFewEnabled st → AreBeside s p
       → place ≡ slice_index_or (places_of ms) (here.at - 1) None → ((way : Way) → earlier way ≡ earlier_at here.side here.at st way)
-      → StackServes s t old x here again served f f'
-      → let told = (called here again (stop_in (call_of served)) ms).gone in m ≡ made_in MasterToSlave told → n ≡ made_in SlaveToMaster told
+      → StackServes K s t old x here again served f f'
+      → let told = (called here K again (stop_in (call_of served)) ms).gone in m ≡ made_in MasterToSlave told → n ≡ made_in SlaveToMaster told
       → q ≡ record (with_end here.side (record (end_at here.side p) { stack = x }) p) {
         enabled = noted here.side place earlier served.acts.notes.items p.enabled;
         books = with_more m n p.books;
       }
-      → ActsAs s t p q here again (call_of served) (sent_of served.acts.sent) f f'
-  acts-by place earlier m n store all beside place_is earlier_is e m_is n_is q_is =
+      → ActsAs K s t p q here again (call_of served) (sent_of served.acts.sent) f f'
+  acts-by place earlier m n store all few beside place_is earlier_is e m_is n_is q_is =
       let stop = stop_in (call_of served) in
       let same = sym (modules-are s p here.side) in
-      let did = called here again stop ms in
+      let did = called here K again stop ms in
       let r = stack-acts s t p q x here (λ _. 0) (λ i. times_sent i (sent_of served.acts.sent)) did place earlier served.acts.notes.items m n store (all-in s p all) beside place_is earlier_is
-      (e.state ∙ ap (λ ls. (called here again stop ls).state) same) (e.notes ∙ ap (λ ls. (called here again stop ls).notes) same) (serve-names plain here 0 again stop (here.at - 1) ms)
+      (e.state ∙ ap (λ ls. (called here K again stop ls).state) same) (e.notes ∙ ap (λ ls. (called here K again stop ls).notes) same) (serve-names K plain here 0 again stop (here.at - 1) ms)
       e.held e.own e.hands e.pool m_is n_is q_is in
       record {
         state = r.state;
-        sent = e.sent ∙ ap (λ ls. (called here again stop ls).sent) same;
-        tells = e.tells ∙ ap (λ ls. tallied (called here again stop ls).gone f) same;
+        sent = e.sent ∙ ap (λ ls. (called here K again stop ls).sent) same;
+        tells = e.tells ∙ ap (λ ls. tallied (called here K again stop ls).gone f) same;
         itself = tells-by e;
         few = e.few;
         some = e.some;
@@ -176,6 +183,7 @@ module _ (s t : StoreValue) (p q : Streams) (x : Stack) (here : Spot) (again : B
         hands = r.hands;
         room = subst (λ ls. HasRoom t (later_cost served.again (at_place (turn_cost here true) 0 here.at ls) (parcels_in t (sent_of served.acts.sent)))) (sym (ap (λ y. (stream here.side (state_in t y)).modules) q_is ∙ stack-modules here.side t p x (noted here.side place earlier served.acts.notes.items p.enabled) (with_more m n p.books))) e.room;
         pool = e.pool;
+        enabled = subst AreFewEnabled (sym r.state) (acted-few st few here did (serve-names K plain here 0 again stop (here.at - 1) ms));
       }
 
 -- what a call sends takes little, also where it becomes packets
@@ -184,15 +192,16 @@ begins-work Up true l begins up more = begins
 begins-work Up false l begins up more = absurd (false≢true more)
 begins-work Down again l begins up more = absurd (cc)
 
-module _ (here : Spot) (again : Bool) (stop : Option ℕ) where
-  one-sends : (p : Standing ℕ) → Begins here.way again (discipline_of p) → cost_of most (module_serves plain here 0 again stop p).acted.sent ≤ 31
+module _ (K : Behaviour) (here : Spot) (again : Bool) (stop : Option ℕ) where
+  one-sends : (p : Standing ℕ) → Begins here.way again (discipline_of p) → cost_of most (module_serves K plain here 0 again stop p).acted.sent ≤ 31
   one-sends p begins = by p.part begins
     where
-      by : (part : Module ℕ) → let q = stood part p.queues in Begins here.way again (discipline_of q) → cost_of most (module_serves plain here 0 again stop q).acted.sent ≤ 31
+      by : (part : Module ℕ) → let q = stood part p.queues in Begins here.way again (discipline_of q) → cost_of most (module_serves K plain here 0 again stop q).acted.sent ≤ 31
       by (OfLdterm l) begins = let d = disciplined l p.queues in call-few here again stop d (begins-work here.way again d begins)
+      by (OfOwn o) begins = own-call-few K here o p.queues
       by other begins = none-few ℕ most 31
 
-  among-sends : (i : ℕ) (ps : List (Standing ℕ)) → i < length ps → Begins here.way again (discipline_of (slice_index_or ps i none_there)) → cost_of most (act_among (λ p. (module_serves plain here 0 again stop p).acted) i ps).sent ≤ 31
+  among-sends : (i : ℕ) (ps : List (Standing ℕ)) → i < length ps → Begins here.way again (discipline_of (slice_index_or ps i none_there)) → cost_of most (act_among (λ p. (module_serves K plain here 0 again stop p).acted) i ps).sent ≤ 31
   among-sends i [] low begins = absurd (omega (arith, low))
   among-sends zero (p ∷ ps) low begins = one-sends p begins
   among-sends (suc i) (p ∷ ps) low begins = among-sends i ps (omega (arith, low)) begins
@@ -220,9 +229,9 @@ next-room s t true sent next next' same room spends = room-left s t (sent + next
 next-room s t false sent next next' same room spends = tt
 
 -- a call whose messages are delivered
-module _ (r s : StoreValue) (o p : Streams) (here : Spot) (again : Bool) (call : Call) (sent_on : List Sent) (f f' : Fates)
+module _ (K : Behaviour) (r s : StoreValue) (o p : Streams) (here : Spot) (again : Bool) (call : Call) (sent_on : List Sent) (f f' : Fates)
     (inside : 0 < here.at) (begins : Begins here.way again (discipline_of (module_at here (state_in r o)))) (low : here.at - 1 < length (stream here.side (state_in r o)).modules)
-    (a : ActsAs r s o p here again call sent_on f f') where
+    (a : ActsAs K r s o p here again call sent_on f f') where
   -- what its messages take, by the modules that stand there
   abbrev takes : ℕ
   takes = cost_of (budget (costs (stands_of (state_in s p))) HOPS) (parcels_in s sent_on)
@@ -232,16 +241,16 @@ module _ (r s : StoreValue) (o p : Streams) (here : Spot) (again : Bool) (call :
 
   takes-few : takes ≤ 31
   takes-few =
-      let few = among-sends here again (stop_in call) (here.at - 1) (stream here.side (state_in r o)).modules low begins in
+      let few = among-sends K here again (stop_in call) (here.at - 1) (stream here.side (state_in r o)).modules low begins in
       omega (arith, takes-most, few, ap (cost_of {C = ℕ} most) a.sent)
 
   acted-spare : spare (state_in r o) ≤ spare (state_in s p) + (3 * call.bytes + 2)
-  acted-spare = omega (arith, acted-left here again call (state_in r o) a.itself begins low, ap spare a.state)
+  acted-spare = omega (arith, acted-left K here again call (state_in r o) a.itself begins low, ap spare a.state)
 
   pub calls-may : MayBook here again (state_in r o) → MayDeliver s (spare (state_in s p)) takes
   calls-may may = record {
     room = record { mblks = omega (arith, a.room.mblks, takes-most); dblks = omega (arith, a.room.dblks, takes-most) };
-    spare = omega (arith, may, call-within here again call (state_in r o) a.itself begins low, acted-spare, takes-few);
+    spare = omega (arith, may, call-within K here again call (state_in r o) a.itself begins low, acted-spare, takes-few);
     ends = omega (arith, takes-few);
   }
 
@@ -252,19 +261,20 @@ module _ (r s : StoreValue) (o p : Streams) (here : Spot) (again : Bool) (call :
       at : (stopped : Bool) → call.stopped ≡ stopped → OnTrue stopped (least_free s < STOP_BLOCKS)
           → OnTrue stopped (call.bytes < bytes_left here.way again (discipline_of (module_at here (state_in r o))) → IsKeptAhead here.way here.side (state_in r o) → least_free t < STOP_BLOCKS)
       at true is few = λ less ahead.
-          let w = acts_in here again call (state_in r o) in
-          let stays = stopped-stays here again call (state_in r o) a.itself low begins is less ahead in
+          let w = acts_in K here again call (state_in r o) in
+          let stays = stopped-stays K here again call (state_in r o) a.itself low begins is less ahead in
           stays-few s t STOP_BLOCKS (blocks (subst (λ v. StaysAlone ComesToStand v (parcels_in s sent_on)) (sym a.state) (subst (λ ps. StaysAlone ComesToStand w.state ps) (sym a.sent) stays))) few
       at false is few = tt
 
-  pub calls-by : (K : Behaviour) (t : StoreValue) (q : Streams) (f'' : Fates) → IsKeptAll r o → (StaysAlone ComesToStand (state_in s p) (parcels_in s sent_on) → FreesNone s t)
+  pub calls-by : (t : StoreValue) (q : Streams) (f'' : Fates) → IsKeptAll r o → (StaysAlone ComesToStand (state_in s p) (parcels_in s sent_on) → FreesNone s t)
       → (let u = in_turn (carried (put_in K plain) HOPS) (parcels_in s sent_on) (state_in s p) in f'' ≡ tallied u.gone f')
       → (let u = in_turn (carried (put_in K plain) HOPS) (parcels_in s sent_on) (state_in s p) in state_in t q ≡ u.state)
       → AreBeside t q → Handles s t (λ i. times_sent i sent_on) (kept_by p) (kept_by q) (λ _. 0)
-      → Takes s t (spare (state_in s p)) (spare (state_in t q)) takes 0 → SamePool s t → CallsAs K r t o q here again call f f''
-  calls-by K t q f'' all blocks told state beside hands spends pool =
+      → Takes s t (spare (state_in s p)) (spare (state_in t q)) takes 0 → SamePool s t → AreFewEnabled (state_in t q)
+      → CallsAs K r t o q here again call f f''
+  calls-by t q f'' all blocks told state beside hands spends pool enabled =
       let st = state_in r o in
-      let w = acts_in here again call st in
+      let w = acts_in K here again call st in
       let on : List (Parcel ℕ) → State ℕ → Carried ℕ (State ℕ) = λ ps v. in_turn (carried (put_in K plain) HOPS) ps v in
       let is = ap (λ ps. on ps (state_in s p)) a.sent ∙ ap (on w.sent) a.state in
       let led_state = state ∙ ap (λ (u : Carried ℕ (State ℕ)). u.state) is in
@@ -281,4 +291,5 @@ module _ (r s : StoreValue) (o p : Streams) (here : Spot) (again : Bool) (call :
             (record { mblks = omega (arith, spends.blocks.mblks, takes-most); dblks = omega (arith, spends.blocks.dblks, takes-most) });
         left = omega (arith, acted-spare, spends.spare, takes-few);
         pool = record { mblks = pool.mblks ∙ a.pool.mblks; dblks = pool.dblks ∙ a.pool.dblks };
+        enabled = enabled;
       }

@@ -1,8 +1,8 @@
 -- The queues of both sides beside their store, where one of them changed.
-use Rattle.strm_pair.proofs.Prelude.{ℕ, zero, suc, ◌≡◌, ◌≢◌, ◌≤◌, ◌<◌, ◌+◌, Bool, true, false, cond, List, [], ◌∷◌, map, refl, sym, ap, subst, ◌∙◌}
-use Rattle.strm_pair.proofs.Prelude.{arith, ◌==◌, replicate, slice_index_or, is_some, nat_tests, get-map, get-set-same, map-set, set-all, ready-same}
+use Rattle.strm_pair.proofs.Prelude.{ℕ, zero, suc, ◌≡◌, ◌≤◌, ◌<◌, ◌+◌, Bool, true, false, cond, List, [], ◌∷◌, map, refl, sym, ap, subst, ◌∙◌}
+use Rattle.strm_pair.proofs.Prelude.{arith, replicate, slice_index_or, get-map, get-set-same, map-set, set-all, ready-same}
 use Rattle.strm_pair.proofs.Prelude.{all-gone}
-use Rattle.strm_pair.specs.Prelude.{Openness, Side, Master, Slave, is_data_kind, of_all, emptied, none_goes, queue_behind, set, map_both, new_head}
+use Rattle.strm_pair.specs.Prelude.{LISTS, Openness, Side, Master, Slave, is_data_kind, of_all, emptied, none_goes, queue_behind, set, map_both, new_head}
 use Rattle.strm_pair.specs.Prelude.{enable_some, other, is_none_left, before_driver, before_head, State, stream, with_stream, with_driver_queue}
 use Rattle.strm_pair.specs.Prelude.{with_head_queue, Block, StoreValue, empty_store, list_at, message_of, Head, head_in, plain_slot, plain_flows}
 use Rattle.strm_pair.specs.Prelude.{queue_in, HoldsReadable, IsHeadQueue, IsReady, Keeps, Changes, OnlyQueue}
@@ -15,9 +15,9 @@ use Rattle.strm_laws.specs.State as streams
 use Rattle.strm_queue.specs.declared.queue.Queue.{Queue}
 use Rattle.strm_pair.specs.declared.ends.StreamEnd.{StreamEnd}
 use Rattle.strm_pair.specs.declared.streams.Streams.{Streams}
-use Rattle.strm_pair.specs.Framing.{state_with, stack-same, stays-at, still}
+use Rattle.strm_pair.specs.Framing.{for-on, state_with, stack-same, stays-at, still}
 use Rattle.strm_pair.specs.Lists.{first_list}
-use Rattle.strm_pair.specs.Streams.{stream_in, IsBlank, IsSide, AreApart}
+use Rattle.strm_pair.specs.Streams.{stream_in, AreFor, IsBlank, IsSide, AreApart}
 use Rattle.strm_pair.specs.Pairs.{state_in, end_at, with_end, AreBeside, AreHeld, Stays, kept_by}
 use Rattle.strm_pair.specs.Renewed.{RenewsHead}
 use Rattle.strm_pair.specs.Stacks.{modules_in, IsStackHeld, Stack, stack_owns, stack_keeps}
@@ -41,24 +41,21 @@ pub none-left : (s t : StoreValue) (k : ℕ) → list_at t k ≡ list_at s k →
 none-left s t k same = none-map message_of (list_at s k) ∙ ap is_none_left (sym same)
 
 -- a store with nothing in it
-no-list : (n k : ℕ) → slice_index_or (replicate {A = List (List Block)} n []) k [] ≡ []
+pub no-list : (n k : ℕ) → slice_index_or (replicate {A = List (List Block)} n []) k [] ≡ []
 no-list zero k = refl
 no-list (suc n) zero = refl
 no-list (suc n) (suc k) = no-list n k
 
-pub blank : (mblks dblks : ℕ) → IsBlank (empty_store mblks dblks) 0 × IsBlank (empty_store mblks dblks) 4
-blank mblks dblks = (record { head = refl; driver = refl; up = refl; down = refl }, record { head = refl; driver = refl; up = refl; down = refl })
+pub blank : (mblks dblks : ℕ) → IsBlank (empty_store mblks dblks) 0 × IsBlank (empty_store mblks dblks) 8
+blank mblks dblks = (record { head = refl; driver = refl; modules = λ k low high. no-list LISTS k }, record { head = refl; driver = refl; modules = λ k low high. no-list LISTS k })
 
--- the two lists behind the head's and the driver's are empty too
-pub blank-at : (s : StoreValue) (first : ℕ) → IsBlank s first → (k : ℕ) → first + 2 ≤ k → k < first + 4 → list_at s k ≡ []
-blank-at s first blank k low high = by (k == first + 2) refl
-  where
-    by : (b : Bool) → (k == first + 2) ≡ b → list_at s k ≡ []
-    by true is = let e : k ≡ first + 2 = grind (arith, nat_tests) in ap (list_at s) e ∙ blank.up
-    by false isnt =
-        let other : k ≢ first + 2 = λ e. grind (arith, nat_tests) in
-        let e : k ≡ first + 3 = omega (arith, low, high, other) in
-        ap (list_at s) e ∙ blank.down
+-- where no module stands the six lists behind the head's and the driver's are for it
+pub blank-for : (s : StoreValue) (first : ℕ) → IsBlank s first → (owns : ℕ → ℕ) → ((k : ℕ) → owns k ≡ 0) → AreFor s (first + 2) owns
+blank-for s first blank owns none = record {
+  owned = λ k some. absurd (omega (arith, some, none k));
+  closed = λ j k low le some. absurd (omega (arith, some, none k));
+  spare = λ k low high own. blank.modules k low (omega (arith, high));
+}
 
 -- what is kept or changed of one queue alone
 pub only-kept : (s t : StoreValue) (q q' : Queue) → Keeps s t q q' → OnlyQueue s t q q'
@@ -94,7 +91,7 @@ stream_of e h ms d = record {
 module _ (s t : StoreValue) (first : ℕ) (e : StreamEnd) (is : IsSide s first e) (stays : Stays s t (stack_keeps e.stack)) where
   -- all lists of the side stay
   abbrev Stay : Type 0
-  Stay = (k : ℕ) → first ≤ k → k < first + 4 → list_at t k ≡ list_at s k
+  Stay = (k : ℕ) → first ≤ k → k < first + 8 → list_at t k ≡ list_at s k
 
   head-at : Stay → list_at t e.head.queue.list ≡ list_at s e.head.queue.list
   head-at stay = stay e.head.queue.list (let l = is.head_list in omega arith) (let l = is.head_list in omega arith)
@@ -102,12 +99,12 @@ module _ (s t : StoreValue) (first : ℕ) (e : StreamEnd) (is : IsSide s first e
   driver-at : Stay → list_at t e.driver.list ≡ list_at s e.driver.list
   driver-at stay = stay e.driver.list (let l = is.driver_list in omega arith) (let l = is.driver_list in omega arith)
 
-  -- so do the two of the modules
+  -- so do those of the modules
   abbrev Beside : Type 0
-  Beside = (k : ℕ) → first + 2 ≤ k → k < first + 4 → list_at t k ≡ list_at s k
+  Beside = (k : ℕ) → first + 2 ≤ k → k < first + 2 + 6 → list_at t k ≡ list_at s k
 
   within : Stay → Beside
-  within stay k low high = stay k (omega (arith, low)) high
+  within stay k low high = stay k (omega (arith, low)) (omega (arith, high))
 
   pub side-stays : Stay → IsSide t first e
   side-stays stay = record {
@@ -117,9 +114,7 @@ module _ (s t : StoreValue) (first : ℕ) (e : StreamEnd) (is : IsSide s first e
     driver = ready-same s t e.driver (driver-at stay) is.driver;
     stack = (stack-same s t first e is stays (within stay)).1;
     once = subst AreApart (sym (stack-same s t first e is stays (within stay)).0) is.once;
-    owned = is.owned;
-    spare = λ k low high none. within stay k low high ∙ is.spare k low high none;
-    shelf = is.shelf;
+    lists = for-on s t (first + 2) (stack_owns e.stack) (within stay) is.lists;
   }
 
   pub stream-stays : Stay → stream_in t e ≡ stream_in s e
@@ -144,9 +139,7 @@ module _ (s t : StoreValue) (first : ℕ) (e : StreamEnd) (is : IsSide s first e
       driver = only.ready;
       stack = (stack-same s t first e is stays driver-apart).1;
       once = subst AreApart (sym (stack-same s t first e is stays driver-apart).0) is.once;
-      owned = is.owned;
-      spare = λ k low high none. driver-apart k low high ∙ is.spare k low high none;
-      shelf = is.shelf;
+      lists = for-on s t (first + 2) (stack_owns e.stack) driver-apart is.lists;
     }
 
     driver-stream : stream_in t (record e { driver = q }) ≡ with_driver_queue (queue_in t q) (stream_in s e)
@@ -170,9 +163,7 @@ module _ (s t : StoreValue) (first : ℕ) (e : StreamEnd) (is : IsSide s first e
       driver = ready-same s t e.driver driver-beside is.driver;
       stack = (stack-same s t first e is stays head-apart).1;
       once = subst AreApart (sym (stack-same s t first e is stays head-apart).0) is.once;
-      owned = is.owned;
-      spare = λ k low high none. head-apart k low high ∙ is.spare k low high none;
-      shelf = is.shelf;
+      lists = for-on s t (first + 2) (stack_owns e.stack) head-apart is.lists;
     }
 
     head-stream : stream_in t (record e { head = h }) ≡ record (stream_in s e) { head = head_in t h }
@@ -181,17 +172,15 @@ module _ (s t : StoreValue) (first : ℕ) (e : StreamEnd) (is : IsSide s first e
         ∙ ap (λ ms. record { opened = e.opened; head = head_in t h; modules = ms; driver = record { queue = queue_in s e.driver } }) (stack-same s t first e is stays head-apart).0
 
 -- a stream that was closed has the same driver
-as-side : (t : StoreValue) (first : ℕ) (e e' : StreamEnd) → e'.driver ≡ e.driver → e'.stack ≡ e.stack → e'.shelf ≡ e.shelf → IsSide t first (record e { head = e'.head }) → IsSide t first e'
-as-side t first e e' same stays shelf is = record {
+as-side : (t : StoreValue) (first : ℕ) (e e' : StreamEnd) → e'.driver ≡ e.driver → e'.stack ≡ e.stack → IsSide t first (record e { head = e'.head }) → IsSide t first e'
+as-side t first e e' same stays is = record {
   head_list = is.head_list;
   driver_list = ap (λ d. d.list) same ∙ is.driver_list;
   head = is.head;
   driver = subst (IsReady t) (sym same) is.driver;
   stack = subst (IsStackHeld t) (sym stays) is.stack;
   once = subst (λ x. AreApart (modules_in t x)) (sym stays) is.once;
-  owned = subst (λ x. (k : ℕ) → 0 < stack_owns x k → (first + 2 ≤ k) × (k < first + 4)) (sym stays) is.owned;
-  spare = subst (λ x. (k : ℕ) → first + 2 ≤ k → k < first + 4 → stack_owns x k ≡ 0 → list_at t k ≡ []) (sym stays) is.spare;
-  shelf = λ none. ap is_some shelf ∙ is.shelf (ap (λ x. stack_owns x (first + 2)) (sym stays) ∙ none);
+  lists = subst (λ x. AreFor t (first + 2) (stack_owns x)) (sym stays) is.lists;
 }
 
 -- a queue from which all went has what readers may read
@@ -207,7 +196,7 @@ readable-cleared t q old is = readable-none (list_at t q.list) (no-chain (list_a
     behind false = all-gone old.messages
 
 -- no list is of both sides
-pub never-both : (side : Side) (k : ℕ) → first_list side ≤ k → k < first_list side + 4 → first_list (other side) ≤ k → k < first_list (other side) + 4 → ⊥
+pub never-both : (side : Side) (k : ℕ) → first_list side ≤ k → k < first_list side + 8 → first_list (other side) ≤ k → k < first_list (other side) + 8 → ⊥
 never-both Master k low high above below = omega (arith, high, above)
 never-both Slave k low high above below = omega (arith, low, below)
 
@@ -242,9 +231,7 @@ head-held s p side r h is same held =
       driver = fits.driver;
       stack = fits.stack;
       once = fits.once;
-      owned = fits.owned;
-      spare = fits.spare;
-      shelf = fits.shelf;
+      lists = fits.lists;
     })
 
 -- a stream whose stack alone is another one
@@ -262,14 +249,14 @@ pub same-end : (side : Side) (p : Streams) → with_end side (end_at side p) p �
 same-end Master p = refl
 same-end Slave p = refl
 
--- a stream whose stack and shelf alone are others
-pub end-there : (p : Streams) (side : Side) (r e : StreamEnd) → r ≡ end_at side p → e ≡ record r { stack = e.stack; shelf = e.shelf }
-    → let q = with_end side e p in (end_at side q ≡ e) × (q ≡ with_end side (record (end_at side p) { stack = (end_at side q).stack; shelf = (end_at side q).shelf }) p)
+-- a stream whose stack alone is another one, by the whole
+pub end-there : (p : Streams) (side : Side) (r e : StreamEnd) → r ≡ end_at side p → e ≡ record r { stack = e.stack }
+    → let q = with_end side e p in (end_at side q ≡ e) × (q ≡ with_end side (record (end_at side p) { stack = (end_at side q).stack }) p)
 end-there p side r e is only =
     let there = get-set-same side e p.ends in (
       there,
-      ap (λ x. with_end side x p) only ∙ ap (λ (x : StreamEnd). with_end side (record x { stack = e.stack; shelf = e.shelf }) p) is
-          ∙ ap (λ (x : StreamEnd). with_end side (record (end_at side p) { stack = x.stack; shelf = x.shelf }) p) (sym there),
+      ap (λ x. with_end side x p) only ∙ ap (λ (x : StreamEnd). with_end side (record x { stack = e.stack }) p) is
+          ∙ ap (λ (x : StreamEnd). with_end side (record (end_at side p) { stack = x.stack }) p) (sym there),
     )
 
 -- the state with another stream of a side
@@ -279,7 +266,7 @@ set-state s p side e = ap (state_with p) (map-set (stream_in s) side e p.ends)
 module _ (s t : StoreValue) (p : Streams) (beside : AreBeside s p) (side : Side) where
   -- the lists of the other side stay, and what its stack keeps
   pub record OtherStays : Type 0 where
-    pub lists : (k : ℕ) → first_list (other side) ≤ k → k < first_list (other side) + 4 → list_at t k ≡ list_at s k
+    pub lists : (k : ℕ) → first_list (other side) ≤ k → k < first_list (other side) + 8 → list_at t k ≡ list_at s k
     pub keeps : Stays s t (stack_keeps (end_at (other side) p).stack)
 
   pub other-same : OtherStays → stream_in t (end_at (other side) p) ≡ stream_in s (end_at (other side) p)
@@ -299,7 +286,7 @@ module _ (s t : StoreValue) (p : Streams) (beside : AreBeside s p) (side : Side)
 
 module _ (s t : StoreValue) (p : Streams) (beside : AreBeside s p) (stays : Stays s t (kept_by p)) where
   -- one queue of a side changed
-  pub only-here : (side : Side) (q q' : Queue) → first_list side ≤ q.list → q.list < first_list side + 4 → OnlyQueue s t q q' → OtherStays s t p beside side
+  pub only-here : (side : Side) (q q' : Queue) → first_list side ≤ q.list → q.list < first_list side + 8 → OnlyQueue s t q q' → OtherStays s t p beside side
   only-here side q q' low high only = record {
     lists = λ k above below. only.others k (λ eq. never-both side k (omega (arith, eq, low)) (omega (arith, eq, high)) above below);
     keeps = stays-at s t (other side) p stays;
@@ -363,7 +350,7 @@ module _ (s t : StoreValue) (p : Streams) (e : StreamEnd) (beside : AreBeside s 
   pub renewed-beside : AreBeside t (with_end side e p)
   renewed-beside =
       one-beside s t p beside side e
-      (as-side t (first_list side) (end_at side p) e renews.driver renews.stack renews.shelf (head-side s t (first_list side) (end_at side p) (beside side) (stays-at s t side p all-kept) e.head only-renewed (readable-kept s t (end_at side p).head.queue e.head.queue (beside side).head renews.keeps)))
+      (as-side t (first_list side) (end_at side p) e renews.driver renews.stack (head-side s t (first_list side) (end_at side p) (beside side) (stays-at s t side p all-kept) e.head only-renewed (readable-kept s t (end_at side p).head.queue e.head.queue (beside side).head renews.keeps)))
       (only-head s t p beside all-kept side e.head only-renewed)
 
   -- what it stands for: its head alone, and whether it was opened

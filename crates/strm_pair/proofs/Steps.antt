@@ -1,5 +1,6 @@
 -- A pair keeps what holds of it where it takes a step and its journal gains the entry, and where its journal begins anew.
 use Rattle.strm_pair.proofs.Prelude.{ℕ, List, refl, ◌≡◌, ◌∙◌, ◌++◌, ◌∷◌, [], ap, sym, subst}
+use Rattle.strm_pair.proofs.Enabling.{restorable-few}
 use Rattle.strm_pair.specs.Prelude.{Config, plain, Fates, tallied, PlainEntry, IsBase, AreIdle, told_by, FewBooked, restarted, AreWithinEntries}
 use Rattle.strm_pair.specs.Prelude.{State, after, replay, IsLegal, StoreValue, Behaviour}
 use Rattle.strm_laws.specs.Kept.{gone}
@@ -76,7 +77,11 @@ pub led-idle : (K : Behaviour) (s : StoreValue) (p : Streams) (j : Journal) (b :
 led-idle K s p j b limits fates kept = (kept-base K s p j b limits fates kept).restorable.idle
 
 pub led-rests : (K : Behaviour) (s : StoreValue) (p : Streams) (j : Journal) (b : Start) (limits : Config) (fates : Fates) → IsKept K s p j b limits fates → AreAtRest s p
-led-rests K s p j b limits fates kept = record { held = kept.held; idle = led-idle K s p j b limits fates kept }
+led-rests K s p j b limits fates kept = record {
+  held = kept.held;
+  idle = led-idle K s p j b limits fates kept;
+  enabled = restorable-few (state_in s p) (kept-base K s p j b limits fates kept).restorable;
+}
 
 -- what the blocks stand for, with what has gone, is where the journal leads
 pub on-told : (K : Behaviour) (s : StoreValue) (p : Streams) (j : Journal) (b : Start) (limits : Config) (fates : Fates) (past : List PlainEntry) → IsKept K s p j b limits fates

@@ -7,7 +7,7 @@ use Rattle.strm_pair.specs.Prelude.{stages_done, treats, Begins, bytes_left, Dis
 use Rattle.strm_pair.specs.Prelude.{Outgoing, output_serves, posted, unchanged, first_size, is_none_left, left_with, Serving, opost, stood}
 use Rattle.strm_pair.specs.Prelude.{disciplined, IsKeptAhead, module_acted, Module, OfLdterm, Standing, module_serves, State, stream, asks_on, called}
 use Rattle.strm_pair.specs.Prelude.{discipline_of, led, module_at, none_there, treated, StaysAlone, stop_at, Behaviour}
-use Rattle.strm_pair.specs.Prelude.{HOPS, put_in, stands_of}
+use Rattle.strm_pair.specs.Prelude.{HOPS, put_in, stands_of, OfOwn}
 use Rattle.std.proofs.Common.{◌*◌}
 use Rattle.std.specs.Bool.{OnTrue}
 use Rattle.strm_types.specs.Deliver.{carried, onward}
@@ -23,9 +23,11 @@ use Rattle.strm_laws.proofs.SameNames.{serve-names}
 use Rattle.strm_laws.proofs.StackStays.{Stand, puts-stand, same-names}
 use Rattle.strm_laws.proofs.Staying.{SentOn}
 use Rattle.strm_ldterm.proofs.Spending.{next-works}
+use Rattle.strm_laws.specs.Behaviours.{own_by}
 use Rattle.strm_pair.specs.declared.service_calls.Call.{Call}
 use Rattle.strm_pair.specs.ModuleServed.{TellsAs, acts_in, stop_in}
 use Rattle.strm_pair.specs.Staying.{ComesToStand, sent-stays}
+use Rattle.strm_pair.proofs.OwnCalls.{own-whole}
 
 module _ (here : Spot) where
   -- what goes up at the end of a turn was gathered
@@ -84,7 +86,7 @@ module _ (here : Spot) where
       at true is (x ∷ xs) cells less = given-on down m (data-held m.kind (both-true (is_data m.kind) (opost l.termios) is)) _
 
 -- so it is of a call that stops within its message
-module _ (here : Spot) (again : Bool) (bytes : ℕ) where
+module _ (K : Behaviour) (here : Spot) (again : Bool) (bytes : ℕ) where
   abbrev up : Spot
   up = record here { way = Up }
 
@@ -107,68 +109,70 @@ module _ (here : Spot) (again : Bool) (bytes : ℕ) where
   down-on is true l less = output-on here is bytes l.write_queue.messages l less
   down-on is false l less = output-on here is bytes l.write_queue.messages l less
 
-  module-on : (way : Way) → here.way ≡ way → (p : Standing ℕ) → Begins way again (discipline_of p) → let t = module_serves plain (record here { way = way }) 0 again (Some bytes) p in
+  module-on : (way : Way) → here.way ≡ way → (p : Standing ℕ) → Begins way again (discipline_of p) → let t = module_serves K plain (record here { way = way }) 0 again (Some bytes) p in
       t.again ≡ false → t.bytes < bytes_left way again (discipline_of p) → SentOn here t.acted.sent
   module-on way is p begins over less = by way is p.part begins over less
     where
-      by : (way : Way) → here.way ≡ way → (part : Module ℕ) → let q = stood part p.queues in Begins way again (discipline_of q) → let t = module_serves plain (record here { way = way }) 0 again (Some bytes) q in
+      by : (way : Way) → here.way ≡ way → (part : Module ℕ) → let q = stood part p.queues in Begins way again (discipline_of q) → let t = module_serves K plain (record here { way = way }) 0 again (Some bytes) q in
           t.again ≡ false → t.bytes < bytes_left way again (discipline_of q) → SentOn here t.acted.sent
       by Up is (OfLdterm l) begins over less =
           let d = disciplined l p.queues in
           gathered-on here is (ldterm_serves plain up 0 again (Some bytes) d).acted.sent (serves-gathered again d begins over less)
       by Down is (OfLdterm l) begins over less = down-on is again (disciplined l p.queues) less
+      by way is (OfOwn o) begins over less =
+          let all = own-whole (own_by K plain) here way again o p.queues in absurd (omega (arith, less, all))
       by way is other begins over less = tt
 
   among-on : (i : ℕ) (ps : List (Standing ℕ)) → i < length ps → Begins here.way again (discipline_of (slice_index_or ps i none_there))
-      → slice_index_or (map (λ p. (module_serves plain here 0 again (Some bytes) p).again) ps) i false ≡ false
-      → slice_index_or (map (λ p. (module_serves plain here 0 again (Some bytes) p).bytes) ps) i 0 < bytes_left here.way again (discipline_of (slice_index_or ps i none_there))
-      → SentOn here (act_among (λ p. (module_serves plain here 0 again (Some bytes) p).acted) i ps).sent
+      → slice_index_or (map (λ p. (module_serves K plain here 0 again (Some bytes) p).again) ps) i false ≡ false
+      → slice_index_or (map (λ p. (module_serves K plain here 0 again (Some bytes) p).bytes) ps) i 0 < bytes_left here.way again (discipline_of (slice_index_or ps i none_there))
+      → SentOn here (act_among (λ p. (module_serves K plain here 0 again (Some bytes) p).acted) i ps).sent
   among-on i [] low begins over less = absurd (omega (arith, low))
   among-on zero (p ∷ ps) low begins over less = module-on here.way refl p begins over less
   among-on (suc i) (p ∷ ps) low begins over less = among-on i ps (omega (arith, low)) begins over less
 
 -- which sides are open stays
-pub acted-same : (here : Spot) (again : Bool) (stop : Option ℕ) (s : State ℕ) → SameButMade s (module_acted here (called here again stop (stream here.side s).modules) s).state
-acted-same here again stop s =
+pub acted-same : (K : Behaviour) (here : Spot) (again : Bool) (stop : Option ℕ) (s : State ℕ) → SameButMade s (module_acted here (called here K again stop (stream here.side s).modules) s).state
+acted-same K here again stop s =
     let stays = same-stays s in
-    let t = called here again stop (stream here.side s).modules in
+    let t = called here K again stop (stream here.side s).modules in
     acted-holds (SameButMade s) stays.names stays.books here t s
-    (stays.modules here.side t.state s (serve-names plain here 0 again stop (here.at - 1) (stream here.side s).modules) (same-itself s))
+    (stays.modules here.side t.state s (serve-names K plain here 0 again stop (here.at - 1) (stream here.side s).modules) (same-itself s))
 
 -- and which modules stand there
-pub acted-stands : (here : Spot) (again : Bool) (stop : Option ℕ) (s : State ℕ)
-    → stands_of (module_acted here (called here again stop (stream here.side s).modules) s).state ≡ stands_of s
-acted-stands here again stop s =
-    let t = called here again stop (stream here.side s).modules in
-    acted-holds (Stand (stands_of s)) (λ names v adds is. is) (λ dir n v is. is) here t s
+pub acted-stands : (K : Behaviour) (here : Spot) (again : Bool) (stop : Option ℕ) (s : State ℕ)
+    → stands_of (module_acted here (called here K again stop (stream here.side s).modules) s).state ≡ stands_of s
+acted-stands K here again stop s =
+    let t = called here K again stop (stream here.side s).modules in
+    acted-holds (Stand (stands_of s)) (λ names v is. is) (λ dir n v is. is) here t s
     (same-names here.side (record (stream here.side s) { modules = t.state }) s
-    (serve-names plain here 0 again stop (here.at - 1) (stream here.side s).modules))
+    (serve-names K plain here 0 again stop (here.at - 1) (stream here.side s).modules))
 
 pub led-stands : (K : Behaviour) (here : Spot) (again : Bool) (stop : Option ℕ) (s : State ℕ) → stands_of (led K here again stop s).state
     ≡ stands_of s
 led-stands K here again stop s =
-    let w = module_acted here (called here again stop (stream here.side s).modules) s in
+    let w = module_acted here (called here K again stop (stream here.side s).modules) s in
     let put = put_in K plain in
     in_turn-holds (Stand (stands_of s)) (carried put HOPS) (carried-holds (Stand (stands_of s)) put (puts-stand (stands_of s) K plain) HOPS) w.sent
     w.state
-    (acted-stands here again stop s)
+    (acted-stands K here again stop s)
 
 pub led-same : (K : Behaviour) (here : Spot) (again : Bool) (stop : Option ℕ) (s : State ℕ) → SameButMade s (led K here again stop s).state
 led-same K here again stop s =
-    let w = module_acted here (called here again stop (stream here.side s).modules) s in
-    sent-holds (SameButMade s) K (same-stays s) plain w.sent w.state (acted-same here again stop s)
+    let w = module_acted here (called here K again stop (stream here.side s).modules) s in
+    sent-holds (SameButMade s) K (same-stays s) plain w.sent w.state (acted-same K here again stop s)
 
-pub stopped-stays : (here : Spot) (again : Bool) (call : Call) (s : State ℕ) → TellsAs here again call s → here.at - 1 < length (stream here.side s).modules → Begins here.way again (discipline_of (module_at here s))
-    → call.stopped ≡ true → call.bytes < bytes_left here.way again (discipline_of (module_at here s)) → IsKeptAhead here.way here.side s → StaysAlone ComesToStand (acts_in here again call s).state (acts_in here again call s).sent
-stopped-stays here again call s tells low begins is less ahead =
+pub stopped-stays : (K : Behaviour) (here : Spot) (again : Bool) (call : Call) (s : State ℕ) → TellsAs K here again call s → here.at - 1 < length (stream here.side s).modules → Begins here.way again (discipline_of (module_at here s))
+    → call.stopped ≡ true → call.bytes < bytes_left here.way again (discipline_of (module_at here s)) → IsKeptAhead here.way here.side s → StaysAlone ComesToStand (acts_in K here again call s).state (acts_in K here again call s).sent
+stopped-stays K here again call s tells low begins is less ahead =
     let ps = (stream here.side s).modules in
     let some : stop_in call ≡ Some call.bytes = ap (λ b. stop_at b call.bytes) is in
     let over : call.again ≡ false = subst (λ b. OnTrue b (call.again ≡ false)) is tells.over in
-    let ends : asks_on here again (Some call.bytes) ps ≡ false = ap (λ o. asks_on here again o ps) (sym some) ∙ sym tells.asks ∙ over in
-    let bytes : treated here again (Some call.bytes) ps ≡ call.bytes = ap (λ o. treated here again o ps) (sym some) ∙ sym tells.bytes in
-    let on = among-on here again call.bytes (here.at - 1) ps low begins ends (omega (arith, bytes, less)) in
-    let behind = (module_acted here (called here again (Some call.bytes) ps) s).state in
-    let kept = kept-ahead here.way here.side s behind (acted-same here again (Some call.bytes) s).opened
-    (acted-stands here again (Some call.bytes) s) ahead in
-    subst (λ o. StaysAlone ComesToStand (module_acted here (called here again o ps) s).state (module_acted here (called here again o ps) s).sent) (sym some)
-    (sent-stays here behind (called here again (Some call.bytes) ps).sent on kept)
+    let ends : asks_on here K again (Some call.bytes) ps ≡ false = ap (λ o. asks_on here K again o ps) (sym some) ∙ sym tells.asks ∙ over in
+    let bytes : treated here K again (Some call.bytes) ps ≡ call.bytes = ap (λ o. treated here K again o ps) (sym some) ∙ sym tells.bytes in
+    let on = among-on K here again call.bytes (here.at - 1) ps low begins ends (omega (arith, bytes, less)) in
+    let behind = (module_acted here (called here K again (Some call.bytes) ps) s).state in
+    let kept = kept-ahead here.way here.side s behind (acted-same K here again (Some call.bytes) s).opened
+    (acted-stands K here again (Some call.bytes) s) ahead in
+    subst (λ o. StaysAlone ComesToStand (module_acted here (called here K again o ps) s).state (module_acted here (called here K again o ps) s).sent) (sym some)
+    (sent-stays here behind (called here K again (Some call.bytes) ps).sent on kept)

@@ -1,9 +1,9 @@
 -- The module on top of a side's stream, taken off it.
-use Rattle.strm_pair.proofs.Prelude.{ℕ, zero, suc, ◌≡◌, ◌≤◌, ◌<◌, ◌+◌, true, List, [], ◌∷◌, ◌++◌, length, map, refl, sym, ap, subst, ◌∙◌, arith}
-use Rattle.strm_pair.proofs.Prelude.{Option, None, Some, is_some, get-set-same, ready-same}
+use Rattle.strm_pair.proofs.Prelude.{ℕ, zero, suc, ◌≡◌, ◌≤◌, ◌<◌, ◌+◌, List, [], ◌∷◌, ◌++◌, length, map, refl, sym, ap, subst, ◌∙◌, arith}
+use Rattle.strm_pair.proofs.Prelude.{None, Some, get-set-same, ready-same}
 use Rattle.strm_pair.specs.Prelude.{QueueName, Side, Fates, Rule, Note, Carried, Fate, tallied, top_name, without_module, other, place_of, all_taken}
 use Rattle.strm_pair.specs.Prelude.{top_taken, with_modules, earlier_at, noted, Standing, module_name, State, Stream, stream, with_stream, StoreValue}
-use Rattle.strm_pair.specs.Prelude.{free_d, free_m, list_at, queue_in, HoldsReadable, Tables}
+use Rattle.strm_pair.specs.Prelude.{free_d, free_m, list_at, queue_in, HoldsReadable}
 use Rattle.strm_laws.proofs.StackOnce.{pop-once}
 use Rattle.strm_pair.specs.declared.ends.StreamEnd.{StreamEnd}
 use Rattle.strm_pair.specs.declared.stacks.Taken.{Taken}
@@ -22,25 +22,25 @@ zero-if (suc n) never = absurd (let one : 0 < suc n = omega arith in omega (arit
 
 module _ (s t : StoreValue) where
   module _ (first : ℕ) (e : StreamEnd) (is : IsSide s first e) where
-    -- a stack owns no list but its two
-    pub unowned : (k : ℕ) → (first + 2 ≤ k → k < first + 4 → ⊥) → stack_owns e.stack k ≡ 0
-    unowned k away = zero-if (stack_owns e.stack k) (λ some. let own = is.owned k some in absurd (away own.0 own.1))
+    -- a stack owns no list but those that are for it
+    pub unowned : (k : ℕ) → (first + 2 ≤ k → k < first + 2 + 6 → ⊥) → stack_owns e.stack k ≡ 0
+    unowned k away = zero-if (stack_owns e.stack k) (λ some. let own = is.lists.owned k some in absurd (away own.0 own.1))
 
-    module _ (side : Side) (rule : Rule) (told told' : Fates) (taken : Taken) (y : Stack) (z : Option Tables) (shelf : stack_owns y (first + 2) ≡ 0 → is_some z ≡ true) (took : TookTop side rule s t e.stack y told told' taken) where
+    module _ (side : Side) (rule : Rule) (told told' : Fates) (taken : Taken) (y : Stack) (took : TookTop side rule s t e.stack y told told' taken) where
       head-beside : list_at t e.head.queue.list ≡ list_at s e.head.queue.list
       head-beside = took.others e.head.queue.list (unowned e.head.queue.list (λ low high. omega (arith, is.head_list, low)))
 
       driver-beside : list_at t e.driver.list ≡ list_at s e.driver.list
       driver-beside = took.others e.driver.list (unowned e.driver.list (λ low high. omega (arith, is.driver_list, low)))
 
-      took-spare : (k : ℕ) → first + 2 ≤ k → k < first + 4 → stack_owns y k ≡ 0 → list_at t k ≡ []
+      took-spare : (k : ℕ) → first + 2 ≤ k → k < first + 2 + 6 → stack_owns y k ≡ 0 → list_at t k ≡ []
       took-spare k low high none = by (stack_owns e.stack k) refl
         where
           by : (n : ℕ) → stack_owns e.stack k ≡ n → list_at t k ≡ []
-          by zero was = took.others k was ∙ is.spare k low high was
+          by zero was = took.others k was ∙ is.lists.spare k low high was
           by (suc n) was = took.emptied k (omega (arith, was)) none
 
-      pub took-side : IsSide t first (record e { stack = y; shelf = z })
+      pub took-side : IsSide t first (record e { stack = y })
       took-side = record {
         head_list = is.head_list;
         driver_list = is.driver_list;
@@ -48,44 +48,45 @@ module _ (s t : StoreValue) where
         driver = ready-same s t e.driver driver-beside is.driver;
         stack = took.held;
         once = subst AreApart (sym took.stays) (pop-once (module_name took.top) (map module_name took.rest) (subst AreApart took.was is.once));
-        owned = λ k some. is.owned k (omega (arith, took.owns k, some));
-        spare = took-spare;
-        shelf = shelf;
+        lists = record {
+          owned = λ k some. is.lists.owned k (omega (arith, took.owns k, some));
+          closed = λ j k low le some. took.closed j k le (is.lists.closed j k low le (omega (arith, took.owns k, some))) some;
+          spare = took-spare;
+        };
       }
 
-      pub took-stream : stream_in t (record e { stack = y; shelf = z }) ≡ record (stream_in s e) { modules = took.rest }
+      pub took-stream : stream_in t (record e { stack = y }) ≡ record (stream_in s e) { modules = took.rest }
       took-stream =
           ap (λ h. stream_of e h (modules_in t y) (queue_in t e.driver)) (queue-same s t e.head.queue head-beside)
           ∙ ap (λ ms. stream_of e (queue_in s e.head.queue) ms (queue_in t e.driver)) took.stays
           ∙ ap (λ d. stream_of e (queue_in s e.head.queue) took.rest d) (queue-same s t e.driver driver-beside)
 
   module _ (p : Streams) (beside : AreBeside s p) (rule : Rule) (told told' : Fates) (taken : Taken) where
-    module _ (side : Side) (y : Stack) (z : Option Tables) (shelf : stack_owns y (first_list side + 2) ≡ 0 → is_some z ≡ true) (took : TookTop side rule s t (end_at side p).stack y told told' taken) where
+    module _ (side : Side) (y : Stack) (took : TookTop side rule s t (end_at side p).stack y told told' taken) where
       elsewhere : OtherStays s t p beside side
       elsewhere = record {
-        lists = λ k low high. took.others k (unowned (first_list side) (end_at side p) (beside side) k (λ above below. never-both side k (omega (arith, above)) below low high));
+        lists = λ k low high. took.others k (unowned (first_list side) (end_at side p) (beside side) k (λ above below. never-both side k (omega (arith, above)) (omega (arith, below)) low high));
         keeps = stays-at s t (other side) p (still s t (kept_by p) took.hand.hand took.hand.mblks took.hand.dblks);
       }
 
-      took-beside : AreBeside t (with_end side (record (end_at side p) { stack = y; shelf = z }) p)
-      took-beside = one-beside s t p beside side (record (end_at side p) { stack = y; shelf = z }) (took-side (first_list side) (end_at side p) (beside side) side rule told told' taken y z shelf took) elsewhere
+      took-beside : AreBeside t (with_end side (record (end_at side p) { stack = y }) p)
+      took-beside = one-beside s t p beside side (record (end_at side p) { stack = y }) (took-side (first_list side) (end_at side p) (beside side) side rule told told' taken y took) elsewhere
 
-      took-state : state_in t (with_end side (record (end_at side p) { stack = y; shelf = z }) p) ≡ with_modules side took.rest (state_in s p)
+      took-state : state_in t (with_end side (record (end_at side p) { stack = y }) p) ≡ with_modules side took.rest (state_in s p)
       took-state =
-          one-state s t p beside side (record (end_at side p) { stack = y; shelf = z }) (record (stream_in s (end_at side p)) { modules = took.rest })
-          (took-stream (first_list side) (end_at side p) (beside side) side rule told told' taken y z shelf took) elsewhere
+          one-state s t p beside side (record (end_at side p) { stack = y }) (record (stream_in s (end_at side p)) { modules = took.rest })
+          (took-stream (first_list side) (end_at side p) (beside side) side rule told told' taken y took) elsewhere
           ∙ ap (λ (x : Stream ℕ). with_stream side (record x { modules = took.rest }) (state_in s p)) (sym (stream-is s p side))
 
 module _ (side : Side) (rule : Rule) (s : StoreValue) (p : Streams) (held : AreHeld s p) (told : Fates) where
   -- the module on top went, and these queues are enabled behind it
-  pub top-went : (t : StoreValue) (q : Streams) (told' : Fates) (taken : Taken) (names : List QueueName) → q ≡ with_end side (record (end_at side p) { stack = (end_at side q).stack; shelf = (end_at side q).shelf }) p → (stack_owns (end_at side q).stack (first_list side + 2) ≡ 0 → is_some (end_at side q).shelf ≡ true)
+  pub top-went : (t : StoreValue) (q : Streams) (told' : Fates) (taken : Taken) (names : List QueueName) → q ≡ with_end side (record (end_at side p) { stack = (end_at side q).stack }) p
       → TookTop side rule s t (end_at side p).stack (end_at side q).stack told told' taken
       → names ≡ without_module side taken.name (noted side (place_of taken.name) (earlier_at side 1 (state_in s p)) taken.notes.items p.enabled)
       → WithoutTop side rule s t p (record q { enabled = names }) told told' (Some taken.name)
-  top-went t q told' taken names same shelf took are =
+  top-went t q told' taken names same took are =
       let st = state_in s p in
       let y = (end_at side q).stack in
-      let z = (end_at side q).shelf in
       let these : (stream side st).modules ≡ took.top ∷ took.rest = modules-are s p side ∙ took.was in
       let earlier = earlier_at side 1 st in
       let enabled : names ≡ without_module side (module_name took.top) (noted side (place_of (module_name took.top)) earlier (let_go_of side rule took.top).notes p.enabled) =
@@ -96,13 +97,13 @@ module _ (side : Side) (rule : Rule) (s : StoreValue) (p : Streams) (held : AreH
         leads = record {
           state =
               ap (λ (r : Streams). state_in t (record r { enabled = names })) same
-              ∙ ap (λ (x : State ℕ). record x { enabled = names }) (took-state s t p held.beside rule told told' taken side y z shelf took)
+              ∙ ap (λ (x : State ℕ). record x { enabled = names }) (took-state s t p held.beside rule told told' taken side y took)
               ∙ ap (λ (ns : List QueueName). record (with_modules side took.rest st) { enabled = ns }) enabled
               ∙ sym (ap (λ ms. (top_taken rule side ms st).state) these);
           tells = took.tells ∙ sym (ap (λ ms. tallied (top_taken rule side ms st).gone told) these);
           held = record {
             hand = took.hand.hand ∙ held.hand;
-            beside = subst (AreBeside t) (sym same) (took-beside s t p held.beside rule told told' taken side y z shelf took);
+            beside = subst (AreBeside t) (sym same) (took-beside s t p held.beside rule told told' taken side y took);
           };
           pool = record { mblks = took.hand.mblks; dblks = took.hand.dblks };
         };

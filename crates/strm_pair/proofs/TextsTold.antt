@@ -1,23 +1,33 @@
 -- What a text of a restorable state tells of its streams.
-use Rattle.strm_pair.proofs.Prelude.{List, [], ◌∷◌, map, sym, subst, length-map}
+use Rattle.strm_pair.proofs.Prelude.{◌≡◌, List, [], ◌∷◌, map, refl, sym, subst, ◌∙◌, length-map, Option, None, Some, is_some}
 use Rattle.strm_pair.specs.Prelude.{MODULES, Openness, Side, GoodStream, EachOnce, ModuleText, StreamText, module_now}
 use Rattle.std.specs.Prelude.{◌≤◌}
 use Rattle.std.specs.List.{AllByRecursion}
-use Rattle.strm_laws.specs.Restorable.{GoodModule}
+use Rattle.strm_laws.specs.Restorable.{GoodKind, GoodModule}
 use Rattle.strm_laws.specs.Within.{IsWithin}
-use Rattle.strm_image.specs.declared.modules.ModuleText.TheVariants as texts
+use Rattle.strm_image.specs.declared.modules.KindText.{KindText}
+use Rattle.strm_image.specs.declared.modules.KindText.TheVariants as texts
+use Rattle.strm_image.specs.declared.modules.QueuesText.{QueuesText}
+use Rattle.strm_image.specs.ModuleTexts.{kind_now, own_pair_now}
 use Rattle.strm_pair.specs.Laying.{IsStreamText, stream_now}
-use Rattle.strm_pair.specs.Placing.{IsModuleText}
+use Rattle.strm_pair.specs.Placing.{IsKindText, IsModuleText}
 use Rattle.strm_pair.proofs.EndsMade.{names-same}
 
-module-told : (m : ModuleText) → GoodModule (module_now m) → IsModuleText m
-module-told (texts.Ldterm l) good = record {
-  column = good.kind.column;
-  line = good.kind.line;
+kind-told : (x : KindText) → GoodKind (kind_now x) → IsKindText x
+kind-told (texts.Ldterm l) good = record {
+  column = good.column;
+  line = good.line;
 }
-module-told (texts.Ptem p) good = tt
-module-told texts.Pckt good = tt
-module-told (texts.Own o) good = good.kind.few
+kind-told (texts.Ptem p) good = tt
+kind-told texts.Pckt good = tt
+kind-told (texts.Own o) good = good.few
+
+has-told : (queues : Option QueuesText) → is_some (own_pair_now queues) ≡ is_some queues
+has-told None = refl
+has-told (Some q) = refl
+
+module-told : (m : ModuleText) → GoodModule (module_now m) → IsModuleText m
+module-told m good = record { kind = kind-told m.kind good.kind; has = sym (has-told m.queues) ∙ good.has }
 
 each-told : (ms : List ModuleText) → AllByRecursion GoodModule (map module_now ms) → AllByRecursion IsModuleText ms
 each-told [] good = tt

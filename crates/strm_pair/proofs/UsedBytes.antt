@@ -1,22 +1,19 @@
 -- The messages of a pair have 256 bytes at most for each block that a store has.
-use Rattle.strm_pair.proofs.Prelude.{ℕ, ◌≡◌, ◌≤◌, ◌+◌, Bool, true, false, cond, List, [], ◌∷◌, ◌++◌, length, length-append, map, refl, ap, sym, arith}
-use Rattle.strm_pair.proofs.Prelude.{◌*◌, Option, None, Some, sum_by, false≢true, sum_by-append, sum_by-cons, bytes-sum, control-body}
-use Rattle.strm_pair.specs.Prelude.{Master, Slave, Up, Down, is_data_kind, is_body_kind, is_control_kind, Message, cells_of, part, size_of, Queue}
-use Rattle.strm_pair.specs.Prelude.{bytes_of, stood, AreIdle, Standing, queues_of_modules, Stream, stream_queues, Block, StoreValue, IsStore}
-use Rattle.strm_pair.specs.Prelude.{block_at, list_at, control_blocks, data_blocks, message_of, part_of}
-use Rattle.strm_types.specs.Standings.{QueuePair}
+use Rattle.strm_pair.proofs.Prelude.{ℕ, ◌≡◌, ◌≤◌, ◌+◌, Bool, true, false, cond, List, [], ◌∷◌, length, length-append, map, refl, ap, sym, arith}
+use Rattle.strm_pair.proofs.Prelude.{◌*◌, None, sum_by, false≢true, sum_by-append, sum_by-cons, bytes-sum, control-body}
+use Rattle.strm_pair.specs.Prelude.{Master, Slave, is_data_kind, is_body_kind, is_control_kind, Message, cells_of, part, size_of, Queue}
+use Rattle.strm_pair.specs.Prelude.{bytes_of, AreIdle, stream_queues, Block, StoreValue, IsStore}
+use Rattle.strm_pair.specs.Prelude.{block_at, list_at, control_blocks, data_blocks, message_of, messages_on, part_of}
 use Rattle.strm_image.specs.HasImage.{bytes_in}
 use Rattle.strm_blocks.specs.Blocks.{extent}
 use Rattle.strm_msg.specs.Bytes as chains
 use Rattle.strm_msg.proofs.Parts.{control-blocks-cons}
 use Rattle.strm_queue.proofs.Bounds.{bytes-extent}
 use Rattle.strm_pair.specs.declared.streams.Streams.{Streams}
-use Rattle.strm_pair.specs.Named.{messages_queued}
 use Rattle.strm_pair.specs.Pairs.{state_in, AreHeld}
-use Rattle.strm_pair.specs.Shows.{ShowsStream}
 use Rattle.strm_pair.specs.Streams.{stream_in}
-use Rattle.strm_pair.proofs.FreeBlocks.{eight-lists}
-use Rattle.strm_pair.proofs.Shown.{stream-shown}
+use Rattle.strm_pair.proofs.FreeBlocks.{all-lists, side_sum}
+use Rattle.strm_pair.proofs.Shown.{stream-sum}
 
 abbrev lengths_of : List Block → ℕ
 lengths_of chain = sum_by (λ (b : Block). length b.bytes) chain
@@ -64,48 +61,26 @@ list-most : (q : List (List Block)) → bytes_of (map message_of q) ≤ sum_by e
 list-most [] = omega arith
 list-most (chain ∷ q) = omega (arith, size-most chain, bytes-extent chain, list-most q, sum_by-cons size_of (message_of chain) (map message_of q), sum_by-cons extent chain q)
 
--- what stands on the queues of modules, by ways
 abbrev queue_bytes : Queue ℕ → ℕ
 queue_bytes q = bytes_of q.messages
-
-modules-bytes : (ps : List (Standing ℕ)) → sum_by queue_bytes (queues_of_modules ps) ≡ bytes_of (messages_queued Up ps) + bytes_of (messages_queued Down ps)
-modules-bytes [] = refl
-modules-bytes (p ∷ ps) = by p.queues (modules-bytes ps)
-  where
-    by : (queues : Option (QueuePair ℕ)) → sum_by queue_bytes (queues_of_modules ps) ≡ bytes_of (messages_queued Up ps) + bytes_of (messages_queued Down ps)
-        → let qs = stood p.part queues ∷ ps in sum_by queue_bytes (queues_of_modules qs) ≡ bytes_of (messages_queued Up qs) + bytes_of (messages_queued Down qs)
-    by None below = below
-    by (Some pair) below = omega (
-      arith,
-      below,
-      sum_by-cons queue_bytes pair.read (pair.write ∷ queues_of_modules ps),
-      sum_by-cons queue_bytes pair.write (queues_of_modules ps),
-      sum_by-append (λ (m : Message ℕ). size_of m) pair.read.messages (messages_queued Up ps),
-      sum_by-append (λ (m : Message ℕ). size_of m) pair.write.messages (messages_queued Down ps),
-    )
 
 module _ (s : StoreValue) where
   abbrev on_list : ℕ → ℕ
   on_list k = sum_by extent (list_at s k)
 
-  stream-bytes : (first : ℕ) (t : Stream ℕ) → ShowsStream s first t
-      → sum_by queue_bytes (stream_queues t) ≤ on_list first + (on_list (first + 1) + (on_list (first + 2) + on_list (first + 3)))
-  stream-bytes first t shows =
-      let qs = queues_of_modules t.modules in
+  side-bytes : (first : ℕ) → side_sum (λ k. bytes_of (messages_on s k)) first ≤ side_sum on_list first
+  side-bytes first =
+      let one : (k : ℕ) → bytes_of (messages_on s k) ≤ sum_by extent (list_at s k) = λ k. list-most (list_at s k) in
       omega (
         arith,
-        sum_by-cons queue_bytes t.head.queue (qs ++ t.driver.queue ∷ []),
-        sum_by-append queue_bytes qs (t.driver.queue ∷ []),
-        sum_by-cons queue_bytes t.driver.queue [],
-        modules-bytes t.modules,
-        list-most (list_at s first),
-        list-most (list_at s (first + 1)),
-        list-most (list_at s (first + 2)),
-        list-most (list_at s (first + 3)),
-        ap bytes_of shows.head,
-        ap bytes_of shows.driver,
-        ap bytes_of shows.up,
-        ap bytes_of shows.down,
+        one first,
+        one (first + 1),
+        one (first + 2),
+        one (first + 3),
+        one (first + 4),
+        one (first + 5),
+        one (first + 6),
+        one (first + 7),
       )
 
   pub state-bytes : (p : Streams) → AreHeld s p → AreIdle (state_in s p) → IsStore s → bytes_in (state_in s p) ≤ 256 * s.mblks
@@ -115,9 +90,11 @@ module _ (s : StoreValue) where
       omega (
         arith,
         sum_by-append queue_bytes (stream_queues m) (stream_queues n),
-        stream-bytes 0 m (stream-shown s 0 p.ends.master (held.beside Master) (idle Master)),
-        stream-bytes 4 n (stream-shown s 4 p.ends.slave (held.beside Slave) (idle Slave)),
-        eight-lists (λ q. sum_by extent q) s is.eight,
+        stream-sum s 0 p.ends.master (held.beside Master) (idle Master) (λ ms. bytes_of ms) refl,
+        stream-sum s 8 p.ends.slave (held.beside Slave) (idle Slave) (λ ms. bytes_of ms) refl,
+        side-bytes 0,
+        side-bytes 8,
+        all-lists (λ q. sum_by extent q) s is.eight,
         is.small,
         is.enough,
       )

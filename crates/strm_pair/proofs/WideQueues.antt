@@ -69,7 +69,7 @@ module _ (s : StoreValue) (is : IsStore s) where
   module _ (p : Streams) (held : AreHeld s p) where
     state-wide : AllByRecursion IsWide (queues_of (state_in s p))
     state-wide = all-joined IsWide (stream_queues (stream_in s p.ends.master)) (stream_queues (stream_in s p.ends.slave))
-        (stream-wide 0 p.ends.master (held.beside Master)) (stream-wide 4 p.ends.slave (held.beside Slave))
+        (stream-wide 0 p.ends.master (held.beside Master)) (stream-wide 8 p.ends.slave (held.beside Slave))
 
     pub state-banded : AreBanded (state_in s p)
     state-banded = wide-banded (queues_of (state_in s p)) state-wide

@@ -2,11 +2,12 @@
 use Rattle.std.specs.Prelude.{ℕ, ◌≡◌, Bool, false, true, List, [], ◌∷◌, map, Option, None, Some, is_some}
 use Rattle.std.specs.List.{AllByRecursion}
 use Rattle.std.proofs.Common.{refl, ap}
-use Rattle.strm_pair.specs.Prelude.{ModuleName, Way, Spot, plain, disciplined, Message, have_queues, has_queues, stood, Module, OfLdterm, OfPtem}
+use Rattle.strm_pair.specs.Prelude.{ModuleName, Way, Up, Spot, plain, disciplined, Message, have_queues, has_queues, stood, Module, OfLdterm, OfPtem}
 use Rattle.strm_pair.specs.Prelude.{Behaviour, OfOwn, OfPckt}
 use Rattle.strm_pair.specs.Prelude.{Standing, kind_name, module_name, module_puts, module_serves, without_kind_line, ldterm_of, StoreValue, SameOwn}
 use Rattle.strm_pair.specs.Prelude.{Fits, keeps_of, owns, queues_in, queues_own, standing_in, own-rests, ptem_in, pckt_in}
 use Rattle.strm_types.specs.Standings.{QueuePair}
+use Rattle.strm_laws.specs.Behaviours.{own_by}
 use Rattle.strm_laws.specs.Pushes.{is_known, kind_named}
 use Rattle.strm_frame.specs.declared.queue_pair.QueuePair as frame
 use Rattle.strm_frame.specs.declared.standing.Standing as standing
@@ -17,15 +18,19 @@ use Rattle.strm_ldterm.specs.Frames.{own-frame, own-rested}
 use Rattle.strm_ldterm.specs.Served.{MayBeServed}
 use Rattle.strm_ldterm.specs.ServedLaws.{either-served, line-served, puts-served, serves-served}
 use Rattle.strm_ldterm.specs.Stands as stands
+use Rattle.strm_own.specs.Stands.{HasQueues}
+use Rattle.strm_own.specs.StandsLaws.{has-same, own-once}
 use Rattle.strm_pair.specs.declared.modules.AnyModule.{AnyModule}
 use Rattle.strm_pair.specs.declared.modules.AnyModule.TheVariants as kinds
 
--- whether its service procedure may be called: ptem, pckt and those of a user's own have none, and a call does nothing
+-- Whether its service procedure may be called. One of a user's own has no message in work, which a turn of a read queue would go on with. ptem and
+-- pckt have none, and a call does nothing.
 abbrev pub MayServe : Way → Bool → Module ℕ → Type 0
 MayServe way again (OfLdterm l) = MayBeServed way again l
+MayServe way again (OfOwn o) = way ≡ Up → again ≡ false
 MayServe way again other = Unit {0}
 
--- how many blocks of each kind a call of it may count on; none of a module without queues is ever made
+-- how many blocks of each kind a call of it may count on; none of ptem or pckt is ever made
 abbrev pub kind_cost : Spot → Bool → Module ℕ → ℕ
 kind_cost here again p = bounds.turn_cost here again (ldterm_of p)
 
@@ -36,12 +41,12 @@ kind_in s (kinds.Ptem x) = OfPtem (ptem_in x)
 kind_in s (kinds.Pckt x) = OfPckt pckt_in
 kind_in s (kinds.Own o) = OfOwn o
 
--- what it has in hand fits the store and its queues; ldterm alone has any
+-- What it has in hand fits the store and its queues: ldterm has them and may have some in hand, one of a user's own has them where its number says.
 abbrev pub IsKindHeld : StoreValue → AnyModule → Option frame.QueuePair → Type 0
 IsKindHeld s (kinds.Ldterm x) queues = stands.HasInHand s x queues
 IsKindHeld s (kinds.Ptem x) queues = queues ≡ None
 IsKindHeld s (kinds.Pckt x) queues = queues ≡ None
-IsKindHeld s (kinds.Own o) queues = queues ≡ None
+IsKindHeld s (kinds.Own o) queues = HasQueues o queues
 
 -- how often it keeps a message of a name in hand
 abbrev pub kind_keeps : AnyModule → ℕ → ℕ
@@ -94,7 +99,7 @@ module-frame s t (kinds.Ldterm x) queues others lists same held =
     let r = own-frame s t x queues others lists (record { lists = same.lists; mblks = same.mblks; dblks = same.dblks; kept = same.kept }) held in (ap OfLdterm r.0, r.1)
 module-frame s t (kinds.Ptem x) queues others lists same held = (refl, none-same queues others lists held)
 module-frame s t (kinds.Pckt x) queues others lists same held = (refl, none-same queues others lists held)
-module-frame s t (kinds.Own o) queues others lists same held = (refl, none-same queues others lists held)
+module-frame s t (kinds.Own o) queues others lists same held = (refl, has-same o queues others lists held)
 
 -- and where it keeps nothing, whatever stands on them
 pub module-rested : (s t : StoreValue) (x : AnyModule) (queues others : Option frame.QueuePair) → lists_of others ≡ lists_of queues
@@ -102,7 +107,7 @@ pub module-rested : (s t : StoreValue) (x : AnyModule) (queues others : Option f
 module-rested s t (kinds.Ldterm x) queues others lists none held = let r = own-rested s t x queues others lists none held in (ap OfLdterm r.0, r.1)
 module-rested s t (kinds.Ptem x) queues others lists none held = (refl, none-same queues others lists held)
 module-rested s t (kinds.Pckt x) queues others lists none held = (refl, none-same queues others lists held)
-module-rested s t (kinds.Own o) queues others lists none held = (refl, none-same queues others lists held)
+module-rested s t (kinds.Own o) queues others lists none held = (refl, has-same o queues others lists held)
 
 pub any-frame : (s t : StoreValue) (x : AnyStanding) → SameOwn s t (owns x) (keeps x) → IsHeld s x
     → (module_in t x ≡ module_in s x) × IsHeld t x
@@ -117,7 +122,8 @@ kind-has s (kinds.Ldterm x) None held = absurd held
 kind-has s (kinds.Ldterm x) (Some pair) held = refl
 kind-has s (kinds.Ptem x) queues held = ap (λ o. is_some (queues_in s o)) held
 kind-has s (kinds.Pckt x) queues held = ap (λ o. is_some (queues_in s o)) held
-kind-has s (kinds.Own x) queues held = ap (λ o. is_some (queues_in s o)) held
+kind-has s (kinds.Own o) None held = held
+kind-has s (kinds.Own o) (Some pair) held = held
 
 pub any-has : (s : StoreValue) (x : AnyStanding) → IsHeld s x → HasAsNamed (module_in s x)
 any-has s x held = kind-has s x.module x.queues held.itself
@@ -138,12 +144,15 @@ serves-rests s (kinds.Own o) queues way i held may = refl
 -- it so.
 pub either-serves : (way at : Way) (p : Module ℕ) → MayServe way false p → MayServe at false p
 either-serves way at (OfLdterm l) may = either-served way at l may
+either-serves way at (OfOwn o) may = λ up. refl
 either-serves way at other may = tt
 
-pub serves-on : (here : Spot) (again : Bool) (stop : Option ℕ) (p : Module ℕ) (queues : Option (QueuePair ℕ)) → MayServe here.way again p
-    → (let t = module_serves plain here 0 again stop (stood p queues) in MayServe here.way t.again t.acted.state.part)
-serves-on here again stop (OfLdterm l) queues may = serves-served plain here 0 again stop (disciplined l queues) may
-serves-on here again stop other queues may = tt
+pub serves-on : (K : Behaviour) (here : Spot) (again : Bool) (stop : Option ℕ) (p : Module ℕ) (queues : Option (QueuePair ℕ))
+    → MayServe here.way again p
+    → (let t = module_serves K plain here 0 again stop (stood p queues) in MayServe here.way t.again t.acted.state.part)
+serves-on K here again stop (OfLdterm l) queues may = serves-served plain here 0 again stop (disciplined l queues) may
+serves-on K here again stop (OfOwn o) queues may = λ up. own-once (own_by K plain) here (stood o queues)
+serves-on K here again stop other queues may = tt
 
 pub puts-serve : (K : Behaviour) (here : Spot) (m : Message ℕ) (way : Way) (again : Bool) (p : Module ℕ) (queues : Option (QueuePair ℕ))
     → MayServe way again p

@@ -2,12 +2,14 @@
 use Rattle.std.specs.Prelude.{ℕ, ◌≡◌, ◌≤◌, ◌+◌, true, List}
 use Rattle.strm_pair.specs.Prelude.{Fates, Fate, tallied, AreIdle, in_range, spare, State, StoreValue, in_hand, IsChain, CanPut, HasRoom}
 use Rattle.strm_pair.specs.declared.streams.Streams.{Streams}
+use Rattle.strm_pair.specs.Enabling.{AreFewEnabled}
 use Rattle.strm_pair.specs.Pairs.{state_in, AreBeside, AreHeld, SamePool, kept_by}
 
--- The streams are at rest: they fit the store, nothing is in hand, and nothing of a turn is under way at any module.
+-- The streams are at rest: they fit the store, nothing is in hand, nothing of a turn is under way at any module, and enabled queues are there.
 pub record AreAtRest (s : StoreValue) (p : Streams) : Type 0 where
   pub held : AreHeld s p
   pub idle : AreIdle (state_in s p)
+  pub enabled : AreFewEnabled (state_in s p)
 
 -- A message may be put at a spot: it is in hand, beside what the stacks keep, and the streams fit the store.
 pub record MayPut (s : StoreValue) (p : Streams) (message : ℕ) : Type 0 where

@@ -13,8 +13,8 @@ use Rattle.strm_pair.specs.declared.ends.StreamEnd.{StreamEnd}
 use Rattle.strm_pair.specs.declared.streams.Streams.{Streams}
 use Rattle.strm_pair.specs.Lists.{first_list}
 use Rattle.strm_pair.specs.Pairs.{state_in, end_at, with_end, AreBeside, Stays, kept_by}
-use Rattle.strm_pair.specs.Streams.{stream_in, IsSide, AreApart}
-use Rattle.strm_pair.specs.Stacks.{modules_in, IsStackHeld, stack_keeps}
+use Rattle.strm_pair.specs.Streams.{stream_in, AreFor, IsSide, AreApart}
+use Rattle.strm_pair.specs.Stacks.{modules_in, IsStackHeld, stack_owns, stack_keeps}
 use Rattle.strm_pair.specs.ModuleStacks.{stack-frame, stack-idle}
 
 -- what is kept stays where all in hand does
@@ -45,7 +45,7 @@ none-kept : (s : StoreValue) (first : ℕ) (e : StreamEnd) → IsSide s first e 
 none-kept s first e is idle i = stack-idle s e.stack is.stack idle i
 
 pub rests : (s : StoreValue) (p : Streams) → AreBeside s p → AreIdle (state_in s p) → (i : ℕ) → kept_by p i ≡ 0
-rests s p beside idle i = omega (arith, none-kept s 0 p.ends.master (beside Master) (idle Master) i, none-kept s 4 p.ends.slave (beside Slave) (idle Slave) i)
+rests s p beside idle i = omega (arith, none-kept s 0 p.ends.master (beside Master) (idle Master) i, none-kept s 8 p.ends.slave (beside Slave) (idle Slave) i)
 
 -- what the stack of a side keeps, and the other one's
 pub kept-parts : (side : Side) (p : Streams) (i : ℕ) → kept_by p i ≡ stack_keeps (end_at side p).stack i + stack_keeps (end_at (other side) p).stack i
@@ -56,14 +56,25 @@ pub kept-with : (side : Side) (e : StreamEnd) (p : Streams) (i : ℕ) → kept_b
 kept-with Master e p i = refl
 kept-with Slave e p i = omega arith
 
+-- lists that are for a stack are so in a store where they are the same, and for one that has the same
+pub for-on : (s t : StoreValue) (first : ℕ) (owns : ℕ → ℕ) → ((k : ℕ) → first ≤ k → k < first + 6 → list_at t k ≡ list_at s k) → AreFor s first owns → AreFor t first owns
+for-on s t first owns same are = record { owned = are.owned; closed = are.closed; spare = λ k low high none. same k low high ∙ are.spare k low high none }
+
+pub for-same : (s : StoreValue) (first : ℕ) (owned owns : ℕ → ℕ) → ((k : ℕ) → owns k ≡ owned k) → AreFor s first owned → AreFor s first owns
+for-same s first owned owns same are = record {
+  owned = λ k some. are.owned k (omega (arith, some, same k));
+  closed = λ j k low le some. omega (arith, are.closed j k low le (omega (arith, some, same k)), same j);
+  spare = λ k low high none. are.spare k low high (omega (arith, none, same k));
+}
+
 module _ (s t : StoreValue) where
   pub stays-at : (side : Side) (p : Streams) → Stays s t (kept_by p) → Stays s t (stack_keeps (end_at side p).stack)
   stays-at side p stays = record { mblks = stays.mblks; dblks = stays.dblks; kept = λ i some. stays.kept i (omega (arith, some, kept-parts side p i)) }
 
   -- a stack stands for the same, and fits, where its lists are the same and what it keeps is
-  pub stack-same : (first : ℕ) (e : StreamEnd) → IsSide s first e → Stays s t (stack_keeps e.stack) → ((k : ℕ) → first + 2 ≤ k → k < first + 4 → list_at t k ≡ list_at s k) → (modules_in t e.stack ≡ modules_in s e.stack) × IsStackHeld t e.stack
+  pub stack-same : (first : ℕ) (e : StreamEnd) → IsSide s first e → Stays s t (stack_keeps e.stack) → ((k : ℕ) → first + 2 ≤ k → k < first + 2 + 6 → list_at t k ≡ list_at s k) → (modules_in t e.stack ≡ modules_in s e.stack) × IsStackHeld t e.stack
   stack-same first e is stays same = stack-frame s t e.stack (record {
-    lists = λ k some. let own = is.owned k some in same k own.0 own.1;
+    lists = λ k some. let own = is.lists.owned k some in same k own.0 own.1;
     mblks = stays.mblks;
     dblks = stays.dblks;
     kept = stays.kept;
@@ -81,9 +92,7 @@ module _ (s t : StoreValue) where
       driver = ready-same s t e.driver (at e.driver.list) is.driver;
       stack = (stack-same first e is stays (λ k low high. at k)).1;
       once = subst AreApart (sym (stack-same first e is stays (λ k low high. at k)).0) is.once;
-      owned = is.owned;
-      spare = λ k low high none. at k ∙ is.spare k low high none;
-      shelf = is.shelf;
+      lists = for-on s t (first + 2) (stack_owns e.stack) (λ k low high. at k) is.lists;
     }
 
     side-same : (first : ℕ) (e : StreamEnd) → IsSide s first e → Stays s t (stack_keeps e.stack) → stream_in t e ≡ stream_in s e

@@ -21,13 +21,14 @@ pub record IsStreamText (t : StreamText) : Type 0 where
 abbrev pub stream_now : Openness → StreamText → Stream ℕ
 stream_now opened t = stream_of opened (laid_now t)
 
--- A stream stands on four lists of a store, from a number on, and no other list changed. It keeps nothing in hand, and its messages take so many blocks.
+-- A stream stands on eight lists of a store, from a number on, and no other list changed. It keeps nothing in hand, and its messages take so many
+-- blocks.
 pub record IsStood (old new : StoreValue) (first : ℕ) (plain : Stream ℕ) (blocks : ℕ) (e : StreamEnd) : Type 0 where
   pub stream : stream_in new e ≡ plain
   pub side : IsSide new first e
   pub rests : (i : ℕ) → stack_keeps e.stack i ≡ 0
   pub before : (k : ℕ) → k < first → list_at new k ≡ list_at old k
-  pub behind : (k : ℕ) → first + 4 ≤ k → list_at new k ≡ list_at old k
+  pub behind : (k : ℕ) → first + 8 ≤ k → list_at new k ≡ list_at old k
   pub hand : new.hand ≡ old.hand
   pub mblks : new.mblks ≡ old.mblks
   pub dblks : new.dblks ≡ old.dblks

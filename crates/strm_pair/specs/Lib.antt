@@ -1,7 +1,6 @@
 pub mod Prelude
 pub mod Alone
 pub mod AnyModules
-pub mod OwnPuts
 pub mod OwnSettings
 pub mod Given
 pub mod Stacks
@@ -19,13 +18,16 @@ pub mod ModuleLists
 pub mod ModuleStacks
 pub mod Named
 pub mod Nearest
+pub mod Enabling
 pub mod Pairs
 pub mod PairViews
 pub mod Running
 pub mod StandWide
+pub mod Shelves
 pub mod Shows
 pub mod Pool
 pub mod Parts
+pub mod Makes
 pub mod ModuleTurned
 pub mod ModuleServed
 pub mod Starts

@@ -10,6 +10,7 @@ use Rattle.strm_frame.specs.Serves.{stop_of}
 use Rattle.strm_pair.specs.AnyModules.{turn_cost}
 use Rattle.strm_pair.specs.declared.service_calls.Call.{Call}
 use Rattle.strm_pair.specs.declared.streams.Streams.{Streams}
+use Rattle.strm_pair.specs.Enabling.{AreFewEnabled}
 use Rattle.strm_pair.specs.Pairs.{state_in, AreBeside, kept_by}
 use Rattle.strm_pair.specs.Stacks.{modules_in, IsStackHeld, stack_owns, stack_keeps, Stack}
 
@@ -49,7 +50,7 @@ abbrev pub IsKeptAll : StoreValue → Streams → Type 0
 IsKeptAll s p = (i : ℕ) → times_in i s.hand ≡ kept_by p i
 
 -- A call of the turn may be made at a place: a module stands there and is at that call, the streams fit the store, which has blocks enough,
--- and nothing else is in hand.
+-- nothing else is in hand, and enabled queues are there.
 pub record MayCall (s : StoreValue) (p : Streams) (here : Spot) (again : Bool) : Type 0 where
   pub inside : 0 < here.at
   pub within : here.at ≤ length (stream here.side (state_in s p)).modules
@@ -57,33 +58,34 @@ pub record MayCall (s : StoreValue) (p : Streams) (here : Spot) (again : Bool) :
   pub beside : AreBeside s p
   pub hand : IsKeptAll s p
   pub room : HasRoom s (call_cost here again (state_in s p))
+  pub enabled : AreFewEnabled (state_in s p)
 
 -- what the module at a place does in a call
-abbrev pub acts_in : Spot → Bool → Call → State ℕ → Took ℕ (State ℕ)
-acts_in here again call s = module_acted here (called here again (stop_in call) (stream here.side s).modules) s
+abbrev pub acts_in : Behaviour → Spot → Bool → Call → State ℕ → Took ℕ (State ℕ)
+acts_in K here again call s = module_acted here (called here K again (stop_in call) (stream here.side s).modules) s
 
 -- what a call tells of itself, which began with this state
-pub record TellsAs (here : Spot) (again : Bool) (call : Call) (s : State ℕ) : Type 0 where
-  pub bytes : call.bytes ≡ treated here again (stop_in call) (stream here.side s).modules
-  pub asks : call.again ≡ asks_on here again (stop_in call) (stream here.side s).modules
+pub record TellsAs (K : Behaviour) (here : Spot) (again : Bool) (call : Call) (s : State ℕ) : Type 0 where
+  pub bytes : call.bytes ≡ treated here K again (stop_in call) (stream here.side s).modules
+  pub asks : call.again ≡ asks_on here K again (stop_in call) (stream here.side s).modules
   pub ends : OnTrue call.stopped (Ends here.way again (discipline_of (module_at here s)) call.bytes)
   pub over : OnTrue call.stopped (call.again ≡ false)
-  pub made : made_of (called here again (stop_in call) (stream here.side s).modules).gone ≤ most_made call.bytes
+  pub made : made_of (called here K again (stop_in call) (stream here.side s).modules).gone ≤ most_made call.bytes
 
 -- A stack of modules served a call at a place.
-pub record StackServes (old new : StoreValue) (x y : Stack) (here : Spot) (again : Bool) (served : Served) (told told' : Fates) : Type
-    0 where
-  pub state : modules_in new y ≡ (called here again (stop_of served) (modules_in old x)).state
-  pub notes : served.acts.notes.items ≡ (called here again (stop_of served) (modules_in old x)).notes
-  pub sent : parcels_in new (sent_of served.acts.sent) ≡ (called here again (stop_of served) (modules_in old x)).sent
-  pub tells : told' ≡ tallied (called here again (stop_of served) (modules_in old x)).gone told
-  pub bytes : served.bytes ≡ treated here again (stop_of served) (modules_in old x)
-  pub asks : served.again ≡ asks_on here again (stop_of served) (modules_in old x)
+pub record StackServes (K : Behaviour) (old new : StoreValue) (x y : Stack) (here : Spot) (again : Bool) (served : Served)
+    (told told' : Fates) : Type 0 where
+  pub state : modules_in new y ≡ (called here K again (stop_of served) (modules_in old x)).state
+  pub notes : served.acts.notes.items ≡ (called here K again (stop_of served) (modules_in old x)).notes
+  pub sent : parcels_in new (sent_of served.acts.sent) ≡ (called here K again (stop_of served) (modules_in old x)).sent
+  pub tells : told' ≡ tallied (called here K again (stop_of served) (modules_in old x)).gone told
+  pub bytes : served.bytes ≡ treated here K again (stop_of served) (modules_in old x)
+  pub asks : served.again ≡ asks_on here K again (stop_of served) (modules_in old x)
   pub over : OnTrue served.stopped (served.again ≡ false)
   pub few : OnTrue served.stopped (least_free new < STOP_BLOCKS)
   pub some : OnTrue served.stopped (HasRoom old STOP_BLOCKS → 0 < served.bytes)
   pub ends : OnTrue served.stopped (HoldsAt (λ p. Ends here.way again (discipline_of p) served.bytes) (modules_in old x) (here.at - 1))
-  pub made : made_of (called here again (stop_of served) (modules_in old x)).gone ≤ most_made served.bytes
+  pub made : made_of (called here K again (stop_of served) (modules_in old x)).gone ≤ most_made served.bytes
   pub held : IsStackHeld new y
   pub own : OnlyOwn old new (stack_owns x) (stack_owns y)
   pub chains : AreChains new (sent_of served.acts.sent)
@@ -97,11 +99,12 @@ call_of served = record { bytes = served.bytes; stopped = served.stopped; again 
 
 -- The module at a place did what a call says. What it sent is in hand, beside what the stacks keep, and there are blocks enough for that and
 -- for one more call, where it asks for one.
-pub record ActsAs (old new : StoreValue) (p q : Streams) (here : Spot) (again : Bool) (call : Call) (sent_on : List Sent) (told told' : Fates) : Type 0 where
-  pub state : state_in new q ≡ (acts_in here again call (state_in old p)).state
-  pub sent : parcels_in new sent_on ≡ (acts_in here again call (state_in old p)).sent
-  pub tells : told' ≡ tallied (acts_in here again call (state_in old p)).gone told
-  pub itself : TellsAs here again call (state_in old p)
+pub record ActsAs (K : Behaviour) (old new : StoreValue) (p q : Streams) (here : Spot) (again : Bool) (call : Call) (sent_on : List Sent)
+    (told told' : Fates) : Type 0 where
+  pub state : state_in new q ≡ (acts_in K here again call (state_in old p)).state
+  pub sent : parcels_in new sent_on ≡ (acts_in K here again call (state_in old p)).sent
+  pub tells : told' ≡ tallied (acts_in K here again call (state_in old p)).gone told
+  pub itself : TellsAs K here again call (state_in old p)
   pub few : OnTrue call.stopped (least_free new < STOP_BLOCKS)
   pub some : OnTrue call.stopped (HasRoom old STOP_BLOCKS → 0 < call.bytes)
   pub beside : AreBeside new q
@@ -109,6 +112,7 @@ pub record ActsAs (old new : StoreValue) (p q : Streams) (here : Spot) (again : 
   pub hands : Handles old new (λ _. 0) (kept_by p) (kept_by q) (λ i. times_sent i sent_on)
   pub room : HasRoom new (later_cost call.again (next_cost here (state_in new q)) (parcels_in new sent_on))
   pub pool : SamePool old new
+  pub enabled : AreFewEnabled (state_in new q)
 
 -- A call that stopped left few blocks free, where what it sent is kept ahead.
 abbrev pub LeavesFew : Spot → Bool → Call → State ℕ → StoreValue → Type 0
@@ -120,7 +124,7 @@ pub record CallsAs (K : Behaviour) (old new : StoreValue) (p q : Streams) (here 
     (told told' : Fates) : Type 0 where
   pub state : state_in new q ≡ (led K here again (stop_in call) (state_in old p)).state
   pub tells : told' ≡ tallied (led K here again (stop_in call) (state_in old p)).gone told
-  pub itself : TellsAs here again call (state_in old p)
+  pub itself : TellsAs K here again call (state_in old p)
   pub few : LeavesFew here again call (state_in old p) new
   pub some : OnTrue call.stopped (HasRoom old STOP_BLOCKS → 0 < call.bytes)
   pub beside : AreBeside new q
@@ -128,6 +132,7 @@ pub record CallsAs (K : Behaviour) (old new : StoreValue) (p q : Streams) (here 
   pub room : OnTrue call.again (HasRoom new (next_cost here (state_in new q)))
   pub left : spare (state_in old p) ≤ spare (state_in new q) + call_units call.bytes
   pub pool : SamePool old new
+  pub enabled : AreFewEnabled (state_in new q)
 
 -- Calls that treated fewer bytes of a turn than its message has, as it began, stopped where few blocks are free, if what they sent is kept ahead.
 abbrev pub StopsFew : Spot → ℕ → State ℕ → StoreValue → Type 0

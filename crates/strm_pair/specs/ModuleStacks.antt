@@ -32,7 +32,7 @@ pub stack-idle : (s : StoreValue) (x : Stack) → IsStackHeld s x → AllByRecur
     → stack_keeps x i ≡ 0
 stack-idle s x held idle = rests-keep s x.modules.items held.each idle
 
--- and the two lists that are for it show its queues
+-- and the lists that are for it show its queues
 pub stack-shows : (s : StoreValue) (x : Stack) (first : ℕ) → IsStackHeld s x → AllByRecursion (λ p. IsAtRest p) (modules_in s x) → AreFor s first (stack_owns x) → AreShown s first (modules_in s x)
 stack-shows s x first held idle are = stack-shown s first x.modules.items held are
 

@@ -1,5 +1,5 @@
 -- The module of a stream whose queues have a name, and what is said of it. Places count from 1 for the module on top.
-use Rattle.std.specs.Prelude.{ℕ, Bool, false, List, [], flat_map, Option, None, Some}
+use Rattle.std.specs.Prelude.{ℕ, Bool, false, List, [], Option, None, Some}
 use Rattle.strm_pair.specs.Prelude.{Place, Way, Message, at_place, same_place, messages_at, place_named, Standing}
 
 -- a place of queues is this one
@@ -19,7 +19,3 @@ at_named place say otherwise ps = at_found say otherwise ps (place_named place p
 -- the messages on its queue of a way
 abbrev pub messages_named : Place → Way → List (Standing ℕ) → List (Message ℕ)
 messages_named place way ps = at_named place (messages_at way) [] ps
-
--- the messages on the queues of a way of all modules that have one, from the top down
-abbrev pub messages_queued : Way → List (Standing ℕ) → List (Message ℕ)
-messages_queued way ps = flat_map (messages_at way) ps

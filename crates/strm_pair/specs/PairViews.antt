@@ -1,14 +1,16 @@
 -- What a pair over a store stands for, and what holds of each.
 use Rattle.std.specs.Prelude.{ℕ, ◌≡◌, Bool, true}
 use Rattle.strm_pair.specs.Prelude.{Config, Fates, plain, IsBase, told_by, FewBooked, PairState, AreWithinEntries, State, replay, IsLegal, StoreValue}
-use Rattle.strm_pair.specs.Prelude.{Behaviour}
+use Rattle.strm_pair.specs.Prelude.{Behaviour, stands_of}
 use Rattle.strm_pair.specs.declared.streams.Streams.{Streams}
 use Rattle.strm_pair.specs.declared.base.Base.{Base}
+use Rattle.strm_pair.specs.declared.shelves.Shelf.{Shelf}
 use Rattle.strm_pair.specs.declared.journal.Journal.{Journal}
 use Rattle.strm_pair.specs.BaseTexts.{IsWritten, start_in}
 use Rattle.strm_frame.specs.Hands.{IsWide}
 use Rattle.strm_laws.specs.Known.{all_known}
 use Rattle.strm_pair.specs.Pairs.{state_in, free_in, journal_of, AreHeld}
+use Rattle.strm_pair.specs.Shelves.{IsStocked}
 use Rattle.strm_pair.specs.Starts.{Start}
 
 -- the state to which a journal leads from a base
@@ -52,9 +54,10 @@ pub record IsKept (K : Behaviour) (s : StoreValue) (streams : Streams) (journal 
   pub bytes : journal.most_bytes ≡ limits.journal_bytes
 
 -- So it is of each pair from the base of its journal, whose text is written. Its store has as many data blocks as message blocks, where modules of a
--- user's own want that.
-pub record IsWhole (K : Behaviour) (wanted : Bool) (s : StoreValue) (streams : Streams) (journal : Journal) (base : Base) (limits : Config)
+-- user's own want that, and its shelf the tables of the queues of modules that may stand there still.
+pub record IsWhole (K : Behaviour) (wanted queued : Bool) (s : StoreValue) (streams : Streams) (shelf : Shelf) (journal : Journal) (base : Base) (limits : Config)
     (fates : Fates) : Type 0 where
   pub kept : IsKept K s streams journal (start_in base) limits fates
   pub wide : IsWide wanted s
   pub written : IsWritten base limits
+  pub stocked : IsStocked queued shelf (stands_of (state_in s streams))

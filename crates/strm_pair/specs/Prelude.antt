@@ -15,7 +15,6 @@ pub use Rattle.strm_frame.specs.Standings.{Fits, IsPairReady, keeps_of, owns, pa
 pub use Rattle.strm_frame.specs.declared.modules.Acts.{Acts}
 pub use Rattle.strm_frame.specs.declared.parcels.Sent.{Sent}
 pub use Rattle.strm_frame.specs.declared.queue_pair.QueuePair.{QueuePair}
-pub use Rattle.strm_frame.specs.declared.queue_pair.Tables.{Tables}
 pub use Rattle.strm_frame.specs.declared.service.Served.{Served}
 pub use Rattle.strm_frame.specs.declared.stack.Stack.{Stack}
 pub use Rattle.strm_head.specs.Heads.{down_message, head_in, plain_slot, sent_down}
@@ -64,7 +63,7 @@ pub use Rattle.strm_laws.specs.GoodMessages.{is_part_kind}
 pub use Rattle.strm_laws.specs.Restorable.{AreWithinEntries, GoodStream, Restorable}
 pub use Rattle.strm_laws.specs.SideCosts.{costs}
 pub use Rattle.strm_laws.specs.Spares.{spare, spare_behind}
-pub use Rattle.strm_laws.specs.StackCosts.{EachOnce, module_takes, stands_of}
+pub use Rattle.strm_laws.specs.StackCosts.{EachOnce, Stands, module_takes, stands_of, stands_on}
 pub use Rattle.strm_laws.specs.Stacked.{IsAtRest, KindRests, Module, OfLdterm, OfOwn, OfPckt, OfPtem, Standing, kind_line, kind_name}
 pub use Rattle.strm_laws.specs.Stacked.{module_asks, module_name, module_puts, module_serves, queues_of_modules, without_kind_line}
 pub use Rattle.strm_laws.specs.State.{AreOrdered, State, Stream, book, messages_in, opening, stream, stream_queues, with_book, with_driver_queue}
@@ -143,7 +142,7 @@ pub use Rattle.strm_types.specs.declared.flushing.FlushAsked.{FlushAsked}
 pub use Rattle.strm_types.specs.declared.kinds.MsgKind.{MsgKind}
 pub use Rattle.strm_types.specs.declared.kinds.MsgKind.TheVariants.{Data, Flush}
 pub use Rattle.strm_types.specs.declared.limits.Config.{Config}
-pub use Rattle.strm_types.specs.declared.limits.TheConstants.{BANDS, HOPS, IOCTL_MAX, MODULES, READ_MAX, STOP_BLOCKS}
+pub use Rattle.strm_types.specs.declared.limits.TheConstants.{BANDS, HOPS, IOCTL_MAX, LISTS, MODULES, READ_MAX, STOP_BLOCKS}
 pub use Rattle.strm_types.specs.declared.modes.Prio.{Prio}
 pub use Rattle.strm_types.specs.declared.modes.Prio.TheVariants.{Band, High}
 pub use Rattle.strm_types.specs.declared.modes.ReadMode.{ReadMode}

@@ -9,5 +9,4 @@ pub record RenewsHead (old new : StoreValue) (x y : StreamEnd) (openness : Openn
   pub opened : y.opened ≡ openness
   pub driver : y.driver ≡ x.driver
   pub stack : y.stack ≡ x.stack
-  pub shelf : y.shelf ≡ x.shelf
   pub keeps : Keeps old new x.head.queue y.head.queue

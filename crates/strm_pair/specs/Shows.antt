@@ -1,23 +1,42 @@
 -- What a pair shows of its queues.
-use Rattle.std.specs.Prelude.{ℕ, ◌≡◌, ◌+◌, Bool, false, List, []}
-use Rattle.strm_pair.specs.Prelude.{Message, Place, Driver, Way, Up, Down, QueueName, AllSides, count_of, first_size, State, Stream, stream}
+use Rattle.std.specs.Prelude.{ℕ, ◌≡◌, ◌+◌, ◌*◌, ◌≤◌, ◌<◌, Bool, false, List, [], ◌∷◌, sum_by, Option, None, Some}
+use Rattle.strm_pair.specs.Prelude.{Message, Standing, Place, Driver, Way, Up, Down, QueueName, AllSides, count_of, first_size, State, Stream, stream}
 use Rattle.strm_pair.specs.Prelude.{StoreValue, messages_on}
 use Rattle.strm_types.specs.declared.names.Place.TheVariants.{Head}
 use Rattle.strm_types.specs.declared.names.Place.TheVariants as places
 use Rattle.strm_types.specs.ModuleQueues as modules
 use Rattle.strm_types.specs.Queue.{is_full}
+use Rattle.strm_types.specs.Standings.{QueuePair}
 use Rattle.strm_pair.specs.Lists.{first_list}
-use Rattle.strm_pair.specs.Named.{at_named, messages_named, messages_queued}
+use Rattle.strm_pair.specs.Named.{at_named, messages_named}
 
--- Four lists of the store from a number on, read along their chains, are a stream's queues: the head's and the driver's, and then what stands on the
--- read queues and on the write queues of its modules, of which one at most has any.
+-- how many of these modules have queues
+abbrev pub one_pair : {A : Type 0} → Option A → ℕ
+one_pair None = 0
+one_pair (Some pair) = 1
+
+abbrev pub pairs_of : List (Standing ℕ) → ℕ
+pairs_of ps = sum_by (λ (p : Standing ℕ). one_pair p.queues) ps
+
+-- Two lists of the store from a number on are the queues of a module, the read queue and then the write queue, where it has any.
+abbrev pub ShowsPair : StoreValue → ℕ → Option (QueuePair ℕ) → Type 0
+ShowsPair s k None = Unit {0}
+ShowsPair s k (Some pair) = (messages_on s k ≡ pair.read.messages) × (messages_on s (k + 1) ≡ pair.write.messages)
+
+-- The lists from a number on are the queues of these modules, those of the lowest one first: each module's come behind those of the modules below it.
+abbrev pub ShowsModules : StoreValue → ℕ → List (Standing ℕ) → Type 0
+ShowsModules s first [] = Unit {0}
+ShowsModules s first (p ∷ ps) = ShowsPair s (first + 2 * pairs_of ps) p.queues × ShowsModules s first ps
+
+-- Eight lists of the store from a number on, read along their chains, are a stream's queues: the head's and the driver's, and then those of its
+-- modules. The others are empty.
 pub record ShowsStream (s : StoreValue) (first : ℕ) (t : Stream ℕ) : Type 0 where
   pub head : messages_on s first ≡ t.head.queue.messages
   pub driver : messages_on s (first + 1) ≡ t.driver.queue.messages
-  pub up : messages_on s (first + 2) ≡ messages_queued Up t.modules
-  pub down : messages_on s (first + 3) ≡ messages_queued Down t.modules
+  pub modules : ShowsModules s (first + 2) t.modules
+  pub others : (k : ℕ) → first + 2 + 2 * pairs_of t.modules ≤ k → k < first + 8 → messages_on s k ≡ []
 
--- The store shows the stream of each side: the master's from list 0 on, the slave's from 4. Nothing is in hand.
+-- The store shows the stream of each side: the master's from list 0 on, the slave's from 8. Nothing is in hand.
 pub record Shows (s : StoreValue) (state : State ℕ) : Type 0 where
   pub hand : s.hand ≡ []
   pub streams : AllSides (λ side t. ShowsStream s (first_list side) t) state.ends

@@ -1,5 +1,6 @@
 -- Queues of a text in a store.
 use Rattle.std.specs.Prelude.{ℕ, ◌≡◌, ◌≢◌, ◌≤◌, ◌+◌, Bool, false, List, length, slice_index_or, sum_by}
+use Rattle.strm_image.specs.declared.modules.QueuesText.{QueuesText}
 use Rattle.strm_pair.specs.Prelude.{StoreValue, list_at, IsReady, LdtermText, blocks_of, messages_now}
 use Rattle.strm_types.specs.declared.keys.TheConstants.{LINE_MAX}
 use Rattle.strm_types.specs.declared.output.TheConstants.{COLUMN_MAX}
@@ -25,9 +26,9 @@ pub record Fills (old new : StoreValue) (list : ℕ) (q : Queue) : Type 0 where
 
 -- ---- modules
 
--- how many blocks the messages of an ldterm take
-abbrev pub ldterm_blocks : LdtermText → ℕ
-ldterm_blocks l = sum_by blocks_of (messages_now l.read_queue.messages) + sum_by blocks_of (messages_now l.write_queue.messages)
+-- how many blocks the messages on both queues of a module take
+abbrev pub pair_blocks : QueuesText → ℕ
+pair_blocks q = sum_by blocks_of (messages_now q.read.messages) + sum_by blocks_of (messages_now q.write.messages)
 
 -- what the text of an ldterm has as its format says: a column, a line
 pub record IsLdtermText (l : LdtermText) : Type 0 where

@@ -20,7 +20,8 @@ pub record TookNone (old new : StoreValue) (x y : Stack) (told told' : Fates) : 
   pub stack : y ≡ x
   pub tells : told' ≡ told
 
--- It was on top of the others, which stay. Its lists are empty now, and the lists that weren't the stack's are as they were.
+-- It was on top of the others, which stay. Its lists are empty now, and come behind those of the others; the lists that weren't the stack's are as
+-- they were.
 pub record TookTop (side : Side) (rule : Rule) (old new : StoreValue) (x y : Stack) (told told' : Fates) (taken : Taken) : Type 0 where
   pub top : Standing ℕ
   pub rest : List (Standing ℕ)
@@ -32,6 +33,7 @@ pub record TookTop (side : Side) (rule : Rule) (old new : StoreValue) (x y : Sta
   pub held : IsStackHeld new y
   pub rests : (i : ℕ) → stack_keeps y i ≡ 0
   pub owns : (k : ℕ) → stack_owns y k ≤ stack_owns x k
+  pub closed : (j k : ℕ) → j ≤ k → 0 < stack_owns x j → 0 < stack_owns y k → 0 < stack_owns y j
   pub others : (k : ℕ) → stack_owns x k ≡ 0 → list_at new k ≡ list_at old k
   pub emptied : (k : ℕ) → 0 < stack_owns x k → stack_owns y k ≡ 0 → list_at new k ≡ []
   pub hand : SameHand old new

@@ -7,18 +7,22 @@ ghost use Rattle.strm_types.specs.Cells.{plain};
 ghost use Rattle.strm_laws.specs.Closes.{head_emptied, driver_emptied, ended, hung_up_at, closed_at};
 ghost use Rattle.strm_types.specs.Emptied.{of_all};
 ghost use Rattle.strm_laws.specs.Puts.{flushed_on};
+ghost use Rattle.strm_laws.specs.StackCosts.{stands_of};
 ghost use Rattle.strm_frame.specs.Hands.{IsWide};
+ghost use Rattle.strm_pair.specs.Shelves.{IsStocked};
 
-use crate::own::OwnModule;
+use crate::shelves::Shelf;
 use crate::streams::Streams;
 use strm_blocks::Blocks;
 use strm_frame::clear_queue;
 use strm_head::make_flush;
+use strm_own::OwnModule;
 use strm_types::{Answer, Band, Fates, FlushAsked, FlushQueues, Rule, Side, Spot, Way};
 
 impl Streams {
     ghost use Rattle.strm_types.specs.declared.names.Side.TheVariants.{Slave};
     ghost use Rattle.strm_pair.specs.Effects.{AreAtRest, Becomes, Delivers, Leads, MayDeliver};
+    ghost use Rattle.strm_pair.specs.Enabling.{AreFewEnabled};
     ghost use Rattle.strm_pair.specs.Pairs.{state_in, AreHeld};
 
     /// Flushes a side's stream: an M_FLUSH goes down from its head, with all that it gives rise to.
@@ -49,7 +53,8 @@ impl Streams {
 
     // Lets all go that stands at a side's head.
     fn clear_head<B: Blocks>(&mut self, store: &mut B, side: Side, told: &mut Fates)
-        requires { AreHeld (B.value store.old) self.old }
+        requires held { AreHeld (B.value store.old) self.old }
+        requires enabled { AreFewEnabled (state_in (B.value store.old) self.old) }
         ensures { let s = B.value store.old in let is = head_emptied EndClosed of_all side (state_in s self.old) in
             Leads s (B.value store.new) self.new told.old told.new is.state is.gone }
     {
@@ -67,7 +72,8 @@ impl Streams {
 
     // Lets all go that stands at a side's driver.
     fn clear_driver<B: Blocks>(&mut self, store: &mut B, side: Side, told: &mut Fates)
-        requires { AreHeld (B.value store.old) self.old }
+        requires held { AreHeld (B.value store.old) self.old }
+        requires enabled { AreFewEnabled (state_in (B.value store.old) self.old) }
         ensures { let s = B.value store.old in let is = driver_emptied EndClosed of_all side (state_in s self.old) in
             Leads s (B.value store.new) self.new told.old told.new is.state is.gone }
     {
@@ -105,15 +111,23 @@ impl Streams {
     /// Closes a side. What stands for its readers goes, then its modules from the top with all that they have, and with the
     /// master what both drivers have; the slave's driver keeps what it has for the master. The slave is hung up where the master goes.
     #[inline(never)]
-    pub fn shut<B: Blocks>(&mut self, store: &mut B, side: Side, told: &mut Fates) -> Answer<u32>
-        requires { AreAtRest (B.value store.old) self.old }
+    pub fn shut<B: Blocks, M: OwnModule>(
+        &mut self,
+        shelf: &mut Shelf,
+        store: &mut B,
+        side: Side,
+        told: &mut Fates,
+    ) -> Answer<u32>
+        requires rests { AreAtRest (B.value store.old) self.old }
+        requires stocked { IsStocked M.queued shelf.old (stands_of (state_in (B.value store.old) self.old)) }
+        ensures stocked { IsStocked M.queued shelf.new (stands_of (state_in (B.value store.new) self.new)) }
         ensures answer { result ≡ Done }
         ensures leads { let s = B.value store.old in let is = closed_at side (state_in s self.old) in
             Leads s (B.value store.new) self.new told.old told.new is.state is.gone }
     {
         // From the top: what is let go by a queue that is emptied is the next one's, which then goes, and its turn with it.
         self.clear_head(store, side, told);
-        self.clear_modules(store, side, Rule::EndClosed, told);
+        self.clear_modules(shelf, store, side, Rule::EndClosed, told);
         match side {
             Side::Master => {
                 // Behind the modules: nothing of the master's stream waits for its driver any more, but the slave's may for that one's.

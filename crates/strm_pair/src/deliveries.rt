@@ -9,10 +9,10 @@ ghost use Rattle.strm_frame.specs.Outboxes.{message_in};
 ghost use Rattle.strm_pair.specs.Alone.{IsAlone};
 ghost use Rattle.strm_blocks.specs.Blocks.{token};
 
-use crate::own::OwnModule;
 use crate::streams::Streams;
 use strm_blocks::{Blocks, InHand};
 use strm_frame::deliver;
+use strm_own::OwnModule;
 use strm_types::{Fates, HOPS, Spot};
 
 impl Streams {

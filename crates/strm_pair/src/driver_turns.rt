@@ -14,11 +14,11 @@ ghost use Rattle.strm_queue.specs.Stored.{messages_on, queue_in, IsReady};
 ghost use Rattle.strm_pty.specs.Does.{OnlyQueue};
 ghost use Rattle.strm_pair.specs.Took.{settled, settling_relieves, TookFirst, MovesAcross};
 
-use crate::own::OwnModule;
 use crate::streams::Streams;
 use strm_blocks::{Blocks, InHand};
 use strm_frame::TurnEnd;
 use strm_msg::message_size;
+use strm_own::OwnModule;
 use strm_queue::Queue;
 use strm_queue::standing::{dequeue, relieve};
 use strm_types::{Band, Fates, MsgKind, Side, Spot, Turn, Way};
@@ -47,6 +47,7 @@ fn settle<B: Blocks>(store: &B, queue: &mut Queue, size: usize) -> TurnEnd
 impl Streams {
     ghost use Rattle.strm_blocks.specs.Blocks.{token};
     ghost use Rattle.strm_pair.specs.Effects.{AreAtRest, Becomes, Delivers, MayDeliver};
+    ghost use Rattle.strm_pair.specs.Enabling.{AreFewEnabled};
     ghost use Rattle.strm_pair.specs.Pairs.{state_in, end_at, AreBeside, AreHeld};
 
     // Takes the first message off the queue of a side's driver.
@@ -61,7 +62,8 @@ impl Streams {
 
     // The end of a turn that took a message of this size off the queue of a side's driver.
     fn end_turn<B: Blocks>(&mut self, store: &B, side: Side, size: usize)
-        requires { AreHeld (B.value store.now) self.old }
+        requires held { AreHeld (B.value store.now) self.old }
+        requires enabled { AreFewEnabled (state_in (B.value store.now) self.old) }
         ensures state { state_in (B.value store.now) self.new ≡ turn_ended side size (state_in (B.value store.now) self.old) }
         ensures held { AreHeld (B.value store.now) self.new }
     {

@@ -1,13 +1,13 @@
 //! The nearest earlier queue of a place on a side's stream: the one that is enabled where there is room again (STREAMS Programming
 //! Guide, "Flow Control"). Places count from the head's, 0, over the modules from the top, to the driver's.
 
-ghost use Rattle.std.specs.Prelude.{◌≡◌, ◌≤◌, ◌<◌, ◌+◌, [], ◌∷◌};
+ghost use Rattle.std.specs.Prelude.{◌≡◌, ◌≤◌, ◌<◌, ◌+◌, [], ◌∷◌, length};
 ghost use Rattle.strm_types.specs.declared.limits.TheConstants.{MODULES};
 ghost use Rattle.strm_types.specs.declared.names.Way.{Way};
 ghost use Rattle.strm_laws.specs.Earlier.{before_at, before_modules, driver_place, modules_on, queue_named};
 ghost use Rattle.strm_types.specs.Names.{enable_some};
 ghost use Rattle.strm_laws.specs.Puts.{noted};
-ghost use Rattle.strm_pair.specs.Nearest.{earlier_of, noted_on};
+ghost use Rattle.strm_pair.specs.Nearest.{earlier_of, noted_on, queue_noted};
 
 use crate::stacks::{module_count, place_at};
 use crate::streams::Streams;
@@ -42,6 +42,16 @@ impl Earlier {
     }
 }
 
+// The queue that a note enables, of a place with these nearest earlier queues.
+fn queue_noted(side: Side, place: Option<Place>, earlier: Earlier, note: Note) -> Option<QueueName>
+    ensures { result ≡ queue_noted side place (earlier_of earlier) note }
+{
+    match note {
+        Note::Enable(way) => queue_named(side, way, place),
+        Note::Room(way) => earlier.of(way),
+    }
+}
+
 /// Enables what is said of the queues of a place, one note after the other, by the nearest earlier queues that it had: those of a module
 /// that has gone.
 pub(crate) fn note(
@@ -51,15 +61,13 @@ pub(crate) fn note(
     earlier: Earlier,
     notes: &[Note],
 )
+    requires few { length (noted side place (earlier_of earlier) notes.now enabled.old) ≤ 14 }
     ensures { enabled.new ≡ noted side place (earlier_of earlier) notes.now enabled.old }
 {
     let Some((first, rest)) = notes.split_first() else {
         return;
     };
-    match *first {
-        Note::Enable(way) => enabled.enable_found(queue_named(side, way, place)),
-        Note::Room(way) => enabled.enable_found(earlier.of(way)),
-    }
+    enabled.enable_found(queue_noted(side, place, earlier, *first));
     note(enabled, side, place, earlier, rest);
 }
 
@@ -77,6 +85,7 @@ fn before_modules(side: Side, way: Way, count: usize, at: usize) -> Option<Queue
 
 impl Streams {
     ghost use Rattle.strm_blocks.specs.Blocks.{StoreValue};
+    ghost use Rattle.strm_pair.specs.Enabling.{MayLetGo, MayNote};
     ghost use Rattle.strm_pair.specs.Pairs.{state_in};
 
     /// How many modules have a place on a side's stream.
@@ -109,6 +118,7 @@ impl Streams {
 
     /// Enables that queue, where a waiting writer is let go.
     pub(crate) fn let_go(&mut self, side: Side, way: Way, at: usize, lets_go: bool)
+        requires few { MayLetGo side way at lets_go self.old }
         ensures { (s : StoreValue) → self.new ≡ record self.old {
           enabled =
               enable_some lets_go (before_at side way at (state_in s self.old)) self.old.enabled;
@@ -134,6 +144,7 @@ impl Streams {
     // it, and else not. Inlined, since mostly there is one, and of a head or a driver.
     #[inline(always)]
     fn note_one(&mut self, side: Side, place: Option<Place>, at: usize, note: Note)
+        requires few { MayNote side place at (note ∷ []) self.old }
         ensures { (s : StoreValue) → self.new ≡ noted_on s side place at (note ∷ []) self.old }
     {
         match note {
@@ -144,6 +155,7 @@ impl Streams {
 
     // Does what each note says, one after the other.
     fn note_each(&mut self, side: Side, place: Option<Place>, at: usize, notes: &[Note])
+        requires few { MayNote side place at notes.now self.old }
         ensures { (s : StoreValue) → self.new ≡ noted_on s side place at notes.now self.old }
     {
         let Some((first, rest)) = notes.split_first() else {
@@ -156,6 +168,7 @@ impl Streams {
     /// Does what a put says of the queues of a place of a side's stream, which mostly is nothing.
     #[inline(always)]
     pub(crate) fn note(&mut self, side: Side, place: Option<Place>, at: usize, notes: &[Note])
+        requires few { MayNote side place at notes.now self.old }
         ensures { (s : StoreValue) → self.new ≡ noted_on s side place at notes.now self.old }
     {
         let Some((first, rest)) = notes.split_first() else {

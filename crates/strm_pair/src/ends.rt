@@ -1,42 +1,40 @@
 //! One side's stream.
 
-ghost use Rattle.std.specs.Prelude.{ℕ, ◌≡◌, ◌≤◌};
+ghost use Rattle.std.specs.Prelude.{ℕ, ◌≡◌, ◌≤◌, ◌+◌, []};
 ghost use Rattle.strm_blocks.specs.Blocks.{StoreValue};
 ghost use Rattle.strm_laws.specs.State.{new_stream};
 ghost use Rattle.strm_pair.specs.Streams.{IsBlank, IsSide, stream_in};
 ghost use Rattle.strm_pair.specs.Renewed.{RenewsHead};
 ghost use Rattle.strm_pair.specs.Lists.{first_list};
+ghost use Rattle.strm_pair.specs.Shelves.{Restocks, pairs_among, room_on, tables_on};
 ghost use Rattle.strm_types.specs.declared.names.Openness.TheVariants.{Open, Closed};
 ghost use Rattle.strm_queue.specs.Stored.{IsReady};
 
+use crate::shelves::Shelf;
 use crate::stacks::{Stack, take_modules};
 use strm_blocks::Blocks;
-use strm_frame::Tables;
 use strm_head::Head;
 use strm_queue::{Flush, OTHER_HIGH, OTHER_LOW, Queue};
 use strm_types::{Openness, Side};
 
-/// The first of the four lists on which a side's queues stand.
+/// The first of the eight lists on which a side's queues stand.
 pub(crate) fn first_list(side: Side) -> usize
     ensures list { result ≡ first_list side }
-    ensures small { result ≤ 4 }
+    ensures small { result ≤ 8 }
 {
     match side {
         Side::Master => 0,
-        Side::Slave => 4,
+        Side::Slave => 8,
     }
 }
 
-/// The stream of one side: its head, its modules and its driver's queue, and whether it was opened. The tables of the bands of all its
-/// queues are made with it, so that a push asks for no memory.
+/// The stream of one side: its head, its modules and its driver's queue, and whether it was opened.
 #[derive(Drop)]
 pub(crate) struct StreamEnd {
     pub opened: Openness,
     pub head: Head,
     pub stack: Stack,
     pub driver: Queue,
-    /// The tables for the queues of a module, while no module that has queues stands on the stack.
-    pub shelf: Option<Tables>,
 }
 
 impl StreamEnd {
@@ -68,14 +66,18 @@ impl StreamEnd {
         self.renew_head(store);
     }
 
-    /// Makes the stream as new, in place, where nothing stands on its lists: nobody opened it, and no module stands there.
-    pub fn renew(&mut self)
+    /// Makes the stream as new, in place, where nothing stands on its lists: nobody opened it, and no module stands there. The tables of the queues
+    /// of those that did go onto the shelf.
+    pub fn renew(&mut self, shelf: &mut Shelf)
+        requires { tables_on shelf.old + pairs_among self.old.stack.modules.items ≤ room_on shelf.old }
         ensures side { (s t : StoreValue) (first : ℕ) → IsSide s first self.old → IsBlank t first → IsSide t first self.new }
         ensures stream { (s t : StoreValue) (first : ℕ) → IsSide s first self.old → IsBlank t first → stream_in t self.new ≡ new_stream }
+        ensures stack { self.new.stack.modules.items ≡ [] }
+        ensures shelf { Restocks shelf.old shelf.new (pairs_among self.old.stack.modules.items) 0 }
     {
         self.opened = Openness::Never;
         self.head.renew();
-        take_modules(&mut self.stack, &mut self.shelf);
+        take_modules(&mut self.stack, shelf);
         self.driver.renew(OTHER_HIGH, OTHER_LOW);
     }
 }

@@ -12,10 +12,10 @@ ghost use Rattle.strm_laws.specs.State.{stream};
 ghost use Rattle.strm_blocks.specs.Blocks.{StoreValue};
 ghost use Rattle.strm_frame.specs.Hands.{IsWide};
 
-use crate::own::OwnModule;
 use crate::streams::Streams;
 use strm_blocks::Blocks;
 use strm_head::make_ioctl;
+use strm_own::OwnModule;
 use strm_types::{Answer, Content, Fates, Ioc, Side, Spot, Way, asks_group};
 
 impl Streams {

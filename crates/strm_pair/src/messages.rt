@@ -14,11 +14,11 @@ ghost use Rattle.strm_laws.specs.State.{with_book};
 ghost use Rattle.strm_frame.specs.Hands.{IsWide};
 ghost use Rattle.strm_pair.specs.Parts.{longest_part};
 
-use crate::own::OwnModule;
 use crate::streams::Streams;
 use crate::writes::with_written;
 use strm_blocks::Blocks;
 use strm_head::{getmsg, make_message};
+use strm_own::OwnModule;
 use strm_types::{Answer, Book, Content, Fates, Prio, READ_MAX, Side, Spot, Wanted, Way};
 
 // How many bytes a part has, none where it is absent.
@@ -34,6 +34,7 @@ fn len_of(lent: Option<&[u8]>) -> usize
 
 impl Streams {
     ghost use Rattle.strm_pair.specs.Effects.{Becomes, Delivers, Leads, MayDeliver};
+    ghost use Rattle.strm_pair.specs.Enabling.{AreFewEnabled};
     ghost use Rattle.strm_pair.specs.Pairs.{state_in, AreHeld};
 
     /// Keeps a book of what comes from a side.
@@ -92,6 +93,7 @@ impl Streams {
         told: &mut Fates,
     ) -> Answer<u32>
         requires held { AreHeld (B.value store.old) self.old }
+        requires enabled { AreFewEnabled (state_in (B.value store.old) self.old) }
         requires fresh { out.old.items ≡ [] }
         ensures answer { reply_in result out.new.items ≡ (get_at plain side wanted cmax dmax (state_in (B.value store.old) self.old)).answer }
         ensures filled { answer_len result ≡ length out.new.items }

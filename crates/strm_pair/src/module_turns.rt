@@ -18,10 +18,10 @@ ghost use Rattle.strm_pair.specs.declared.module_turns.Begun.TheVariants.{Over};
 ghost use Rattle.strm_pair.specs.ModuleTurned.{BeginsAs};
 
 use crate::named_queues::place_named;
-use crate::own::OwnModule;
 use crate::streams::Streams;
 use strm_blocks::Blocks;
 use strm_frame::TurnEnd;
+use strm_own::OwnModule;
 use strm_types::{Asks, Fates, Place, QueueName, Side, Spot, Turn};
 
 /// What a turn of a module's queue begins with: it is over, with this answer, or the module at a place may serve.
@@ -32,7 +32,10 @@ pub(crate) enum Begun {
 }
 
 impl Streams {
+    ghost use Rattle.strm_laws.specs.Restorable.{IsThere};
+    ghost use Rattle.strm_laws.specs.StackCosts.{stands_of};
     ghost use Rattle.strm_pair.specs.Effects.{AreAtRest, Leads, MayDeliver};
+    ghost use Rattle.strm_pair.specs.Enabling.{AreFewEnabled};
     ghost use Rattle.strm_pair.specs.Pairs.{free_in, state_in, AreBeside, AreHeld, kept_by};
 
     /// The place of the module on a side's stream whose queues have a name.
@@ -97,7 +100,7 @@ impl Streams {
             at: at as u8,
             way: name.way,
         };
-        match self.end(name.side).stack.asks(store, at, name.way) {
+        match self.end(name.side).stack.asks::<M, B>(store, at, name.way) {
             Asks::Empty => self.stay(store, here, Turn::Idle),
             Asks::Held => self.stay(store, here, Turn::Blocked),
             Asks::Free => Begun::Serves(here),
@@ -114,6 +117,8 @@ impl Streams {
     // The end of a turn in which messages were treated.
     fn end_module_turn<B: Blocks>(&mut self, store: &B, name: QueueName, here: Spot, took: bool)
         requires beside { AreBeside (B.value store.now) self.old }
+        requires enabled { AreFewEnabled (state_in (B.value store.now) self.old) }
+        requires there { IsThere (stands_of (state_in (B.value store.now) self.old)) name }
         requires inside { 0 < here.at }
         requires within { here.at ≤ length (stream here.side (state_in (B.value store.now) self.old)).modules }
         ensures state { state_in (B.value store.now) self.new

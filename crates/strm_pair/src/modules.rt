@@ -8,10 +8,10 @@ ghost use Rattle.strm_laws.specs.Stacked.{OfPtem, without_kind_line};
 ghost use Rattle.strm_blocks.specs.Blocks.{StoreValue};
 ghost use Rattle.strm_pair.specs.AnyModules.{IsBare, IsMade, kind_in};
 
-use crate::own::{Own, OwnModule};
 use strm_blocks::{Blocks, InHand};
-use strm_frame::{Acts, Module, PutProcedure, QueuePair, Served};
+use strm_frame::{Acts, Module, Procedures, QueuePair, Served};
 use strm_ldterm::Ldterm;
+use strm_own::{Own, OwnModule};
 use strm_pty::{Pckt, Ptem};
 use strm_types::{Asks, Fates, ModuleName, Spot, Way};
 
@@ -84,9 +84,9 @@ impl Module for AnyModule {
 
     ghost without_line = { plain.without_kind_line };
 
-    ghost asks = { plain.module_asks };
+    ghost asks = { plain.asks_by };
 
-    ghost serves = { λ here again stop x. plain.module_serves cells.plain here 0 again stop x };
+    ghost serves = { λ own here again stop x. plain.serves_by own cells.plain here 0 again stop x };
 
     ghost MayServe = { any.MayServe };
 
@@ -104,31 +104,6 @@ impl Module for AnyModule {
             AnyModule::Ptem(ptem) => Module::name(ptem),
             AnyModule::Pckt(pckt) => Module::name(pckt),
             AnyModule::Own(own) => Module::name(own),
-        }
-    }
-
-    fn asks<B: Blocks>(&self, queues: &Option<QueuePair>, store: &B, way: Way) -> Asks {
-        match self {
-            AnyModule::Ldterm(ldterm) => ldterm.asks(queues, store, way),
-            AnyModule::Ptem(ptem) => ptem.asks(queues, store, way),
-            AnyModule::Pckt(pckt) => pckt.asks(queues, store, way),
-            AnyModule::Own(own) => own.asks(queues, store, way),
-        }
-    }
-
-    fn serve<B: Blocks>(
-        &mut self,
-        queues: &mut Option<QueuePair>,
-        store: &mut B,
-        here: Spot,
-        again: bool,
-        told: &mut Fates,
-    ) -> Served {
-        match self {
-            AnyModule::Ldterm(ldterm) => ldterm.serve(queues, store, here, again, told),
-            AnyModule::Ptem(ptem) => ptem.serve(queues, store, here, false, told),
-            AnyModule::Pckt(pckt) => pckt.serve(queues, store, here, false, told),
-            AnyModule::Own(own) => own.serve(queues, store, here, false, told),
         }
     }
 
@@ -158,17 +133,16 @@ impl Module for AnyModule {
 
     ghost either_way = { λ way other p may. any.either-serves way other p may };
 
-    ghost turn_goes = { λ here again stop x may. any.serves-on here again stop x.part x.queues may };
-
     ghost line_stays = { λ p way again may. any.line-serves way again p may };
 }
 
-impl<M: OwnModule> PutProcedure<M> for AnyModule {
+impl<M: OwnModule> Procedures<M> for AnyModule {
     ghost use Rattle.strm_types.specs.Cells as cells;
+    ghost use Rattle.strm_laws.specs.Behaviours.{own_by};
     ghost use Rattle.strm_laws.proofs.PutsWithin.{module-within};
     ghost use Rattle.strm_pair.specs.AnyModules as any;
 
-    ghost by = { λ here m x. M.does.puts cells.plain here m x };
+    ghost by = { own_by M.does cells.plain };
 
     ghost wide = { M.wide };
 
@@ -184,11 +158,38 @@ impl<M: OwnModule> PutProcedure<M> for AnyModule {
             AnyModule::Ldterm(ldterm) => ldterm.put(queues, store, here, message, told),
             AnyModule::Ptem(ptem) => ptem.put(queues, store, here, message, told),
             AnyModule::Pckt(pckt) => pckt.put(queues, store, here, message, told),
-            AnyModule::Own(own) => PutProcedure::<M>::put(own, queues, store, here, message, told),
+            AnyModule::Own(own) => { Procedures::<M>::put(own, queues, store, here, message, told) }
+        }
+    }
+
+    fn asks<B: Blocks>(&self, queues: &Option<QueuePair>, store: &B, way: Way) -> Asks {
+        match self {
+            AnyModule::Ldterm(ldterm) => ldterm.asks(queues, store, way),
+            AnyModule::Ptem(ptem) => ptem.asks(queues, store, way),
+            AnyModule::Pckt(pckt) => pckt.asks(queues, store, way),
+            AnyModule::Own(own) => Procedures::<M>::asks(own, queues, store, way),
+        }
+    }
+
+    fn serve<B: Blocks>(
+        &mut self,
+        queues: &mut Option<QueuePair>,
+        store: &mut B,
+        here: Spot,
+        again: bool,
+        told: &mut Fates,
+    ) -> Served {
+        match self {
+            AnyModule::Ldterm(ldterm) => ldterm.serve(queues, store, here, again, told),
+            AnyModule::Ptem(ptem) => ptem.serve(queues, store, here, false, told),
+            AnyModule::Pckt(pckt) => pckt.serve(queues, store, here, false, told),
+            AnyModule::Own(own) => { Procedures::<M>::serve(own, queues, store, here, false, told) }
         }
     }
 
     ghost within = { λ here m x. module-within M.does cells.plain 0 here m x };
 
     ghost put_stays = { λ here m x way again may. any.puts-serve M.does here m way again x.part x.queues may };
+
+    ghost turn_goes = { λ here again stop x may. any.serves-on M.does here again stop x.part x.queues may };
 }

@@ -7,22 +7,23 @@ ghost use Rattle.strm_types.specs.declared.entries.Entry.TheVariants.{Called, Tu
 ghost use Rattle.strm_laws.specs.Earlier.{modules_on};
 ghost use Rattle.strm_laws.specs.Based.{based};
 ghost use Rattle.strm_laws.specs.Pair.{new_pair, call_refused, call_verdict, queue_refused, AddsEntry, Stops};
-ghost use Rattle.strm_types.specs.Journal.{entries_in, entry_len, reply_in, answer_len};
+ghost use Rattle.strm_types.specs.Journal.{entries_in, entry_len};
 ghost use Rattle.strm_laws.specs.Refusals.{enough, has_room};
 ghost use Rattle.strm_laws.specs.Step.{replay, IsLegal};
 ghost use Rattle.strm_laws.specs.Kept.{told_by};
 ghost use Rattle.strm_laws.specs.Ledgers.{Balanced, is_booked, ledger_of, own_places_of, places_of};
 ghost use Rattle.strm_types.specs.declared.names.Dir.{Dir};
 ghost use Rattle.strm_types.specs.Names.{AreQueues};
+ghost use Rattle.strm_pair.specs.Enabling.{AreKnownThere};
 ghost use Rattle.strm_types.specs.Queue.{bytes_of};
 ghost use Rattle.strm_laws.specs.ModuleTurns.{place_named};
 ghost use Rattle.strm_laws.specs.Restorable.{Restorable};
 ghost use Rattle.strm_laws.specs.State.{AreOrdered, book, messages_in, stream};
 ghost use Rattle.strm_blocks.specs.Blocks.{empty_store};
 ghost use Rattle.strm_frame.specs.Hands.{IsWide};
+ghost use Rattle.strm_pair.specs.Makes.{Makes};
 ghost use Rattle.strm_pair.specs.OwnSettings.{settings_among};
 ghost use Rattle.strm_pair.specs.Shows.{Shows, count_at, first_at, full_at, messages_at};
-ghost use Rattle.strm_pair.specs.Parts.{longest_part};
 ghost use Rattle.strm_pair.specs.Pool.{IsPoolOf};
 ghost use Rattle.strm_image.specs.HasImage.{imaged};
 ghost use Rattle.strm_image.specs.Image.{image};
@@ -33,18 +34,19 @@ use crate::answers::own;
 use crate::base::Base;
 use crate::journal::Journal;
 use crate::ledgers::sum;
-use crate::own::{NoModule, OwnModule};
 use crate::own_settings::settings_among;
 use crate::past::Past;
 use crate::refusals::or_else;
+use crate::shelves::Shelf;
 use crate::streams::{Streams, queue_tables};
 use std::alloc::Global;
 use std::marker::{Model, PhantomData};
 use strm_blocks::{Blocks, Reserve};
 use strm_image::{IMAGE_BLOCK, IMAGE_FIXED};
+use strm_own::{NoModule, OwnModule};
 use strm_types::{
     Answer, Band, Caller, Config, Content, Dir, Entry, Event, Fates, LISTS, Ledger, NoMemory,
-    Place, QueueName, READ_MAX, ReadBytes, Refusal, Side, Turn, Verdict, turn_blocks, unless,
+    Place, QueueName, ReadBytes, Refusal, Side, Turn, Verdict, turn_blocks, unless,
 };
 
 /// A pair of a master and a slave, whose messages stand in a store of its own. Contracts see it as its plain state, its
@@ -53,6 +55,7 @@ use strm_types::{
 pub struct Pair<B: Blocks + Drop, M: OwnModule = NoModule> {
     store: B,
     streams: Streams,
+    shelf: Shelf,
     journal: Journal,
     base: Base,
     limits: Config,
@@ -78,7 +81,7 @@ impl<B: Blocks + Drop, M: OwnModule> Model for Pair<B, M> {
 
     ghost view = { λ p. pair_of (B.value p.store) p.streams p.journal (start_in p.base) p.limits p.fates };
 
-    ghost invariant = { λ p. IsWhole M.does M.wide (B.value p.store) p.streams p.journal p.base p.limits p.fates };
+    ghost invariant = { λ p. IsWhole M.does M.wide M.queued (B.value p.store) p.streams p.shelf p.journal p.base p.limits p.fates };
 }
 
 impl<B: Blocks + Drop, M: OwnModule> Pair<B, M> {
@@ -95,7 +98,7 @@ impl<B: Blocks + Drop, M: OwnModule> Pair<B, M> {
             (λ p. p ≡ new_pair (sizes_over (B.value store) sizes))
             (λ e. B.value e.1 ≡ B.value store) }
     {
-        let Ok(tables) = queue_tables(alloc) else {
+        let Ok(tables) = queue_tables::<M>(alloc) else {
             return Err((NoMemory, store));
         };
         let Ok(journal) = Journal::new(alloc, sizes.journal_events, sizes.journal_bytes) else {
@@ -106,7 +109,7 @@ impl<B: Blocks + Drop, M: OwnModule> Pair<B, M> {
         let Ok(memory) = Vec::with_capacity(alloc, IMAGE_FIXED + IMAGE_BLOCK * mblks) else {
             return Err((NoMemory, store));
         };
-        let streams = Streams::new(tables);
+        let streams = Streams::new(tables.ends);
         let fates = Fates::none();
         let base = Base::at(&store, &streams, &fates, memory);
         let limits = Config {
@@ -117,6 +120,7 @@ impl<B: Blocks + Drop, M: OwnModule> Pair<B, M> {
         Ok(Pair {
             store,
             streams,
+            shelf: tables.shelf,
             journal,
             base,
             limits,
@@ -152,17 +156,18 @@ impl<B: Blocks + Drop, M: OwnModule> Pair<B, M> {
         ensures { self.new ≡ new_pair self.old.limits }
     {
         self.store.reset();
-        self.streams.renew();
+        self.streams.renew(&mut self.shelf);
         self.journal.clear();
         self.fates = Fates::none();
         self.base.past = Past::none();
         self.base.write(&self.store, &self.streams, &self.fates);
     }
 
-    /// The queues that are enabled, in order of enabling: each is of a place where queues stand.
+    /// The queues that are enabled, in order of enabling: each is of a place where queues stand, of modules only of such of which there are some.
     pub fn enabled(&self) -> &[QueueName]
         ensures names { result.now ≡ self.now.state.enabled }
         ensures queues { AreQueues result.now }
+        ensures known { AreKnownThere M.does result.now }
     {
         self.streams.enabled.as_slice()
     }
@@ -404,12 +409,7 @@ impl<B: Blocks + Drop, M: OwnModule> Pair<B, M> {
         event: &Event<&[u8]>,
         out: &mut Content,
     ) -> Result<Answer<u32>, Refusal>
-        ensures refused { MatchOption (call_refused M.does self.old caller (request event.now)) (IsOk result)
-            (λ r. (result ≡ Err r) × ((self.new ≡ self.old) × (out.new ≡ out.old))) }
-        ensures adds { IfOk result (λ answer.
-            AddsEntry M.does self.old self.new (Called caller (request event.now) (reply_in answer out.new.items))) }
-        ensures filled { IfOk result (λ answer. answer_len answer ≡ length out.new.items) }
-        ensures parts { IfOk result (λ answer. longest_part answer ≤ READ_MAX) }
+        ensures { Makes M.does self.old self.new caller (request event.now) result out.old out.new }
     {
         match event {
             Event::Write { bytes } => self.write_apart(caller, bytes, out),
@@ -417,7 +417,7 @@ impl<B: Blocks + Drop, M: OwnModule> Pair<B, M> {
             Event::Put { .. } => self.put_apart(caller, event, out),
             Event::Get { .. } => self.get_apart(caller, event, out),
             Event::Ioctl { .. } => self.ioctl_apart(caller, event, out),
-            _ => self.call_apart(caller, event, out),
+            _ => self.open_apart(caller, event, out),
         }
     }
 

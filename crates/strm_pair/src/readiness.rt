@@ -3,9 +3,9 @@
 ghost use Rattle.std.specs.Prelude.{◌≡◌};
 ghost use Rattle.strm_pair.specs.Readiness.{is_answered, is_eagain, readiness};
 
-use crate::own::OwnModule;
 use crate::streams::Streams;
 use strm_blocks::Blocks;
+use strm_own::OwnModule;
 use strm_types::{Band, Refusal, Side, Slot, Wanted};
 
 /// What the calls of a side find, as things stand. It is told by what they would be refused for, and no call is made.

@@ -14,10 +14,10 @@ ghost use Rattle.strm_types.specs.Names.{is_never, is_open};
 ghost use Rattle.strm_laws.specs.State.{stream};
 
 use crate::ends::StreamEnd;
-use crate::own::{OwnModule, is_known};
 use crate::stacks::module_count;
 use crate::streams::Streams;
 use strm_blocks::Blocks;
+use strm_own::{OwnModule, is_known};
 use strm_queue::standing::has_no_data;
 use strm_types::{
     Access, Band, Caller, Event, IOCTL_END, MODULES, ModuleName, Needs, Openness, Prio, Reach,

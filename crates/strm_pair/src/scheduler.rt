@@ -8,9 +8,9 @@ ghost use Rattle.strm_laws.specs.Refusals.{enough, in_range};
 ghost use Rattle.strm_laws.specs.Rest.{EchoesOnce, work};
 ghost use Rattle.strm_laws.specs.StackCosts.{stands_of};
 
-use crate::own::OwnModule;
 use crate::pair::Pair;
 use strm_blocks::Blocks;
+use strm_own::OwnModule;
 use strm_types::Refusal;
 
 /// How many turns were made, and for what the next one is refused, if a queue is enabled still.
@@ -23,8 +23,8 @@ pub struct Ran {
 impl<B: Blocks + Drop, M: OwnModule> Pair<B, M> {
     /// Makes turns, each of the queue that was enabled first, until none is enabled or the next one is refused: JournalFull, ENOSR or ERANGE
     /// ([`Pair::turn`]). The journal gains an entry a turn, so it ends: two `ldterm`s that echo each other's echo go on till the journal
-    /// is full. Where one stands there at most, with no `pckt` below it, no queue is enabled in the end, if the journal had an entry for each
-    /// move of a message, and 32 blocks of each kind and room in the books are left. No memory is taken.
+    /// is full. Where one stands there at most, with no `pckt` below it, and no module of a user's own has queues, no queue is enabled in the end, if
+    /// the journal had an entry for each move of a message, and 32 blocks of each kind and room in the books are left. No memory is taken.
     pub fn runqueues(&mut self) -> Ran
         ensures ran { RanTurns M.does result.turns self.old self.new }
         ensures entries { length self.new.journal ≡ length self.old.journal + result.turns }

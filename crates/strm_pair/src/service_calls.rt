@@ -10,11 +10,11 @@ ghost use Rattle.strm_frame.specs.Hands.{IsWide};
 ghost use Rattle.strm_frame.specs.Outboxes.{sent_of};
 ghost use Rattle.strm_pair.specs.ModuleServed.{ActsAs, BookTakes, CallsAs, IsKeptAll, MayBook, MayCall, StackServes, StopsFew, TreatsAs, between, call_of, with_more};
 
-use crate::own::OwnModule;
 use crate::stacks::place_at;
 use crate::streams::Streams;
 use strm_blocks::Blocks;
 use strm_frame::{Served, deliver_all};
+use strm_own::OwnModule;
 use strm_types::{Fates, HOPS, Side, Spot};
 
 // How many bytes were made in each direction, modulo 2^64.
@@ -63,7 +63,9 @@ pub(crate) struct Call {
 }
 
 impl Streams {
+    ghost use Rattle.strm_laws.specs.StackCosts.{stands_of};
     ghost use Rattle.strm_pair.specs.Effects.{MayDeliver};
+    ghost use Rattle.strm_pair.specs.Enabling.{AreFewEnabled};
     ghost use Rattle.strm_pair.specs.Pairs.{state_in, end_at, with_end, AreBeside, SamePool};
 
     // How many bytes are booked as made in each direction.
@@ -89,37 +91,45 @@ impl Streams {
     }
 
     // The stack of a side serves a call of a turn, and nothing else of the streams changes.
-    fn serve_at<B: Blocks>(
+    fn serve_at<B: Blocks, M: OwnModule>(
         &mut self,
         store: &mut B,
         here: Spot,
         again: bool,
         told: &mut Fates,
     ) -> Served
-        requires { MayCall (B.value store.old) self.old here again }
+        requires may { MayCall (B.value store.old) self.old here again }
+        requires wide { IsWide M.wide (B.value store.old) }
         ensures streams { self.new ≡ with_end here.side (record (end_at here.side self.old) { stack = (end_at here.side self.new).stack }) self.old }
-        ensures serves { StackServes (B.value store.old) (B.value store.new) (end_at here.side self.old).stack (end_at here.side self.new).stack
-            here again result told.old told.new }
+        ensures serves { StackServes M.does (B.value store.old) (B.value store.new) (end_at here.side self.old).stack
+            (end_at here.side self.new).stack here again result told.old told.new }
     {
         self.ends
             .get_mut(here.side)
             .stack
-            .serve(store, here, again, told)
+            .serve::<M, B>(store, here, again, told)
     }
 
     // The module at a place serves a call of a turn: what it says of its queues goes by how the stream was before, and what it made is
     // booked.
-    fn act<B: Blocks>(&mut self, store: &mut B, here: Spot, again: bool, told: &mut Fates) -> Served
+    fn act<B: Blocks, M: OwnModule>(
+        &mut self,
+        store: &mut B,
+        here: Spot,
+        again: bool,
+        told: &mut Fates,
+    ) -> Served
         requires may { MayCall (B.value store.old) self.old here again }
         requires books { MayBook here again (state_in (B.value store.old) self.old) }
-        ensures { ActsAs (B.value store.old) (B.value store.new) self.old self.new here again
+        requires wide { IsWide M.wide (B.value store.old) }
+        ensures { ActsAs M.does (B.value store.old) (B.value store.new) self.old self.new here again
             (call_of result) (sent_of result.acts.sent) told.old told.new }
     {
         store.audit();
         let at = here.at as usize;
         let place = place_at(&self.end(here.side).stack, at);
         let before = Made::of(told);
-        let served = self.serve_at(store, here, again, told);
+        let served = self.serve_at::<B, M>(store, here, again, told);
         self.note(here.side, place, at, served.acts.notes.as_slice());
         self.book_made(before, told);
         served
@@ -139,7 +149,7 @@ impl Streams {
         requires wide { IsWide M.wide (B.value store.old) }
         ensures { CallsAs M.does (B.value store.old) (B.value store.new) self.old self.new here again result told.old told.new }
     {
-        let served = self.act(store, here, again, told);
+        let served = self.act::<B, M>(store, here, again, told);
         store.audit();
         let call = Call {
             bytes: served.bytes,
@@ -170,6 +180,8 @@ impl Streams {
         ensures beside { AreBeside (B.value store.new) self.new }
         ensures hand { IsKeptAll (B.value store.new) self.new }
         ensures pool { SamePool (B.value store.old) (B.value store.new) }
+        ensures enabled { AreFewEnabled (state_in (B.value store.new) self.new) }
+        ensures stands { stands_of (state_in (B.value store.new) self.new) ≡ stands_of (state_in (B.value store.old) self.old) }
     {
         let mut call = self.call_module::<B, M>(store, here, false, told);
         let mut bytes = call.bytes;

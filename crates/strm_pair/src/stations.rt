@@ -29,7 +29,6 @@ ghost use Rattle.strm_pair.specs.Effects.{MayPut};
 ghost use Rattle.strm_pair.specs.PutBy.{PutBy, CameBy, StackTakes};
 ghost use Rattle.strm_pair.specs.Staying.{KeepsBlocks};
 
-use crate::own::OwnModule;
 use crate::service_calls::Made;
 use crate::stacks::place_at;
 use crate::streams::Streams;
@@ -37,6 +36,7 @@ use strm_blocks::{Blocks, InHand};
 use strm_frame::{Acts, Outbox, Sent, Stations};
 use strm_head::{Down, make_flush};
 use strm_msg::booked_size;
+use strm_own::OwnModule;
 use strm_pty::{make, put};
 use strm_types::{Across, Fates, MODULES, MsgKind, Place, Rule, Side, Spot, Way};
 
@@ -80,6 +80,7 @@ fn is_flush(kind: MsgKind) -> bool
 }
 
 impl Streams {
+    ghost use Rattle.strm_pair.specs.Enabling.{AreFewEnabled};
     ghost use Rattle.strm_pair.specs.Pairs.{state_in, end_at, with_end, AreBeside, kept_by};
     ghost use Rattle.strm_blocks.specs.Blocks.{StoreValue};
 
@@ -120,6 +121,7 @@ impl Streams {
     ) -> Option<Down>
         requires may { MayPut (B.value store.old) self.old (token message) }
         requires opened { is_open (stream to.side (state_in (B.value store.old) self.old)).opened ≡ true }
+        requires enabled { AreFewEnabled (state_in (B.value store.old) self.old) }
         ensures { let s = B.value store.old in
             CameBy s (B.value store.new) self.old self.new (token message) (sent_down to result) told.old told.new
             (put_at_head to.side to (message_in s (token message)) (state_in s self.old)) }
@@ -145,6 +147,7 @@ impl Streams {
         requires may { MayPut (B.value store.old) self.old (token message) }
         requires room { HasRoom (B.value store.old) (head_takes (message_in (B.value store.old) (token message))) }
         requires top { to.at ≡ 0 }
+        requires enabled { AreFewEnabled (state_in (B.value store.old) self.old) }
         ensures does { let s = B.value store.old in let m = message_in s (token message) in
             PutBy s (B.value store.new) self.old self.new (token message) (head_takes m)
             (sent_of result) told.old told.new (put_at_head to.side to m (state_in s self.old)) }
@@ -198,6 +201,7 @@ impl Streams {
         requires inside { 0 < to.at }
         requires within { (s : StoreValue) → to.at ≤ modules_on to.side (state_in s self.old) }
         requires wide { IsWide M.wide (B.value store.old) }
+        requires enabled { AreFewEnabled (state_in (B.value store.old) self.old) }
         ensures does { let s = B.value store.old in let m = message_in s (token message) in let st = state_in s self.old in
             let ms = (stream to.side st).modules in
             PutBy s (B.value store.new) self.old self.new (token message) (at_place (module_takes to m) 0 to.at ms)
@@ -225,6 +229,7 @@ impl Streams {
     ) -> Outbox
         requires may { MayPut (B.value store.old) self.old (token message) }
         requires room { HasRoom (B.value store.old) (driver_own to.way (message_in (B.value store.old) (token message))) }
+        requires enabled { AreFewEnabled (state_in (B.value store.old) self.old) }
         ensures does { let s = B.value store.old in let m = message_in s (token message) in
             PutBy s (B.value store.new) self.old self.new (token message) (driver_own to.way m)
             (sent_of result) told.old told.new (put_at_driver to.side to m (state_in s self.old)) }
@@ -273,6 +278,7 @@ impl Streams {
         requires may { MayPut (B.value store.old) self.old (token message) }
         requires room { HasRoom (B.value store.old) (up_takes to (message_in (B.value store.old) (token message))) }
         requires up { to.way ≡ Up }
+        requires enabled { AreFewEnabled (state_in (B.value store.old) self.old) }
         ensures does { let s = B.value store.old in let m = message_in s (token message) in
             PutBy s (B.value store.new) self.old self.new (token message) (up_takes to m)
             (sent_of result) told.old told.new (put_behind Up to m (state_in s self.old)) }
@@ -298,6 +304,7 @@ impl Streams {
         requires room { let s = B.value store.old in let st = state_in s self.old in
             MayTake s (spare st) (costs (stands_of st) (spot_in s to (token message))).own }
         requires wide { IsWide M.wide (B.value store.old) }
+        requires enabled { AreFewEnabled (state_in (B.value store.old) self.old) }
         ensures does { let s = B.value store.old in let m = message_in s (token message) in let st = state_in s self.old in
             PutBy s (B.value store.new) self.old self.new (token message) (costs (stands_of st) (spot_in s to (token message))).own
             (sent_of result) told.old told.new (put_in M.does plain to m st) }

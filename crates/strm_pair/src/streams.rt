@@ -1,9 +1,11 @@
 //! Both streams of a pair, and what calls and turns do to them, on the store in which their messages stand.
 
 ghost use Rattle.std.specs.Bool.{OnTrue};
-ghost use Rattle.std.specs.Prelude.{ℕ, ◌≡◌, ◌+◌, ◌≤◌, false, [], length, min, None};
+ghost use Rattle.std.specs.Prelude.{ℕ, ◌≡◌, ◌+◌, ◌≤◌, false, true, [], length, min, IfOk, None};
 ghost use Rattle.strm_laws.specs.Ledgers.{FewBooked};
 ghost use Rattle.strm_types.specs.Cells.{plain};
+ghost use Rattle.strm_laws.specs.Known.{all_known};
+ghost use Rattle.strm_laws.specs.StackCosts.{stands_of};
 ghost use Rattle.strm_laws.specs.State.{opening, new_stream};
 ghost use Rattle.strm_types.specs.declared.answers.Answer.TheVariants.{Done, Bytes};
 ghost use Rattle.strm_types.specs.declared.names.Openness.TheVariants.{Open};
@@ -18,20 +20,22 @@ ghost use Rattle.strm_types.specs.Refused.{turn_blocks};
 ghost use Rattle.strm_laws.specs.Spares.{spare};
 ghost use Rattle.strm_types.specs.Journal.{reply_in, answer_len, content_max};
 ghost use Rattle.strm_blocks.specs.Blocks.{StoreValue, empty_store};
+ghost use Rattle.strm_pair.specs.Shelves.{IsFull, IsStocked, Restocks, pairs_in, room_on, tables_on};
 ghost use Rattle.strm_pair.specs.Streams.{IsBlank, IsSide, stream_in};
 ghost use Rattle.strm_pair.specs.Parts.{longest_part};
 
 use crate::ends::{StreamEnd, first_list};
-use crate::own::OwnModule;
+use crate::shelves::Shelf;
 use crate::stacks::Stack;
 use std::alloc::{AllocError, Global};
 use strm_blocks::Blocks;
-use strm_frame::{Enabled, Tables};
+use strm_frame::Enabled;
 use strm_head::Head;
+use strm_own::OwnModule;
 use strm_queue::{HEAD_HIGH, HEAD_LOW, OTHER_HIGH, OTHER_LOW, Queue, Table};
 use strm_types::{
-    Answer, Book, Both, Caller, Content, Event, Fates, Mode, Openness, Place, QueueName, READ_MAX,
-    Side, Turn, Way,
+    Answer, Book, Both, Caller, Content, Event, Fates, MODULES, Mode, Openness, Place, QueueName,
+    READ_MAX, Side, Turn, Way,
 };
 
 /// The streams of a pair, whether its slave is locked, the queues that are enabled, the number that the next ioctl gets,
@@ -45,12 +49,11 @@ pub(crate) struct Streams {
     pub books: Both<Book>,
 }
 
-/// The tables of all queues that one side may have.
+/// The tables of the queues at both ends of a side's stream.
 #[derive(Drop)]
 pub(crate) struct SideTables {
     pub head: Table,
     pub driver: Table,
-    pub modules: Tables,
 }
 
 impl SideTables {
@@ -59,23 +62,35 @@ impl SideTables {
         Ok(SideTables {
             head: Table::new(alloc)?,
             driver: Table::new(alloc)?,
-            modules: Tables::new(alloc)?,
         })
     }
 }
 
-/// The tables of the queues of both sides, 32 KB in all.
-pub(crate) fn queue_tables(alloc: Global) -> Result<Both<SideTables>, AllocError> {
-    Ok(Both {
-        master: SideTables::new(alloc)?,
-        slave: SideTables::new(alloc)?,
+/// The tables of all queues that a pair may have.
+#[derive(Drop)]
+pub(crate) struct QueueTables {
+    pub ends: Both<SideTables>,
+    pub shelf: Shelf,
+}
+
+/// Asks for the tables of all queues that a pair may have with these modules of a user's own: 32 KB where none of them have queues, and 64 KB else.
+pub(crate) fn queue_tables<M: OwnModule>(alloc: Global) -> Result<QueueTables, AllocError>
+    ensures { IfOk result (λ tables. IsFull M.queued tables.shelf) }
+{
+    let pairs = if M::queued() { 2 * MODULES } else { 2 };
+    Ok(QueueTables {
+        ends: Both {
+            master: SideTables::new(alloc)?,
+            slave: SideTables::new(alloc)?,
+        },
+        shelf: Shelf::new(alloc, pairs)?,
     })
 }
 
-// A stream that nobody opened, whose queues stand on the lists from a number on: the head's, the driver's, and two that
-// are kept for the queues of a module.
+// A stream that nobody opened, whose queues stand on the lists from a number on: the head's and the driver's. Those behind are for the queues of
+// modules.
 fn new_end(first: usize, tables: SideTables) -> StreamEnd
-    requires { first ≤ 4 }
+    requires { first ≤ 8 }
     ensures side { (s : StoreValue) → IsBlank s first → IsSide s first result }
     ensures stream { (s : StoreValue) → IsBlank s first → stream_in s result ≡ new_stream }
 {
@@ -84,13 +99,13 @@ fn new_end(first: usize, tables: SideTables) -> StreamEnd
         head: Head::new(Queue::new(first, HEAD_HIGH, HEAD_LOW, tables.head)),
         stack: Stack::new(),
         driver: Queue::new(first + 1, OTHER_HIGH, OTHER_LOW, tables.driver),
-        shelf: Some(tables.modules),
     }
 }
 
 impl Streams {
     ghost use Rattle.strm_types.specs.declared.names.Side.TheVariants.{Master};
     ghost use Rattle.strm_pair.specs.Effects.{AreAtRest, Becomes, Leads, MayDeliver};
+    ghost use Rattle.strm_pair.specs.Enabling.{AreFewEnabled};
     ghost use Rattle.strm_pair.specs.Pairs.{free_in, state_in, end_at, with_end, AreBeside, AreHeld};
 
     /// The streams of a new pair.
@@ -113,13 +128,15 @@ impl Streams {
         }
     }
 
-    /// Makes the streams as new, in place, where nothing stands in the store.
-    pub fn renew(&mut self)
+    /// Makes the streams as new, in place, where nothing stands in the store. The tables of the queues of modules that stood go onto the shelf.
+    pub fn renew(&mut self, shelf: &mut Shelf)
+        requires { tables_on shelf.old + pairs_in self.old ≤ room_on shelf.old }
+        ensures shelf { Restocks shelf.old shelf.new (pairs_in self.old) 0 }
         ensures state { (s : StoreValue) (mblks dblks : ℕ) → AreBeside s self.old → state_in (empty_store mblks dblks) self.new ≡ opening }
         ensures held { (s : StoreValue) (mblks dblks : ℕ) → AreBeside s self.old → AreHeld (empty_store mblks dblks) self.new }
     {
-        self.ends.master.renew();
-        self.ends.slave.renew();
+        self.ends.master.renew(shelf);
+        self.ends.slave.renew(shelf);
         self.locked = true;
         self.enabled = Enabled::new();
         self.next_ioctl = 1;
@@ -148,7 +165,8 @@ impl Streams {
     /// Opens the slave: its head is as new, and what waits for it may come.
     #[inline(never)]
     pub fn open_slave<B: Blocks>(&mut self, store: &mut B) -> Answer<u32>
-        requires { AreHeld (B.value store.old) self.old }
+        requires held { AreHeld (B.value store.old) self.old }
+        requires enabled { AreFewEnabled (state_in (B.value store.old) self.old) }
         ensures answer { result ≡ Done }
         ensures leads { (told : Fates) → let s = B.value store.old in
             Leads s (B.value store.new) self.new told told (opened_slave (state_in s self.old)) [] }
@@ -179,6 +197,7 @@ impl Streams {
         told: &mut Fates,
     )
         requires held { AreHeld (B.value store.old) self.old }
+        requires enabled { AreFewEnabled (state_in (B.value store.old) self.old) }
         requires fresh { out.old.items ≡ [] }
         ensures answer { Bytes out.new.items ≡ (read_at plain side n (state_in (B.value store.old) self.old)).answer }
         ensures most { length out.new.items ≤ min n READ_MAX }
@@ -199,6 +218,7 @@ impl Streams {
     #[inline(always)]
     pub fn carry_out<B: Blocks, M: OwnModule>(
         &mut self,
+        shelf: &mut Shelf,
         store: &mut B,
         caller: Caller,
         event: &Event<&[u8]>,
@@ -210,6 +230,9 @@ impl Streams {
         requires fits { unfit M.does (state_in (B.value store.old) self.old) caller (request event.now) ≡ None }
         requires room { HasRoom (B.value store.old) (blocks_asked (request event.now)) }
         requires wide { IsWide M.wide (B.value store.old) }
+        requires known { all_known M.does (state_in (B.value store.old) self.old) ≡ true }
+        requires stocked { IsStocked M.queued shelf.old (stands_of (state_in (B.value store.old) self.old)) }
+        ensures stocked { IsStocked M.queued shelf.new (stands_of (state_in (B.value store.new) self.new)) }
         ensures answer { reply_in result out.new.items
             ≡ (performed M.does plain caller (request event.now) (state_in (B.value store.old) self.old)).answer }
         ensures filled { answer_len result ≡ length out.new.items }
@@ -226,10 +249,10 @@ impl Streams {
             Event::OpenMaster => self.open_master(),
             Event::Unlock => self.unlock(),
             Event::OpenSlave => self.open_slave(store),
-            Event::Shut => self.shut(store, side, told),
+            Event::Shut => self.shut::<B, M>(shelf, store, side, told),
             Event::Flush { what, band } => self.flush::<B, M>(store, side, *what, *band, told),
-            Event::Push { name } => self.push::<B, M>(store, side, *name, told),
-            Event::Pop => self.pop::<B, M>(store, side, told),
+            Event::Push { name } => self.push::<B, M>(shelf, store, side, *name, told),
+            Event::Pop => self.pop::<B, M>(shelf, store, side, told),
             Event::Look => self.look(side),
             Event::Write { bytes } => Answer::Count(self.write::<B, M>(store, side, bytes, told)),
             Event::Read { n } => {

@@ -14,10 +14,10 @@ ghost use Rattle.strm_laws.specs.Writes.{below_head, chunks_sent};
 ghost use Rattle.strm_blocks.specs.Blocks.{StoreValue};
 ghost use Rattle.strm_frame.specs.Hands.{HasRoom, IsWide, Spends};
 
-use crate::own::OwnModule;
 use crate::streams::Streams;
 use strm_blocks::Blocks;
 use strm_head::write;
+use strm_own::OwnModule;
 use strm_types::{Band, Book, Fates, Side, Spot, Way, chunk_count};
 
 // A book with so many more bytes written.

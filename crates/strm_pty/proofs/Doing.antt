@@ -1,19 +1,17 @@
 -- Puts at drivers, step by step.
-use Rattle.strm_pty.proofs.Prelude.{ℕ, ◌≡◌, ◌≢◌, ◌≤◌, ◌<◌, ◌+◌, cond, eqb, List, [], ◌∷◌, ◌++◌, refl, sym, ap, subst, ◌∙◌, arith, inl, inr, None}
-use Rattle.strm_pty.proofs.Prelude.{cases_eq, sum_by-cons, stays-chain, once-self, parcels-same, chains-same, one-parts, one-chains, no-parts}
+use Rattle.strm_pty.proofs.Prelude.{ℕ, ◌≡◌, ◌≢◌, ◌≤◌, ◌<◌, ◌+◌, List, [], ◌∷◌, ◌++◌, refl, sym, ap, subst, ◌∙◌, arith, None}
+use Rattle.strm_pty.proofs.Prelude.{stays-chain, once-self, parcels-same, chains-same, one-parts, one-chains, no-parts}
 use Rattle.strm_pty.proofs.Prelude.{none-chains, shifts-both, shifts-as, shifts-freed}
 use Rattle.strm_pty.specs.Prelude.{MsgKind, Fates, Note, Acted, Parcel, tallied, Message, Block, StoreValue, IsStore, IsInHand, in_hand, held}
 use Rattle.strm_pty.specs.Prelude.{dropped, times_in, token, Queue, queue_in, IsReady, Acts, Sent, once, Shifts, HasRoom, sent_of, times_sent}
 use Rattle.strm_pty.specs.Prelude.{parcels_in, AreChains}
 use Rattle.std.specs.Prelude.{slice_index_or}
 use Rattle.strm_types.specs.Queue as plain
-use Rattle.strm_blocks.specs.Blocks.{Held}
 use Rattle.strm_msg.specs.Messages.{AreMessages}
-use Rattle.strm_msg.proofs.Hands.{other-name}
 use Rattle.strm_queue.specs.Kept.{AreCounted}
-use Rattle.strm_frame.specs.Hands.{CanPut}
 use Rattle.strm_frame.specs.Outboxes.{parcel_in}
 use Rattle.strm_frame.proofs.Shifting.{shifts-none}
+pub use Rattle.strm_frame.proofs.Handing.{can-of, once-none, times-held}
 use Rattle.strm_pty.specs.Does.{OnlyQueue, Does, Alters, Makes, Swaps, MadeOne}
 
 -- where no list changed
@@ -39,24 +37,6 @@ only-both s t u q q' q'' first second = record {
   list = second.list ∙ first.list;
   others = λ k ne. second.others k (λ e. ne (e ∙ first.list)) ∙ first.others k ne;
 }
-
--- a message in hand, where nothing is kept
-pub once-none : (i j : ℕ) → i ≢ j → once i j ≡ 0
-unfolding once
-once-none i j ne = ap (λ v. cond {A = ℕ} v 1 0) (other-name i j ne)
-
-pub can-of : (s : StoreValue) (i : ℕ) → IsInHand s i → CanPut s i (λ _. 0)
-can-of s i is = record {
-  apart = λ j. elim (cases_eq i j) [
-    | inl e ↦ (let t = ap (λ k. times_in k s.hand) e in let o = ap (λ k. once i k) e in let u = once-self i in omega arith)
-    | inr ne ↦ (let o = once-none i j ne in omega arith)
-  ];
-}
-
--- a message that came
-pub times-held : (s : StoreValue) (i : ℕ) (chain : List Block) (j : ℕ) → times_in j (held s i chain).hand ≡ once i j + times_in j s.hand
-unfolding once
-times-held s i chain j = sum_by-cons (λ (h : Held). cond (eqb h.name j) 1 0) (record { name = i; chain = chain }) s.hand
 
 pub times-none : (i : ℕ) (made : List Sent) → made ≡ [] → times_sent i made ≡ 0
 unfolding times_sent

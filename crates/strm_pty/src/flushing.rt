@@ -12,11 +12,11 @@ ghost use Rattle.strm_frame.specs.Hands.{HasRoom};
 ghost use Rattle.strm_frame.specs.Outboxes.{message_in};
 ghost use Rattle.strm_pty.specs.Does.{Does, Alters, Makes};
 
-use crate::making::{asked_of, flush_to};
-use crate::taking::note_if;
+use crate::making::flush_to;
 use arrayvec::ArrayVec;
 use strm_blocks::{Blocks, InHand};
-use strm_frame::{Acts, Outbox, Sent};
+use strm_frame::flushes::asked_of;
+use strm_frame::{Acts, Outbox, Sent, note_if};
 use strm_queue::Queue;
 use strm_queue::emptying::{Chosen, empty, going};
 use strm_types::{Across, Fates, FlushAsked, MODULES, Note, Rule, Side, Spot, Way};

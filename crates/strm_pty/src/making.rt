@@ -4,15 +4,13 @@ ghost use Rattle.std.specs.Prelude.{◌≡◌, ◌≤◌, false, true, length};
 ghost use Rattle.std.specs.Option.{option_to_list};
 ghost use Rattle.strm_types.specs.Drivers.{reader_flush};
 ghost use Rattle.strm_types.specs.Flush.{is_data_kind};
-ghost use Rattle.strm_types.specs.Flushing.{asked_by};
-ghost use Rattle.strm_blocks.specs.Blocks.{IsInHand, in_hand, block_at, token};
+ghost use Rattle.strm_blocks.specs.Blocks.{token};
 ghost use Rattle.strm_frame.specs.Hands.{HasRoom};
-ghost use Rattle.strm_frame.specs.Outboxes.{message_in};
 ghost use Rattle.strm_pty.specs.Does.{MadeOne, Makes};
 
 use strm_blocks::{Blocks, InHand};
 use strm_frame::Sent;
-use strm_msg::{first_bytes, from_bytes};
+use strm_msg::from_bytes;
 use strm_types::{Band, FlushAsked, MsgKind, Spot};
 
 /// Makes a message of a kind without parts, of band 0, in one block.
@@ -45,15 +43,4 @@ pub(crate) fn flush_to<B: Blocks>(
     } else {
         None
     }
-}
-
-/// What an M_FLUSH in hand asks for.
-pub(crate) fn asked_of<B: Blocks>(store: &B, message: &InHand) -> FlushAsked
-    requires in_hand { IsInHand (B.value store.now) (token message.now) }
-    requires kind { is_data_kind (block_at 0 (in_hand (B.value store.now) (token message.now))).kind ≡ false }
-    ensures asked { result ≡ asked_by (message_in (B.value store.now) (token message.now)).plain }
-{
-    let mut bytes = [0; 2];
-    let count = first_bytes(store, message, &mut bytes);
-    FlushAsked::read(&bytes[..count])
 }

@@ -5,7 +5,7 @@ use crate::pckt::{self, Pckt};
 use crate::ptem::{self, Ptem};
 use arrayvec::ArrayVec;
 use strm_blocks::{Blocks, InHand};
-use strm_frame::{Acts, Module, Outbox, PutProcedure, QueuePair, Served};
+use strm_frame::{Acts, Module, Outbox, Procedures, QueuePair, Served};
 use strm_types::{Asks, Fates, ModuleName, Spot, Way};
 
 impl Module for Pckt {
@@ -34,9 +34,9 @@ impl Module for Pckt {
 
     ghost without_line = { λ p. p };
 
-    ghost asks = { λ way x. Empty };
+    ghost asks = { λ by way x. Empty };
 
-    ghost serves = { λ here again stop x. unserved x };
+    ghost serves = { λ by here again stop x. unserved x };
 
     ghost MayServe = { λ way again p. again ≡ false };
 
@@ -50,6 +50,47 @@ impl Module for Pckt {
 
     fn name(&self) -> ModuleName {
         ModuleName::Pckt
+    }
+
+    fn line_len(&self) -> usize {
+        0
+    }
+
+    fn clear_line(&mut self) -> usize {
+        0
+    }
+
+    ghost frame = { λ s t x queues others lists same held. (refl, none-same queues others lists held) };
+
+    ghost rested = { λ s t x queues others lists none held. (refl, none-same queues others lists held) };
+
+    ghost rests = { λ s x queues way i held may. refl };
+
+    ghost either_way = { λ way other p may. may };
+
+    ghost line_stays = { λ p way again may. may };
+}
+
+impl Procedures<()> for Pckt {
+    ghost use Rattle.std.specs.Prelude.{refl, false};
+    ghost use Rattle.strm_types.specs.Cells as cells;
+    ghost use Rattle.strm_types.proofs.PcktWithin.{pckt-within};
+    ghost use Rattle.strm_frame.specs.NoOwn.{no_own};
+
+    ghost by = { no_own };
+
+    ghost wide = { false };
+
+    fn put<B: Blocks>(
+        &mut self,
+        _queues: &mut Option<QueuePair>,
+        store: &mut B,
+        here: Spot,
+        message: InHand,
+        told: &mut Fates,
+    ) -> Acts {
+        store.audit();
+        pckt::put(store, here, message, told)
     }
 
     fn asks<B: Blocks>(&self, _queues: &Option<QueuePair>, _store: &B, _way: Way) -> Asks {
@@ -75,51 +116,11 @@ impl Module for Pckt {
         }
     }
 
-    fn line_len(&self) -> usize {
-        0
-    }
-
-    fn clear_line(&mut self) -> usize {
-        0
-    }
-
-    ghost frame = { λ s t x queues others lists same held. (refl, none-same queues others lists held) };
-
-    ghost rested = { λ s t x queues others lists none held. (refl, none-same queues others lists held) };
-
-    ghost rests = { λ s x queues way i held may. refl };
-
-    ghost either_way = { λ way other p may. may };
-
-    ghost turn_goes = { λ here again stop x may. refl };
-
-    ghost line_stays = { λ p way again may. may };
-}
-
-impl PutProcedure<()> for Pckt {
-    ghost use Rattle.std.specs.Prelude.{false, []};
-    ghost use Rattle.strm_types.specs.Cells as cells;
-    ghost use Rattle.strm_types.proofs.PcktWithin.{pckt-within};
-
-    ghost by = { λ here m x. record { state = x; notes = []; sent = []; gone = [] } };
-
-    ghost wide = { false };
-
-    fn put<B: Blocks>(
-        &mut self,
-        _queues: &mut Option<QueuePair>,
-        store: &mut B,
-        here: Spot,
-        message: InHand,
-        told: &mut Fates,
-    ) -> Acts {
-        store.audit();
-        pckt::put(store, here, message, told)
-    }
-
     ghost within = { λ here m x. pckt-within cells.plain 0 here m };
 
     ghost put_stays = { λ here m x way again may. may };
+
+    ghost turn_goes = { λ here again stop x may. refl };
 }
 
 impl Module for Ptem {
@@ -148,9 +149,9 @@ impl Module for Ptem {
 
     ghost without_line = { λ p. p };
 
-    ghost asks = { λ way x. Empty };
+    ghost asks = { λ by way x. Empty };
 
-    ghost serves = { λ here again stop x. unserved x };
+    ghost serves = { λ by here again stop x. unserved x };
 
     ghost MayServe = { λ way again p. again ≡ false };
 
@@ -164,6 +165,47 @@ impl Module for Ptem {
 
     fn name(&self) -> ModuleName {
         ModuleName::Ptem
+    }
+
+    fn line_len(&self) -> usize {
+        0
+    }
+
+    fn clear_line(&mut self) -> usize {
+        0
+    }
+
+    ghost frame = { λ s t x queues others lists same held. (refl, none-same queues others lists held) };
+
+    ghost rested = { λ s t x queues others lists none held. (refl, none-same queues others lists held) };
+
+    ghost rests = { λ s x queues way i held may. refl };
+
+    ghost either_way = { λ way other p may. may };
+
+    ghost line_stays = { λ p way again may. may };
+}
+
+impl Procedures<()> for Ptem {
+    ghost use Rattle.std.specs.Prelude.{refl, false};
+    ghost use Rattle.strm_types.specs.Ptems as plain;
+    ghost use Rattle.strm_types.proofs.PtemWithin.{ptem-within};
+    ghost use Rattle.strm_frame.specs.NoOwn.{no_own};
+
+    ghost by = { no_own };
+
+    ghost wide = { false };
+
+    fn put<B: Blocks>(
+        &mut self,
+        _queues: &mut Option<QueuePair>,
+        store: &mut B,
+        here: Spot,
+        message: InHand,
+        _told: &mut Fates,
+    ) -> Acts {
+        store.audit();
+        ptem::put(self, store, here, message)
     }
 
     fn asks<B: Blocks>(&self, _queues: &Option<QueuePair>, _store: &B, _way: Way) -> Asks {
@@ -189,49 +231,9 @@ impl Module for Ptem {
         }
     }
 
-    fn line_len(&self) -> usize {
-        0
-    }
-
-    fn clear_line(&mut self) -> usize {
-        0
-    }
-
-    ghost frame = { λ s t x queues others lists same held. (refl, none-same queues others lists held) };
-
-    ghost rested = { λ s t x queues others lists none held. (refl, none-same queues others lists held) };
-
-    ghost rests = { λ s x queues way i held may. refl };
-
-    ghost either_way = { λ way other p may. may };
-
-    ghost turn_goes = { λ here again stop x may. refl };
-
-    ghost line_stays = { λ p way again may. may };
-}
-
-impl PutProcedure<()> for Ptem {
-    ghost use Rattle.std.specs.Prelude.{false, []};
-    ghost use Rattle.strm_types.specs.Ptems as plain;
-    ghost use Rattle.strm_types.proofs.PtemWithin.{ptem-within};
-
-    ghost by = { λ here m x. record { state = x; notes = []; sent = []; gone = [] } };
-
-    ghost wide = { false };
-
-    fn put<B: Blocks>(
-        &mut self,
-        _queues: &mut Option<QueuePair>,
-        store: &mut B,
-        here: Spot,
-        message: InHand,
-        _told: &mut Fates,
-    ) -> Acts {
-        store.audit();
-        ptem::put(self, store, here, message)
-    }
-
     ghost within = { λ here m x. ptem-within here m x.part };
 
     ghost put_stays = { λ here m x way again may. may };
+
+    ghost turn_goes = { λ here again stop x may. refl };
 }

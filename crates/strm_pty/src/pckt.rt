@@ -19,9 +19,10 @@ ghost use Rattle.strm_pty.specs.Beside.{MayPass};
 ghost use Rattle.strm_pty.specs.Does.{Makes, Swaps};
 ghost use Rattle.strm_pty.specs.Packs.{Becomes, Packs, packet_of, pckt_in, puts};
 
-use crate::making::{asked_of, make};
+use crate::making::make;
 use arrayvec::ArrayVec;
 use strm_blocks::{Blocks, InHand};
+use strm_frame::flushes::asked_of;
 use strm_frame::{Acts, Outbox, Sent};
 use strm_msg::{message_size, set_kinds};
 use strm_types::{Fates, FlushAsked, MsgKind, Spot, Way};

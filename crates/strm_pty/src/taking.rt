@@ -1,6 +1,6 @@
 //! Messages that a driver keeps for the other side, or frees.
 
-ghost use Rattle.std.specs.Prelude.{◌≡◌, if◌then◌else◌, [], ◌∷◌, false};
+ghost use Rattle.std.specs.Prelude.{◌≡◌, [], false};
 ghost use Rattle.strm_types.specs.Drivers.{taken_in};
 ghost use Rattle.strm_blocks.specs.Blocks.{IsInHand, in_hand, token};
 ghost use Rattle.strm_msg.specs.Messages.{IsChain};
@@ -10,22 +10,11 @@ ghost use Rattle.strm_pty.specs.Does.{Does, Swaps};
 
 use arrayvec::ArrayVec;
 use strm_blocks::{Blocks, InHand};
-use strm_frame::{Acts, Outbox};
+use strm_frame::{Acts, Outbox, note_if};
 use strm_msg::booked_size;
 use strm_queue::Queue;
 use strm_queue::standing::enqueue;
 use strm_types::{Across, Fates, Note, Rule, Side, Way};
-
-/// A note, where a condition holds.
-pub(crate) fn note_if(holds: bool, note: Note) -> ArrayVec<Note, 4>
-    ensures { result.items ≡ (if holds then note ∷ [] else []) }
-{
-    let mut notes = ArrayVec::new();
-    if holds {
-        notes.push(note);
-    }
-    notes
-}
 
 /// Frees a message, and nothing comes of it.
 pub(crate) fn let_go<B: Blocks>(store: &mut B, message: InHand) -> Acts

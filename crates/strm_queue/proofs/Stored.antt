@@ -3,6 +3,7 @@ use Rattle.std.proofs.Common.{ℕ, Bool, true, false, ◌≡◌, ◌≤◌, ◌<
 use Rattle.std.specs.Prelude.{sum_by, slice_set, if◌then◌else◌, ◌==◌}
 use Rattle.std.proofs.lemmas.Bool.Decides.{nat_tests}
 use Rattle.std.proofs.lemmas.List.Sums.{sum_by-cons}
+use Rattle.strm_types.specs.declared.limits.TheConstants.{LISTS}
 use Rattle.strm_types.proofs.Ranked.{sum-put, sum-put_back}
 use Rattle.strm_blocks.specs.Blocks.{Block, StoreValue, IsStore, in_hand, list_at, held, placed, dropped, put, put_back, rank_of}
 use Rattle.strm_queue.specs.declared.flow.Flow.{Flow}
@@ -21,13 +22,13 @@ count-fits s k i band flows is counted low =
     omega (arith, few-bytes s is k i, count-few band (list_at s k), count-kept band (flow_at band flows) (list_at s k) (counted.each band low))
 
 -- the numbers are right after a put, and after a put back
-pub put-counted : (s : StoreValue) (k i : ℕ) (flows : List Flow) → IsStore s → k < 8 → AreCounted flows (list_at s k) → band_of (in_hand s i) < 256
+pub put-counted : (s : StoreValue) (k i : ℕ) (flows : List Flow) → IsStore s → k < LISTS → AreCounted flows (list_at s k) → band_of (in_hand s i) < 256
     → AreCounted (slice_set flows (band_of (in_hand s i)) (added_to (is_data (in_hand s i)) (bytes_of (in_hand s i)) (flow_at (band_of (in_hand s i)) flows))) (list_at (placed (dropped s i) k (put (in_hand s i) (list_at s k))) k)
 put-counted s k i flows is lt counted low =
     rw (list-placed (dropped s i) k (put (in_hand s i) (list_at s k)) (omega (arith, is.eight)))
     (counted-added flows (list_at s k) (put (in_hand s i) (list_at s k)) (in_hand s i) low (λ f. sum-put rank_of f (in_hand s i) (list_at s k)) (all-put (λ chain. band_of chain < 256) rank_of (in_hand s i) (list_at s k) low counted.bands) counted)
 
-pub put_back-counted : (s : StoreValue) (k i : ℕ) (flows : List Flow) → IsStore s → k < 8 → AreCounted flows (list_at s k) → band_of (in_hand s i) < 256
+pub put_back-counted : (s : StoreValue) (k i : ℕ) (flows : List Flow) → IsStore s → k < LISTS → AreCounted flows (list_at s k) → band_of (in_hand s i) < 256
     → AreCounted (slice_set flows (band_of (in_hand s i)) (added_to (is_data (in_hand s i)) (bytes_of (in_hand s i)) (flow_at (band_of (in_hand s i)) flows))) (list_at (placed (dropped s i) k (put_back (in_hand s i) (list_at s k))) k)
 put_back-counted s k i flows is lt counted low =
     rw (list-placed (dropped s i) k (put_back (in_hand s i) (list_at s k)) (omega (arith, is.eight)))

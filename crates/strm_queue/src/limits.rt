@@ -16,9 +16,9 @@ pub const OTHER_HIGH: u32 = 512;
 /// The low-water mark of any other queue as it is made, in bytes.
 pub const OTHER_LOW: u32 = 128;
 
-/// Whether a store has a list of this number, from 0 to 7.
+/// Whether a store has a list of this number, below `LISTS`.
 pub fn is_list(list: usize) -> bool
-    ensures { result ≡ nat_lt list 8 }
+    ensures { result ≡ nat_lt list LISTS }
 {
     list < LISTS
 }

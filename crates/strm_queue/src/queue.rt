@@ -10,7 +10,7 @@ ghost use Rattle.strm_queue.specs.Flows.{count_in, marked_with, relieves, reliev
 ghost use Rattle.strm_queue.specs.Flushes.{takes_all};
 ghost use Rattle.strm_types.specs.Queue.{with_writer_at, with_marks, is_none_left};
 ghost use Rattle.strm_types.specs.declared.kinds.Band.{Band};
-ghost use Rattle.strm_types.specs.declared.limits.TheConstants.{BANDS};
+ghost use Rattle.strm_types.specs.declared.limits.TheConstants.{BANDS, LISTS};
 ghost use Rattle.std.specs.List.{list_any};
 
 use crate::flows::Flows;
@@ -28,7 +28,7 @@ pub struct Queue {
     pub flows: Flows,
     pub want_read: bool,
     pub no_enable: bool,
-    pub ghost on_list: { list < 8 },
+    pub ghost on_list: { list < LISTS },
 }
 
 impl Queue {
@@ -38,7 +38,7 @@ impl Queue {
     /// `OTHER_HIGH` and `OTHER_LOW` for any other. `is_list` and `are_marks` test what is asked here. What the bands above 0 have
     /// is kept in the table, at no cost for its making.
     pub fn new(list: usize, high: u32, low: u32, table: Table) -> Queue
-        requires list { list < 8 }
+        requires list { list < LISTS }
         requires some { 1 ≤ high }
         requires order { low ≤ high }
         ensures counted { AreCounted result.flows [] }

@@ -9,7 +9,7 @@ use Rattle.strm_raw.specs.Numbered.{Nodes, Row, DataRow, row_at, data_at, no_row
 use Rattle.strm_raw.specs.Roster.{Roster}
 use Rattle.strm_raw.specs.Raw.{ids, block_no, shown, value_of, IsRaw, IsHere, askew}
 use Rattle.strm_raw.specs.Lists.{AreListed}
-use Rattle.strm_raw.specs.declared.neighbours.Ends.{Ends}
+use Rattle.strm_raw.specs.declared.neighbours.KeptEnds.{KeptEnds}
 use Rattle.strm_raw.specs.declared.msg_nodes.MsgLink.{MsgLink}
 use Rattle.strm_raw.specs.declared.data_nodes.DataLink.{DataLink}
 use Rattle.strm_raw.proofs.Finding.{found, found-named}
@@ -90,7 +90,7 @@ module _ {v : Nodes} {b : Roster} {first_m : Option MsgLink} {first_d : Option D
         ap (λ (y : Row). shown v1.datas y) (get_or-set_same v.rows t x no_row t-there)
         ∙ (λ j. record (shown v.datas r) { bytes = front j; room = left j })
 
-    pub appended : {ends : List Ends} → AreListed v ends b → Becomes v' ends b first_m first_d spare_m spare_d (changed s n (with_block at (written new (block_at at (in_hand s n))) (in_hand s n)))
+    pub appended : {ends : List KeptEnds} → AreListed v ends b → Becomes v' ends b first_m first_d spare_m spare_d (changed s n (with_block at (written new (block_at at (in_hand s n))) (in_hand s n)))
     appended listed =
         let c = is.referenced d in
         let hits : 0 < cond {A = ℕ} (eqb (row_at t v.rows).number d) 1 0 = (let e = ap (λ (y : Row). y.number) row-is in grind (arith, nat_tests)) in

@@ -7,17 +7,17 @@ use Rattle.strm_raw.specs.Numbered.{Nodes, Row, row_at}
 use Rattle.strm_raw.specs.Roster.{Roster}
 use Rattle.strm_raw.specs.Raw.{IsRaw, value_of}
 use Rattle.strm_raw.specs.Lists.{AreListed}
-use Rattle.strm_raw.specs.declared.neighbours.Ends.{Ends}
+use Rattle.strm_raw.specs.declared.neighbours.KeptEnds.{KeptEnds}
 use Rattle.strm_raw.specs.declared.msg_nodes.MsgLink.{MsgLink}
 use Rattle.strm_raw.specs.declared.data_nodes.DataLink.{DataLink}
 use Rattle.strm_raw.proofs.Listed.{kept-listed}
 
-pub record Becomes (v : Nodes) (ends : List Ends) (b : Roster) (first_m : Option MsgLink) (first_d : Option DataLink) (spare_m spare_d : ℕ) (s : StoreValue) : Type 0 where
+pub record Becomes (v : Nodes) (ends : List KeptEnds) (b : Roster) (first_m : Option MsgLink) (first_d : Option DataLink) (spare_m spare_d : ℕ) (s : StoreValue) : Type 0 where
   pub raw : IsRaw v first_m first_d spare_m spare_d b
   pub listed : AreListed v ends b
   pub value : value_of v b ≡ s
 
-module _ {ends : List Ends} {first_m : Option MsgLink} {first_d : Option DataLink} {spare_m spare_d : ℕ} where
+module _ {ends : List KeptEnds} {first_m : Option MsgLink} {first_d : Option DataLink} {spare_m spare_d : ℕ} where
   pub becomes-as : {v : Nodes} {b : Roster} {s s' : StoreValue} → Becomes v ends b first_m first_d spare_m spare_d s → s ≡ s' → Becomes v ends b first_m first_d spare_m spare_d s'
   becomes-as d e = record { raw = d.raw; listed = d.listed; value = d.value ∙ e }
 

@@ -13,7 +13,7 @@ use Rattle.strm_raw.specs.Numbered.{Nodes, Row, DataRow, row_at, row_of, data_at
 use Rattle.strm_raw.specs.Roster.{Msg, Roster}
 use Rattle.strm_raw.specs.Raw.{weigh, ids, times, chain_of, held_of, block_no, shown, value_of, breaks, IsRaw, IsHere, next_of, is_there, askew, msg_in, without_in, heads}
 use Rattle.strm_raw.specs.Lists.{AreListed}
-use Rattle.strm_raw.specs.declared.neighbours.Ends.{Ends}
+use Rattle.strm_raw.specs.declared.neighbours.KeptEnds.{KeptEnds}
 use Rattle.strm_raw.specs.declared.changes.Change.{Change}
 use Rattle.strm_raw.specs.declared.changes.Change.TheVariants.{Head, Tail, Kind, Band}
 use Rattle.strm_raw.specs.declared.msg_nodes.MsgLink.{MsgLink}
@@ -177,7 +177,7 @@ module _ {v : Nodes} {b : Roster} {first_m : Option MsgLink} {first_d : Option D
       ∙ ap (λ k. block_no v k) (sym link-is)
 
   -- where another row with the same links is written there, which shows another block
-  pub edited : {ends : List Ends} → AreListed v ends b → (v' : Nodes) (old r : Row) → old ≡ row_at (msg_number v.mat link) v.rows → links r ≡ links old → askew r ≡ 0
+  pub edited : {ends : List KeptEnds} → AreListed v ends b → (v' : Nodes) (old r : Row) → old ≡ row_at (msg_number v.mat link) v.rows → links r ≡ links old → askew r ≡ 0
       → v' ≡ with_row (msg_number v.mat link) r v → (f : Block → Block) → shown v.datas r ≡ f (shown v.datas old) → Becomes v' ends b first_m first_d spare_m spare_d (changed s n (with_block at (f (block_at at (in_hand s n))) (in_hand s n)))
   edited listed v' old r row same straight written f shows =
       let t = block is l here at inside in let there = block-there is l here at inside in

@@ -4,6 +4,7 @@ use Rattle.std.specs.Prelude.{◌⊎◌, Option, None, Some, option_map, not, Ma
 use Rattle.std.proofs.lemmas.Bool.Decides.{nat_tests}
 use Rattle.std.proofs.lemmas.List.{append-nil, append_assoc, length-append, map-append, set-set, set-get_or}
 use Rattle.std.proofs.lemmas.List.Sums.{sum_by-cons}
+use Rattle.strm_types.specs.declared.limits.TheConstants.{LISTS}
 use denote.RawPtr.{Ptr}
 use Rattle.strm_types.specs.Flush.{is_flushed}
 use Rattle.strm_blocks.specs.declared.asked.FlushWhat.{FlushWhat}
@@ -18,6 +19,7 @@ use Rattle.strm_raw.specs.Wiped.{AreWiped}
 use Rattle.strm_raw.specs.Flushing.{Gathers}
 use Rattle.strm_raw.specs.Tails.{Hangs}
 use Rattle.strm_raw.specs.declared.neighbours.Ends.{Ends}
+use Rattle.strm_raw.specs.declared.neighbours.KeptEnds.{KeptEnds}
 use Rattle.strm_raw.specs.declared.msg_nodes.MsgLink.{MsgLink}
 use Rattle.strm_raw.specs.declared.data_nodes.DataLink.{DataLink}
 use Rattle.strm_raw.proofs.Standing.{empty}
@@ -37,7 +39,7 @@ takes_row what r = is_flushed what.all (option_map (λ b. b.0) what.band) r.kind
 
 module _ (s0 : StoreValue) (k : ℕ) (what : FlushWhat) where
   -- the walk stands before the rear of a list
-  pub record Walk (v : Nodes) (ends : List Ends) (b : Roster) (first_m : Option MsgLink) (first_d : Option DataLink) (spare_m spare_d : ℕ) (at : Option MsgLink) (left : ℕ) : Type 0 where
+  pub record Walk (v : Nodes) (ends : List KeptEnds) (b : Roster) (first_m : Option MsgLink) (first_d : Option DataLink) (spare_m spare_d : ℕ) (at : Option MsgLink) (left : ℕ) : Type 0 where
     pub raw : IsRaw v first_m first_d spare_m spare_d b
     pub wiped : AreWiped v.datas
     pub listed : AreListed v ends b
@@ -49,12 +51,12 @@ module _ (s0 : StoreValue) (k : ℕ) (what : FlushWhat) where
     pub short : length rear ≤ left
     pub sifted : map (chain_of v) front ++ flushed what (map (chain_of v) rear) ≡ flushed what (list_at s0 k)
 
-  pub record Sifting (v : Nodes) (ends : List Ends) (b : Roster) (first_m : Option MsgLink) (first_d : Option DataLink) (spare_m spare_d : ℕ) (at : Option MsgLink) (left : ℕ) (taken : Option InHand) : Type 0 where
+  pub record Sifting (v : Nodes) (ends : List KeptEnds) (b : Roster) (first_m : Option MsgLink) (first_d : Option DataLink) (spare_m spare_d : ℕ) (at : Option MsgLink) (left : ℕ) (taken : Option InHand) : Type 0 where
     pub walk : Walk v ends b first_m first_d spare_m spare_d at left
     pub gathered : Taken taken s0 (placed s0 k []) (placed (value_of v b) k [])
 
   -- one message is in hand beside what was taken before
-  pub record Loose (v : Nodes) (ends : List Ends) (b : Roster) (first_m : Option MsgLink) (first_d : Option DataLink) (spare_m spare_d : ℕ) (at : Option MsgLink) (left : ℕ) (taken : Option InHand) (i : ℕ) : Type 0 where
+  pub record Loose (v : Nodes) (ends : List KeptEnds) (b : Roster) (first_m : Option MsgLink) (first_d : Option DataLink) (spare_m spare_d : ℕ) (at : Option MsgLink) (left : ℕ) (taken : Option InHand) (i : ℕ) : Type 0 where
     pub walk : Walk v ends b first_m first_d spare_m spare_d at left
     pub rest : StoreValue
     pub chain : List Block
@@ -72,7 +74,7 @@ module _ (s0 : StoreValue) (k : ℕ) (what : FlushWhat) where
     after = whole ∙ ap (λ (s : StoreValue). placed s k q) t.after ∙ ap (λ (s : StoreValue). held s (token m) t.chain) again;
   }
 
-  pub sift-begins : {v : Nodes} {ends : List Ends} {b : Roster} {first_m : Option MsgLink} {first_d : Option DataLink} {spare_m spare_d : ℕ} → IsRaw v first_m first_d spare_m spare_d b → AreWiped v.datas → AreListed v ends b → value_of v b ≡ s0
+  pub sift-begins : {v : Nodes} {ends : List KeptEnds} {b : Roster} {first_m : Option MsgLink} {first_d : Option DataLink} {spare_m spare_d : ℕ} → IsRaw v first_m first_d spare_m spare_d b → AreWiped v.datas → AreListed v ends b → value_of v b ≡ s0
       → (e : Ends) → e ≡ ends_at k ends → (n : ℕ) → n ≡ length v.rows → Sifting v ends b first_m first_d spare_m spare_d e.first n None
   sift-begins {v = v} {ends = ends} {b = b} is wiped listed view e e_is n all = record {
     walk = record {
@@ -90,7 +92,7 @@ module _ (s0 : StoreValue) (k : ℕ) (what : FlushWhat) where
     gathered = ap (λ (s : StoreValue). placed s k []) view;
   }
 
-  module _ {v : Nodes} {ends : List Ends} {b : Roster} {first_m : Option MsgLink} {first_d : Option DataLink} {spare_m spare_d : ℕ} {at : Option MsgLink} {left : ℕ} where
+  module _ {v : Nodes} {ends : List KeptEnds} {b : Roster} {first_m : Option MsgLink} {first_d : Option DataLink} {spare_m spare_d : ℕ} {at : Option MsgLink} {left : ℕ} where
     -- a step past a message
     module _ (w : Walk v ends b first_m first_d spare_m spare_d at left) (more : 0 < left) (l : MsgLink) (eq : at ≡ Some l)
         (next : Option MsgLink) (step : option_map (msg_number v.mat) next ≡ (row_at (msg_number v.mat l) v.rows).ahead) (next_there : IsMsgOrNone v.mat (length v.rows) next) where
@@ -140,7 +142,7 @@ module _ (s0 : StoreValue) (k : ℕ) (what : FlushWhat) where
       }
 
       -- one that a flush takes
-      pub walk-takes : {v' : Nodes} {ends' : List Ends} {b' : Roster} → k < 8 → takes_row what (row_at (msg_number v.mat l) v.rows) ≡ true → Unseats v v' ends ends' b b' k l
+      pub walk-takes : {v' : Nodes} {ends' : List KeptEnds} {b' : Roster} → k < LISTS → takes_row what (row_at (msg_number v.mat l) v.rows) ≡ true → Unseats v v' ends ends' b b' k l
           → (taken : Option InHand) → Taken taken s0 (placed s0 k []) (placed (value_of v b) k []) → Loose v' ends' b' first_m first_d spare_m spare_d next (left - 1) taken (msg_number v.mat l)
       walk-takes {v' = v'} {ends' = ends'} {b' = b'} within goes u taken t =
           let done = taken-off w.raw w.listed k within l w.front m ys shape first.1.1.1 u in

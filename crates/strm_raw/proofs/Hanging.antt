@@ -8,14 +8,14 @@ use Rattle.strm_raw.specs.Roster.{Roster}
 use Rattle.strm_raw.specs.Raw.{ids, chain_of, value_of, IsRaw, IsHere, IsChain, msg_in, with_in, without_in, joined}
 use Rattle.strm_raw.specs.Lists.{AreListed}
 use Rattle.strm_raw.specs.Tails.{Hangs}
-use Rattle.strm_raw.specs.declared.neighbours.Ends.{Ends}
+use Rattle.strm_raw.specs.declared.neighbours.KeptEnds.{KeptEnds}
 use Rattle.strm_raw.specs.declared.msg_nodes.MsgLink.{MsgLink}
 use Rattle.strm_raw.specs.declared.data_nodes.DataLink.{DataLink}
 use Rattle.strm_raw.proofs.Becoming.{Becomes, becomes-as, row-becomes}
 use Rattle.strm_raw.proofs.Finding.{found, found-linked, here-by}
 use Rattle.strm_raw.proofs.Joining as joining
 
-pub record Hung (v v' : Nodes) (b b' : Roster) (ends : List Ends) (first_m : Option MsgLink) (first_d : Option DataLink) (spare_m spare_d : ℕ) (s : StoreValue) (i j : ℕ) : Type 0 where
+pub record Hung (v v' : Nodes) (b b' : Roster) (ends : List KeptEnds) (first_m : Option MsgLink) (first_d : Option DataLink) (spare_m spare_d : ℕ) (s : StoreValue) (i j : ℕ) : Type 0 where
   pub becomes : Becomes v' ends b' first_m first_d spare_m spare_d (changed (dropped s j) i (in_hand s i ++ in_hand s j))
   pub lists : b'.lists ≡ b.lists
   pub mat : v'.mat ≡ v.mat
@@ -23,7 +23,7 @@ pub record Hung (v v' : Nodes) (b b' : Roster) (ends : List Ends) (first_m : Opt
   pub datas : v'.datas ≡ v.datas
   pub chains : chain_of v' ≡ chain_of v
 
-module _ {v v' : Nodes} {b b' : Roster} {ends : List Ends} {first_m : Option MsgLink} {first_d : Option DataLink} {spare_m spare_d : ℕ} (is : IsRaw v first_m first_d spare_m spare_d b) (listed : AreListed v ends b)
+module _ {v v' : Nodes} {b b' : Roster} {ends : List KeptEnds} {first_m : Option MsgLink} {first_d : Option DataLink} {spare_m spare_d : ℕ} (is : IsRaw v first_m first_d spare_m spare_d b) (listed : AreListed v ends b)
     {s : StoreValue} (view : value_of v b ≡ s) (i j : ℕ) (here_i : IsInHand s i) (here_j : IsInHand s j) (apart : i ≢ j) (h : Hangs v v' b b' i j) where
   here : IsHere v b h.head
   here = here-by v b s view h.head i i h.there h.number refl here_i

@@ -2,16 +2,18 @@
 use Rattle.std.proofs.Common.{ℕ, ◌≡◌, ◌≤◌, ◌<◌, List, ◌++◌, length, map, refl, sym, ap, ◌∙◌, subst, arith}
 use Rattle.std.proofs.Math.ListN.{set}
 use Rattle.std.specs.Prelude.{Option, None, option_map, unwrap_or}
+use Rattle.strm_types.specs.declared.limits.TheConstants.{LISTS}
 use Rattle.strm_types.specs.Ranked as ranked
 use Rattle.strm_blocks.specs.Blocks.{Block, rank_of, list_at, in_hand, dropped, placed}
 use Rattle.strm_raw.specs.Numbered.{Nodes, msg_number, IsMsgOrNone}
 use Rattle.strm_raw.specs.Roster.{Msg, Roster}
 use Rattle.strm_raw.specs.Raw.{chain_of, value_of, IsRaw, IsHere, msg_in}
-use Rattle.strm_raw.specs.Lists.{AreListed, IsList, Seats, along, pick, begin_of, end_of, ends_at, queue_at, seated}
+use Rattle.strm_raw.specs.Lists.{AreListed, IsList, Seats, along, kept, pick, begin_of, end_of, ends_at, queue_at, seated}
 use Rattle.strm_raw.specs.Places.{rank_at, RanksAt, place_in, put_by}
 use Rattle.strm_raw.specs.declared.neighbours.Course.{Course}
 use Rattle.strm_raw.specs.declared.neighbours.Course.TheVariants.{On, Back}
 use Rattle.strm_raw.specs.declared.neighbours.Ends.{Ends}
+use Rattle.strm_raw.specs.declared.neighbours.KeptEnds.{KeptEnds}
 use Rattle.strm_raw.specs.declared.msg_nodes.MsgLink.{MsgLink}
 use Rattle.strm_raw.specs.declared.data_nodes.DataLink.{DataLink}
 use Rattle.strm_raw.proofs.Becoming.{Becomes}
@@ -22,7 +24,7 @@ use Rattle.strm_raw.proofs.Seating.{put-on}
 use Rattle.strm_raw.proofs.Placing.{queue-few, puts-there, order-there}
 
 -- no list counts more messages than a store has blocks
-pub count-few : {v : Nodes} {ends : List Ends} {b : Roster} {first_m : Option MsgLink} {first_d : Option DataLink} {spare_m spare_d : ℕ} → IsRaw v first_m first_d spare_m spare_d b → AreListed v ends b
+pub count-few : {v : Nodes} {ends : List KeptEnds} {b : Roster} {first_m : Option MsgLink} {first_d : Option DataLink} {spare_m spare_d : ℕ} → IsRaw v first_m first_d spare_m spare_d b → AreListed v ends b
     → (k : ℕ) → (ends_at k ends).count < 65537
 count-few is listed k = omega (arith, listed.counted k, queue-few is k, is.few_m, is.most_m)
 
@@ -36,10 +38,10 @@ number-of : (f : MsgLink → ℕ) (c : Course) (x y : Option MsgLink) → option
 number-of f On x y = refl
 number-of f Back x y = refl
 
-module _ {v v' : Nodes} {ends ends' : List Ends} {b b' : Roster} {first_m : Option MsgLink} {first_d : Option DataLink} {spare_m spare_d : ℕ} (is : IsRaw v first_m first_d spare_m spare_d b) (listed : AreListed v ends b)
-    (k : ℕ) (within : k < 8) (l : MsgLink) (here : IsHere v b l) (r : ℕ) (rank_is : r ≡ rank_at v.rows (msg_number v.mat l)) (before after : Option MsgLink)
+module _ {v v' : Nodes} {ends ends' : List KeptEnds} {b b' : Roster} {first_m : Option MsgLink} {first_d : Option DataLink} {spare_m spare_d : ℕ} (is : IsRaw v first_m first_d spare_m spare_d b) (listed : AreListed v ends b)
+    (k : ℕ) (within : k < LISTS) (l : MsgLink) (here : IsHere v b l) (r : ℕ) (rank_is : r ≡ rank_at v.rows (msg_number v.mat l)) (before after : Option MsgLink)
     (e : Ends) (seats : Seats v.mat v.rows v'.rows (ends_at k ends) e (option_map (msg_number v.mat) before) (msg_number v.mat l) (option_map (msg_number v.mat) after))
-    (first : IsMsgOrNone v.mat (length v.rows) e.first) (last : IsMsgOrNone v.mat (length v.rows) e.last) (nodes : v' ≡ record v { rows = v'.rows }) (ends_are : ends' ≡ set ends k e)
+    (first : IsMsgOrNone v.mat (length v.rows) e.first) (last : IsMsgOrNone v.mat (length v.rows) e.last) (nodes : v' ≡ record v { rows = v'.rows }) (ends_are : ends' ≡ set ends k (kept e))
     (n : ℕ) (n_is : n ≡ msg_number v.mat l) (roster_is : b' ≡ seated k n (unwrap_or after l) b) where
   abbrev i : ℕ
   i = msg_number v.mat l

@@ -9,6 +9,7 @@ pub mod Finding
 pub mod Listed
 pub mod Becoming
 pub mod Tied
+pub mod Kept
 pub mod Leading
 pub mod Moved
 pub mod Seating

@@ -2,18 +2,20 @@
 use Rattle.std.proofs.Common.{ℕ, zero, suc, ◌≡◌, ◌<◌, List, [], length, get_or, map, refl, sym, ap, ◌∙◌, subst}
 use Rattle.std.proofs.Math.ListN.{set, length-set}
 use Rattle.std.specs.Prelude.{Option, None, replicate}
+use Rattle.strm_types.specs.declared.limits.TheConstants.{LISTS}
 use denote.RawPtr.{Ptr}
 use Rattle.strm_types.specs.Ranked as ranked
 use Rattle.strm_blocks.specs.Blocks.{Block, StoreValue, rank_of, list_at}
 use Rattle.strm_raw.specs.Numbered.{Nodes, Row, row_at, IsMsgOrNone}
 use Rattle.strm_raw.specs.Roster.{Msg, Roster}
 use Rattle.strm_raw.specs.Raw.{value_of, chain_of}
-use Rattle.strm_raw.specs.Lists.{AreListed, IsList, IsTied, no_ends, on, back, ahead_of, behind_of, ends_at, queue_at}
+use Rattle.strm_raw.specs.Lists.{AreListed, IsList, IsTied, kept, no_ends, opened, on, back, ahead_of, behind_of, ends_at, queue_at}
 use Rattle.strm_raw.specs.declared.neighbours.Ends.{Ends}
+use Rattle.strm_raw.specs.declared.neighbours.KeptEnds.{KeptEnds}
 use Rattle.strm_raw.specs.declared.msg_nodes.MsgLink.{MsgLink}
 use Rattle.strm_raw.proofs.Relinking.{row-keeps}
 
-module _ {v : Nodes} {ends : List Ends} {b : Roster} (is : AreListed v ends b) (v' : Nodes) (b' : Roster)
+module _ {v : Nodes} {ends : List KeptEnds} {b : Roster} (is : AreListed v ends b) (v' : Nodes) (b' : Roster)
     (mat : v'.mat ≡ v.mat) (i : ℕ) (within : i < length v.rows) (r : Row) (ahead : r.ahead ≡ (row_at i v.rows).ahead) (behind : r.behind ≡ (row_at i v.rows).behind)
     (rows : v'.rows ≡ set v.rows i r) (lists : b'.lists ≡ b.lists) (s : StoreValue) (value : value_of v' b' ≡ s) (same : s.lists ≡ (value_of v b).lists) where
   ahead-same : ahead_of v'.rows ≡ ahead_of v.rows
@@ -49,13 +51,13 @@ module _ {A : Type 0} (x : A) where
 none-linked : (v : Nodes) → IsList v no_ends []
 none-linked v = (refl, refl)
 
-pub listed-none : (v : Nodes) (b : Roster) → b.lists ≡ replicate 8 [] → AreListed v (replicate 8 no_ends) b
+pub listed-none : (v : Nodes) (b : Roster) → b.lists ≡ replicate LISTS [] → AreListed v (replicate LISTS (kept no_ends)) b
 listed-none v b lists =
-    let ends : (k : ℕ) → ends_at k (replicate 8 no_ends) ≡ no_ends = each-same no_ends 8 in
+    let ends : (k : ℕ) → ends_at k (replicate LISTS (kept no_ends)) ≡ no_ends = λ k. ap opened (each-same (kept no_ends) LISTS k) in
     let none : List Msg = [] in
-    let queues : (k : ℕ) → queue_at k b.lists ≡ [] = λ k. ap (queue_at k) lists ∙ each-same none 8 k in
+    let queues : (k : ℕ) → queue_at k b.lists ≡ [] = λ k. ap (queue_at k) lists ∙ each-same none LISTS k in
     let chains : List (List Block) = [] in
-    let values : (k : ℕ) → list_at (value_of v b) k ≡ [] = λ k. ap (λ (ls : List (List Msg)). get_or (map (λ q. map (chain_of v) q) ls) k []) lists ∙ each-same chains 8 k in
+    let values : (k : ℕ) → list_at (value_of v b) k ≡ [] = λ k. ap (λ (ls : List (List Msg)). get_or (map (λ q. map (chain_of v) q) ls) k []) lists ∙ each-same chains LISTS k in
     record {
       eight = refl;
       first = λ k. subst (λ (e : Ends). IsMsgOrNone v.mat (length v.rows) e.first) (sym (ends k)) tt;

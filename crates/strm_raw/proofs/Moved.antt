@@ -6,19 +6,22 @@ use Rattle.std.proofs.lemmas.Bool.{cases_eq}
 use Rattle.std.proofs.lemmas.Bool.Decides.{nat_tests}
 use Rattle.std.proofs.lemmas.List.{get_or-set_same, get_or-set_other}
 use Rattle.std.proofs.lemmas.List.Sums.{sum_by-cons, sum_by-set}
+use Rattle.strm_types.specs.declared.limits.TheConstants.{LISTS}
 use Rattle.strm_types.specs.Ranked as ranked
 use Rattle.strm_blocks.specs.Blocks.{Block, rank_of}
 use Rattle.strm_raw.specs.Numbered.{Nodes, Row, row_at, msg_number, IsMsgOrNone}
 use Rattle.strm_raw.specs.Roster.{Msg, Roster}
 use Rattle.strm_raw.specs.Raw.{weigh, ids, times, chain_of, held_of, block_no, shown, value_of, naming, breaks, broken, IsRaw, next_of, is_there, askew, heads}
-use Rattle.strm_raw.specs.Lists.{AreListed, IsList, plain, ends_at, queue_at, no_ends, on, back, ahead_of, behind_of}
+use Rattle.strm_raw.specs.Lists.{AreListed, IsList, plain, kept, opened, ends_at, queue_at, no_ends, on, back, ahead_of, behind_of}
 use Rattle.strm_raw.specs.declared.neighbours.Ends.{Ends}
+use Rattle.strm_raw.specs.declared.neighbours.KeptEnds.{KeptEnds}
 use Rattle.strm_raw.specs.declared.msg_nodes.MsgLink.{MsgLink}
 use Rattle.strm_raw.specs.declared.data_nodes.DataLink.{DataLink}
 use Rattle.strm_raw.proofs.Numbered.{map-set}
 use Rattle.strm_raw.proofs.Parting.{heads-few}
 use Rattle.strm_raw.proofs.Relinking.{map-ext}
 use Rattle.strm_raw.proofs.Tied.{tied-same}
+use Rattle.strm_raw.proofs.Kept.{list-kept}
 
 -- what one list has, and what two have, is no more than what all have
 module _ (g : List Msg → ℕ) (none : g [] ≡ 0) where
@@ -63,8 +66,8 @@ queue-value v (q ∷ lists) zero = refl
 queue-value v (q ∷ lists) (suc k) = queue-value v lists k
 
 -- one list and the hand change, and of the nodes their places on lists
-module _ {v : Nodes} {ends : List Ends} {b : Roster} {first_m : Option MsgLink} {first_d : Option DataLink} {spare_m spare_d : ℕ} (is : IsRaw v first_m first_d spare_m spare_d b) (listed : AreListed v ends b)
-    (k : ℕ) (within : k < 8) (rows : List Row) (len : length rows ≡ length v.rows) (same : (i : ℕ) → plain (row_at i rows) ≡ plain (row_at i v.rows)) (q hand : List Msg)
+module _ {v : Nodes} {ends : List KeptEnds} {b : Roster} {first_m : Option MsgLink} {first_d : Option DataLink} {spare_m spare_d : ℕ} (is : IsRaw v first_m first_d spare_m spare_d b) (listed : AreListed v ends b)
+    (k : ℕ) (within : k < LISTS) (rows : List Row) (len : length rows ≡ length v.rows) (same : (i : ℕ) → plain (row_at i rows) ≡ plain (row_at i v.rows)) (q hand : List Msg)
     (all : (f : Msg → ℕ) → sum_by f q + sum_by f hand ≡ sum_by f (queue_at k b.lists) + sum_by f b.hand) where
   abbrev pub moved_nodes : Nodes
   moved_nodes = record v { rows = rows }
@@ -132,15 +135,15 @@ module _ {v : Nodes} {ends : List Ends} {b : Roster} {first_m : Option MsgLink} 
     there o h = subst (λ n. IsMsgOrNone v.mat n o) (sym len) h
 
     -- what holds of each list and its ends
-    each : (P : ℕ → Ends → List Msg → Type 0) → P k e q → ((j : ℕ) → j ≢ k → P j (ends_at j ends) (queue_at j b.lists)) → (j : ℕ) → P j (ends_at j (set ends k e)) (queue_at j (set b.lists k q))
+    each : (P : ℕ → Ends → List Msg → Type 0) → P k e q → ((j : ℕ) → j ≢ k → P j (ends_at j ends) (queue_at j b.lists)) → (j : ℕ) → P j (ends_at j (set ends k (kept e))) (queue_at j (set b.lists k q))
     each P here others j = elim (cases_eq j k) [
-      | inl s ↦ subst (λ (x : ℕ × Ends × List Msg). P x.0 x.1 x.2) (λ i. (sym s i, sym (ap (λ n. ends_at n (set ends k e)) s ∙ get_or-set_same ends k e no_ends end-inside) i, sym (ap (λ n. queue_at n (set b.lists k q)) s ∙ get_or-set_same b.lists k q [] inside) i)) here
-      | inr other ↦ subst (λ (x : Ends × List Msg). P j x.0 x.1) (λ i. (sym (get_or-set_other ends k j e no_ends other) i, sym (get_or-set_other b.lists k j q [] other) i)) (others j other)
+      | inl s ↦ subst (λ (x : ℕ × Ends × List Msg). P x.0 x.1 x.2) (λ i. (sym s i, sym (ap (λ n. ends_at n (set ends k (kept e))) s ∙ ap opened (get_or-set_same ends k (kept e) (kept no_ends) end-inside) ∙ list-kept moved_nodes e q tied counted) i, sym (ap (λ n. queue_at n (set b.lists k q)) s ∙ get_or-set_same b.lists k q [] inside) i)) here
+      | inr other ↦ subst (λ (x : Ends × List Msg). P j x.0 x.1) (λ i. (sym (ap opened (get_or-set_other ends k j (kept e) (kept no_ends) other)) i, sym (get_or-set_other b.lists k j q [] other) i)) (others j other)
     ]
 
-    pub moved-listed : AreListed moved_nodes (set ends k e) moved_roster
+    pub moved-listed : AreListed moved_nodes (set ends k (kept e)) moved_roster
     moved-listed = record {
-      eight = length-set ends k e ∙ listed.eight;
+      eight = length-set ends k (kept e) ∙ listed.eight;
       first = each (λ _ x _. IsMsgOrNone v.mat (length rows) x.first) (there e.first first) (λ j _. there (ends_at j ends).first (listed.first j));
       last = each (λ _ x _. IsMsgOrNone v.mat (length rows) x.last) (there e.last last) (λ j _. there (ends_at j ends).last (listed.last j));
       tied = each (λ _ x y. IsList moved_nodes x y) tied (λ j other. tied-same (on v.mat (ahead_of v.rows) (ends_at j ends)) (back v.mat (behind_of v.rows) (ends_at j ends)) (on v.mat (ahead_of rows) (ends_at j ends)) (back v.mat (behind_of rows) (ends_at j ends)) None (queue_at j b.lists) refl refl (λ i s. ahead i j other s) (λ i s. behind i j other s) (listed.tied j));

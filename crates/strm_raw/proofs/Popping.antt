@@ -2,6 +2,7 @@
 use Rattle.std.proofs.Common.{ℕ, ◌≡◌, ◌<◌, [], ◌∷◌, List, length, map, refl, sym, ap, ◌∙◌, subst, arith}
 use Rattle.std.specs.Prelude.{Option, None, Some, option_map}
 use Rattle.std.proofs.lemmas.List.{append-nil, length-append}
+use Rattle.strm_types.specs.declared.limits.TheConstants.{LISTS}
 use Rattle.strm_blocks.specs.Blocks.{Block, StoreValue, list_at, held, placed}
 use Rattle.strm_blocks.specs.Outcomes.{Popped, PoppedLast}
 use Rattle.strm_raw.specs.Numbered.{Nodes, msg_number}
@@ -10,14 +11,14 @@ use Rattle.strm_raw.specs.Raw.{IsRaw, chain_of, value_of}
 use Rattle.strm_raw.specs.Lists.{AreListed, IsList, PoppedBy, Unseats, along, ahead_of, behind_of, ends_at, pick, queue_at}
 use Rattle.strm_raw.specs.declared.neighbours.Course.{Course}
 use Rattle.strm_raw.specs.declared.neighbours.Course.TheVariants.{On, Back}
-use Rattle.strm_raw.specs.declared.neighbours.Ends.{Ends}
+use Rattle.strm_raw.specs.declared.neighbours.KeptEnds.{KeptEnds}
 use Rattle.strm_raw.specs.declared.msg_nodes.MsgLink.{MsgLink}
 use Rattle.strm_raw.specs.declared.data_nodes.DataLink.{DataLink}
 use Rattle.strm_raw.proofs.Becoming.{Becomes, becomes-as}
 use Rattle.strm_raw.proofs.Tied.{list-begin, list-end, list-ahead, list-behind, no-first, no-last, a-first, a-last}
 use Rattle.strm_raw.proofs.Seating.{taken-off, no-queue}
 
-module _ {v : Nodes} {ends : List Ends} {b : Roster} {first_m : Option MsgLink} {first_d : Option DataLink} {spare_m spare_d : ℕ} (is : IsRaw v first_m first_d spare_m spare_d b) (listed : AreListed v ends b)
+module _ {v : Nodes} {ends : List KeptEnds} {b : Roster} {first_m : Option MsgLink} {first_d : Option DataLink} {spare_m spare_d : ℕ} (is : IsRaw v first_m first_d spare_m spare_d b) (listed : AreListed v ends b)
     {s : StoreValue} (view : value_of v b ≡ s) (k : ℕ) where
   abbrev q : List Msg
   q = queue_at k b.lists
@@ -54,7 +55,7 @@ module _ {v : Nodes} {ends : List Ends} {b : Roster} {first_m : Option MsgLink} 
       (ap number before_is ∙ behind_is, ap number after_is ∙ sym none ∙ ap (λ i. ahead_of v.rows i) at.1.1.1)
 
   -- where a link leads to the message there
-  module _ (within : k < 8) (l : MsgLink) {v' : Nodes} {ends' : List Ends} {b' : Roster} (u : Unseats v v' ends ends' b b' k l) where
+  module _ (within : k < LISTS) (l : MsgLink) {v' : Nodes} {ends' : List KeptEnds} {b' : Roster} (u : Unseats v v' ends ends' b b' k l) where
     pub taken-end : (c : Course) → along c v (ends_at k ends) None ≡ Some (msg_number v.mat l)
         → (s' : StoreValue) × (Becomes v' ends' b' first_m first_d spare_m spare_d s' × PoppedBy c s s' k (msg_number v.mat l))
     taken-end On there =

@@ -6,13 +6,15 @@ use Rattle.std.specs.List.{AllByRecursion}
 use Rattle.std.proofs.lemmas.Bool.Decides.{nat_tests}
 use Rattle.std.proofs.lemmas.List.{append_assoc, length-append, map-append, get_or-set_same}
 use Rattle.std.proofs.lemmas.List.Sums.{sum_by-cons, sum_by-append}
+use Rattle.strm_types.specs.declared.limits.TheConstants.{LISTS}
 use Rattle.strm_types.specs.Ranked as ranked
 use Rattle.strm_blocks.specs.Blocks.{Block, rank_of, list_at, held, dropped, placed, IsFreshName}
 use Rattle.strm_raw.specs.Numbered.{Nodes, Row, row_at, msg_number, IsMsgOrNone}
 use Rattle.strm_raw.specs.Roster.{Msg, Roster}
 use Rattle.strm_raw.specs.Raw.{chain_of, value_of, IsRaw, IsHere, heads, msg_in, without_in}
-use Rattle.strm_raw.specs.Lists.{AreListed, end_of, begin_of, IsList, IsTied, Ties, Seats, Unseats, on, back, plain, ends_at, queue_at, ahead_of, behind_of, seat_in, unseated, seated}
+use Rattle.strm_raw.specs.Lists.{AreListed, end_of, begin_of, IsList, IsTied, Ties, Seats, Unseats, on, back, plain, kept, ends_at, queue_at, ahead_of, behind_of, seat_in, unseated, seated}
 use Rattle.strm_raw.specs.declared.neighbours.Ends.{Ends}
+use Rattle.strm_raw.specs.declared.neighbours.KeptEnds.{KeptEnds}
 use Rattle.strm_raw.specs.declared.msg_nodes.MsgLink.{MsgLink}
 use Rattle.strm_raw.specs.declared.data_nodes.DataLink.{DataLink}
 use Rattle.strm_raw.proofs.Becoming.{Becomes}
@@ -57,8 +59,8 @@ seat-before x y (m ∷ xs) ys z =
     let c = heads-cons y.head m xs in let no : eqb m.head y.head ≡ false = grind (arith, nat_tests) in
     ap (λ t. cond t (x ∷ m ∷ (xs ++ y ∷ ys)) (m ∷ seat_in y.head x (xs ++ y ∷ ys))) no ∙ ap (λ r. m ∷ r) (seat-before x y xs ys (omega arith))
 
-module _ {v : Nodes} {ends : List Ends} {b : Roster} {first_m : Option MsgLink} {first_d : Option DataLink} {spare_m spare_d : ℕ} (is : IsRaw v first_m first_d spare_m spare_d b) (listed : AreListed v ends b)
-    (k : ℕ) (within : k < 8) where
+module _ {v : Nodes} {ends : List KeptEnds} {b : Roster} {first_m : Option MsgLink} {first_d : Option DataLink} {spare_m spare_d : ℕ} (is : IsRaw v first_m first_d spare_m spare_d b) (listed : AreListed v ends b)
+    (k : ℕ) (within : k < LISTS) where
   -- one that is on the list is taken off it
   module _ (xs : List Msg) (m : Msg) (ys : List Msg) (shape : queue_at k b.lists ≡ xs ++ m ∷ ys)
       (rows : List Row) (e : Ends) (ties : Ties v.mat v.rows rows (ends_at k ends) e (behind_of v.rows m.head) (ahead_of v.rows m.head))
@@ -118,14 +120,14 @@ module _ {v : Nodes} {ends : List Ends} {b : Roster} {first_m : Option MsgLink} 
     none-here : (i j : ℕ) → j ≢ k → 0 < heads i (queue_at j b.lists) → heads i (xs ++ m ∷ ys) ≡ 0
     none-here i j other s = ap (λ q. heads i q) (sym shape) ∙ apart-queues is i j k other s
 
-    pub off-listed : AreListed (record v { rows = rows }) (set ends k e) (record b { lists = set b.lists k (xs ++ ys); hand = m ∷ b.hand })
+    pub off-listed : AreListed (record v { rows = rows }) (set ends k (kept e)) (record b { lists = set b.lists k (xs ++ ys); hand = m ∷ b.hand })
     off-listed = moved-listed is listed k within rows tied.len tied.plain (xs ++ ys) (m ∷ b.hand) all e first last
         (tied-out (on v.mat (ahead_of v.rows) (ends_at k ends)) (back v.mat (behind_of v.rows) (ends_at k ends)) (on v.mat (ahead_of rows) e) (back v.mat (behind_of rows) e) m None xs ys tied.on_at tied.back_at tied.on_else tied.back_else once refl old) fewer off-order
         (λ i j other s. (let z = none-here i j other s in let h = heads-append i xs (m ∷ ys) in tied.on_else (Some i) (λ e. off-end None (Some i) xs (λ n. some-none i (sym n)) (omega arith) (sym e))))
         (λ i j other s. (let z = none-here i j other s in let h = heads-append i xs (m ∷ ys) in let c = heads-cons i m ys in tied.back_else (Some i) (off-begin i ys (omega arith))))
 
     -- so does a call that takes it off
-    module _ {v' : Nodes} {ends' : List Ends} {b' : Roster} (l : MsgLink) (name : m.head ≡ msg_number v.mat l) (nodes : v' ≡ record v { rows = rows }) (ends_are : ends' ≡ set ends k e) (roster_is : b' ≡ unseated k l b) where
+    module _ {v' : Nodes} {ends' : List KeptEnds} {b' : Roster} (l : MsgLink) (name : m.head ≡ msg_number v.mat l) (nodes : v' ≡ record v { rows = rows }) (ends_are : ends' ≡ set ends k (kept e)) (roster_is : b' ≡ unseated k l b) where
       roster : b' ≡ record b { lists = set b.lists k (xs ++ ys); hand = m ∷ b.hand }
       roster =
           let i : msg_number b.mat l ≡ m.head = ap (λ mat. msg_number mat l) is.same ∙ sym name in
@@ -136,7 +138,7 @@ module _ {v : Nodes} {ends : List Ends} {b : Roster} {first_m : Option MsgLink} 
       pub unseated-becomes : Becomes v' ends' b' first_m first_d spare_m spare_d (held (placed (value_of v b) k (map (chain_of v) xs ++ map (chain_of v) ys)) (msg_number v.mat l) (chain_of v m))
       unseated-becomes = record {
         raw = subst (λ (x : Nodes × Roster). IsRaw x.0 first_m first_d spare_m spare_d x.1) (λ j. (sym nodes j, sym roster j)) off-raw;
-        listed = subst (λ (x : Nodes × List Ends × Roster). AreListed x.0 x.1 x.2) (λ j. (sym nodes j, sym ends_are j, sym roster j)) off-listed;
+        listed = subst (λ (x : Nodes × List KeptEnds × Roster). AreListed x.0 x.1 x.2) (λ j. (sym nodes j, sym ends_are j, sym roster j)) off-listed;
         value = (λ j. value_of (nodes j) (roster j)) ∙ off-value ∙ ap (λ n. held (placed (value_of v b) k (map (chain_of v) xs ++ map (chain_of v) ys)) n (chain_of v m)) name;
       }
 
@@ -231,21 +233,21 @@ module _ {v : Nodes} {ends : List Ends} {b : Roster} {first_m : Option MsgLink} 
     more : e.count ≡ length (xs ++ x ∷ ys)
     more = omega (arith, seats.count, listed.counted k, ap length shape, length-append xs (x ∷ ys), length-append xs ys)
 
-    pub on-listed : AreListed (record v { rows = rows }) (set ends k e) (record b { lists = set b.lists k (xs ++ x ∷ ys); hand = without_in i b.hand })
+    pub on-listed : AreListed (record v { rows = rows }) (set ends k (kept e)) (record b { lists = set b.lists k (xs ++ x ∷ ys); hand = without_in i b.hand })
     on-listed = moved-listed is listed k within rows len same (xs ++ x ∷ ys) (without_in i b.hand) all-in e first last tied-here more order
         (λ n j other s. (let z = none-there n j other s in let h = heads-append n xs ys in on-else (Some n) (λ e. off-end None (Some n) xs (λ m. some-none n (sym m)) (omega arith) (sym e)) (hand-elsewhere n j s)))
         (λ n j other s. (let z = none-there n j other s in let h = heads-append n xs ys in back-else (Some n) (off-begin n ys (omega arith)) (hand-elsewhere n j s)))
 
 -- what a call leaves that takes a message off a list
-pub record TakenOff (v v' : Nodes) (ends' : List Ends) (b b' : Roster) (first_m : Option MsgLink) (first_d : Option DataLink) (spare_m spare_d k i : ℕ) (xs : List Msg) (m : Msg) (ys : List Msg) : Type 0 where
+pub record TakenOff (v v' : Nodes) (ends' : List KeptEnds) (b b' : Roster) (first_m : Option MsgLink) (first_d : Option DataLink) (spare_m spare_d k i : ℕ) (xs : List Msg) (m : Msg) (ys : List Msg) : Type 0 where
   pub becomes : Becomes v' ends' b' first_m first_d spare_m spare_d (held (placed (value_of v b) k (map (chain_of v) xs ++ map (chain_of v) ys)) i (chain_of v m))
   pub fresh : IsFreshName (value_of v b) i
   pub shape : list_at (value_of v b) k ≡ map (chain_of v) xs ++ chain_of v m ∷ map (chain_of v) ys
   pub queue : queue_at k b'.lists ≡ xs ++ ys
   pub chains : chain_of v' ≡ chain_of v
 
-pub taken-off : {v v' : Nodes} {ends ends' : List Ends} {b b' : Roster} {first_m : Option MsgLink} {first_d : Option DataLink} {spare_m spare_d : ℕ} (is : IsRaw v first_m first_d spare_m spare_d b) (listed : AreListed v ends b)
-    (k : ℕ) (within : k < 8) (l : MsgLink) (xs : List Msg) (m : Msg) (ys : List Msg) → queue_at k b.lists ≡ xs ++ m ∷ ys → m.head ≡ msg_number v.mat l → Unseats v v' ends ends' b b' k l
+pub taken-off : {v v' : Nodes} {ends ends' : List KeptEnds} {b b' : Roster} {first_m : Option MsgLink} {first_d : Option DataLink} {spare_m spare_d : ℕ} (is : IsRaw v first_m first_d spare_m spare_d b) (listed : AreListed v ends b)
+    (k : ℕ) (within : k < LISTS) (l : MsgLink) (xs : List Msg) (m : Msg) (ys : List Msg) → queue_at k b.lists ≡ xs ++ m ∷ ys → m.head ≡ msg_number v.mat l → Unseats v v' ends ends' b b' k l
     → TakenOff v v' ends' b b' first_m first_d spare_m spare_d k (msg_number v.mat l) xs m ys
 taken-off {v = v} {v' = v'} {ends = ends} is listed k within l xs m ys shape name u =
     let ties = subst (λ n. Ties v.mat v.rows v'.rows (ends_at k ends) u.after (behind_of v.rows n) (ahead_of v.rows n)) (sym name) u.tied in
@@ -280,10 +282,10 @@ seat-is i x xs (y ∷ ys) once off =
     seat-before x y xs ys (grind (arith, nat_tests))
 
 -- what a call leaves that puts a message on a list
-module _ {v v' : Nodes} {ends ends' : List Ends} {b b' : Roster} {first_m : Option MsgLink} {first_d : Option DataLink} {spare_m spare_d : ℕ} (is : IsRaw v first_m first_d spare_m spare_d b) (listed : AreListed v ends b)
-    (k : ℕ) (within : k < 8) (l : MsgLink) (here : IsHere v b l) (xs ys : List Msg) (shape : queue_at k b.lists ≡ xs ++ ys) where
+module _ {v v' : Nodes} {ends ends' : List KeptEnds} {b b' : Roster} {first_m : Option MsgLink} {first_d : Option DataLink} {spare_m spare_d : ℕ} (is : IsRaw v first_m first_d spare_m spare_d b) (listed : AreListed v ends b)
+    (k : ℕ) (within : k < LISTS) (l : MsgLink) (here : IsHere v b l) (xs ys : List Msg) (shape : queue_at k b.lists ≡ xs ++ ys) where
   pub put-on : (e : Ends) (before after : Option ℕ) → before ≡ end_of None xs → after ≡ begin_of ys → Seats v.mat v.rows v'.rows (ends_at k ends) e before (msg_number v.mat l) after
-      → IsMsgOrNone v.mat (length v.rows) e.first → IsMsgOrNone v.mat (length v.rows) e.last → v' ≡ record v { rows = v'.rows } → ends' ≡ set ends k e
+      → IsMsgOrNone v.mat (length v.rows) e.first → IsMsgOrNone v.mat (length v.rows) e.last → v' ≡ record v { rows = v'.rows } → ends' ≡ set ends k (kept e)
       → (o : Option MsgLink) → option_map (msg_number v.mat) o ≡ after → (n : ℕ) → n ≡ msg_number v.mat l → b' ≡ seated k n (unwrap_or o l) b
       → (q : List (List Block)) → map (chain_of v) (xs ++ msg_in (msg_number v.mat l) b.hand ∷ ys) ≡ q → ranked.IsOrdered rank_of q
       → Becomes v' ends' b' first_m first_d spare_m spare_d (placed (dropped (value_of v b) (msg_number v.mat l)) k q)
@@ -302,6 +304,6 @@ module _ {v v' : Nodes} {ends ends' : List Ends} {b b' : Roster} {first_m : Opti
       ∙ (λ j. record b { lists = set b.lists k (seat-is i x xs ys once off j); hand = without_in i b.hand }) in
       record {
         raw = subst (λ (w : Nodes × Roster). IsRaw w.0 first_m first_d spare_m spare_d w.1) (λ j. (sym nodes j, sym roster j)) (on-raw is listed k within l here xs ys shape v'.rows e seats' first last order');
-        listed = subst (λ (w : Nodes × List Ends × Roster). AreListed w.0 w.1 w.2) (λ j. (sym nodes j, sym ends_are j, sym roster j)) (on-listed is listed k within l here xs ys shape v'.rows e seats' first last order');
+        listed = subst (λ (w : Nodes × List KeptEnds × Roster). AreListed w.0 w.1 w.2) (λ j. (sym nodes j, sym ends_are j, sym roster j)) (on-listed is listed k within l here xs ys shape v'.rows e seats' first last order');
         value = (λ j. value_of (nodes j) (roster j)) ∙ on-value is listed k within l here xs ys shape v'.rows e seats' first last order' ∙ ap (λ q. placed (dropped (value_of v b) i) k q) q_is;
       }

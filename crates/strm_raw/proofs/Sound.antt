@@ -8,7 +8,7 @@ use Rattle.strm_raw.specs.Numbered.{Nodes, DataRow, row_at, data_at, no_data}
 use Rattle.strm_raw.specs.Roster.{Msg, Roster}
 use Rattle.strm_raw.specs.Raw.{ids, weigh, chain_of, block_no, value_of, IsRaw}
 use Rattle.strm_raw.specs.Lists.{AreListed}
-use Rattle.strm_raw.specs.declared.neighbours.Ends.{Ends}
+use Rattle.strm_raw.specs.declared.neighbours.KeptEnds.{KeptEnds}
 use Rattle.strm_raw.specs.declared.msg_nodes.MsgLink.{MsgLink}
 use Rattle.strm_raw.specs.declared.data_nodes.DataLink.{DataLink}
 use Rattle.strm_raw.proofs.Finding.{times-heads}
@@ -24,7 +24,7 @@ none-of : {A : Type 0} (f : A → ℕ) → ((x : A) → f x ≡ 0) → (xs : Lis
 none-of f none [] = refl
 none-of f none (x ∷ xs) = let n = none x in let ih = none-of f none xs in omega (arith, sum_by-cons f x xs)
 
-module _ {v : Nodes} {ends : List Ends} {b : Roster} {first_m : Option MsgLink} {first_d : Option DataLink} {spare_m spare_d : ℕ} (is : IsRaw v first_m first_d spare_m spare_d b) (listed : AreListed v ends b) where
+module _ {v : Nodes} {ends : List KeptEnds} {b : Roster} {first_m : Option MsgLink} {first_d : Option DataLink} {spare_m spare_d : ℕ} (is : IsRaw v first_m first_d spare_m spare_d b) (listed : AreListed v ends b) where
   -- the bytes and the room of a chain fit its blocks
   chain-fits : (xs : List ℕ) → extent (map (block_no v) xs) ≤ 256 * length xs
   chain-fits [] = omega arith

@@ -11,7 +11,7 @@ use Rattle.strm_raw.specs.Roster.{Msg, Roster}
 use Rattle.strm_raw.specs.Raw.{weigh, ids, times, chain_of, block_no, shown, value_of, breaks, gap, IsRaw, next_of, free_after, is_there, askew}
 use Rattle.strm_raw.specs.Made.{GivesMessage, GivesData, given_message}
 use Rattle.strm_raw.specs.Lists.{AreListed, IsTied, on, back, ahead_of, behind_of, ends_at, queue_at}
-use Rattle.strm_raw.specs.declared.neighbours.Ends.{Ends}
+use Rattle.strm_raw.specs.declared.neighbours.KeptEnds.{KeptEnds}
 use Rattle.strm_raw.specs.declared.msg_nodes.MsgLink.{MsgLink}
 use Rattle.strm_raw.specs.declared.data_nodes.DataLink.{DataLink}
 use Rattle.strm_raw.proofs.Apart.{gap-self, times-cons}
@@ -51,7 +51,7 @@ module _ (v : Nodes) (b : Roster) (rows : List Row) (same : (i : ℕ) → row_at
   behind-same : behind_of rows ≡ behind_of v.rows
   behind-same = λ j i. (same i j).behind
 
-  pub listed-same : {ends : List Ends} → AreListed v ends b → length v.rows ≤ length rows → (b' : Roster) → b'.lists ≡ b.lists → b'.hand ≡ b.hand → AreListed w ends b'
+  pub listed-same : {ends : List KeptEnds} → AreListed v ends b → length v.rows ≤ length rows → (b' : Roster) → b'.lists ≡ b.lists → b'.hand ≡ b.hand → AreListed w ends b'
   listed-same {ends = ends} listed le b' lists hand = record {
     eight = listed.eight;
     first = λ k. msg-more _ _ le v.mat (ends_at k ends).first (listed.first k);
@@ -119,7 +119,7 @@ module _ {v : Nodes} {b : Roster} {first_m : Option MsgLink} {first_d : Option D
           there_d = is.there_d;
         }
 
-    pub makes-m : {ends : List Ends} → AreListed v ends b → (v' : Nodes) (b' : Roster) → v' ≡ record v { rows = rows } → b' ≡ given_message l b → Becomes v' ends b' (Some l) first_d spare_m spare_d (value_of v b)
+    pub makes-m : {ends : List KeptEnds} → AreListed v ends b → (v' : Nodes) (b' : Roster) → v' ≡ record v { rows = rows } → b' ≡ given_message l b → Becomes v' ends b' (Some l) first_d spare_m spare_d (value_of v b)
     makes-m {ends = ends} listed v' b' nodes given =
         let roster : b' ≡ record b { free_m = length v.rows ∷ [] } = given ∙ (λ j. record b { free_m = (ap (λ mat. msg_number mat l) is.same ∙ number) j ∷ none-free j }) in
         record {
@@ -174,7 +174,7 @@ module _ {v : Nodes} {b : Roster} {first_m : Option MsgLink} {first_d : Option D
           there_d = subst (λ n. IsData v.dat n k) (sym len-d) there;
         }
 
-    pub makes-d : {ends : List Ends} → AreListed v ends b → (v' : Nodes) (b' : Roster) → v' ≡ record v { datas = datas } → b' ≡ record b { free_d = data_number b.dat k ∷ b.free_d } → Becomes v' ends b' first_m (Some k) spare_m spare_d (value_of v b)
+    pub makes-d : {ends : List KeptEnds} → AreListed v ends b → (v' : Nodes) (b' : Roster) → v' ≡ record v { datas = datas } → b' ≡ record b { free_d = data_number b.dat k ∷ b.free_d } → Becomes v' ends b' first_m (Some k) spare_m spare_d (value_of v b)
     makes-d {ends = ends} listed v' b' nodes given =
         let roster : b' ≡ record b { free_d = length v.datas ∷ [] } = given ∙ (λ j. record b { free_d = (ap (λ dat. data_number dat k) is.same_d ∙ number) j ∷ none-data j }) in
         record {
@@ -184,7 +184,7 @@ module _ {v : Nodes} {b : Roster} {first_m : Option MsgLink} {first_d : Option D
         }
 
 -- a free block is given out next, where one is free
-pub gives-m : {v v' : Nodes} {b b' : Roster} {ends : List Ends} {first_m : Option MsgLink} {first_d : Option DataLink} {spare_m spare_d : ℕ} {s : StoreValue} {l : MsgLink} → Becomes v ends b first_m first_d spare_m spare_d s → 0 < spare_m
+pub gives-m : {v v' : Nodes} {b b' : Roster} {ends : List KeptEnds} {first_m : Option MsgLink} {first_d : Option DataLink} {spare_m spare_d : ℕ} {s : StoreValue} {l : MsgLink} → Becomes v ends b first_m first_d spare_m spare_d s → 0 < spare_m
     → GivesMessage v v' b b' first_m l → Becomes v' ends b' (Some l) first_d spare_m spare_d s
 gives-m {v = v} {v' = v'} {b = b} {b' = b'} {ends = ends} {first_m = None} {l = l} was some g =
     let d = makes-m was.raw refl (room-m was.raw refl some) l g.there g.number was.listed v' b' g.nodes g.roster in
@@ -195,7 +195,7 @@ gives-m {ends = ends} {first_m = Some first} {first_d = first_d} {spare_m = spar
   value = (λ j. value_of (g.nodes j) (g.roster j)) ∙ was.value;
 }
 
-pub gives-d : {v v' : Nodes} {b b' : Roster} {ends : List Ends} {first_m : Option MsgLink} {first_d : Option DataLink} {spare_m spare_d : ℕ} {s : StoreValue} {k : DataLink} → Becomes v ends b first_m first_d spare_m spare_d s → 0 < spare_d
+pub gives-d : {v v' : Nodes} {b b' : Roster} {ends : List KeptEnds} {first_m : Option MsgLink} {first_d : Option DataLink} {spare_m spare_d : ℕ} {s : StoreValue} {k : DataLink} → Becomes v ends b first_m first_d spare_m spare_d s → 0 < spare_d
     → GivesData v v' b b' first_d k → Becomes v' ends b' first_m (Some k) spare_m spare_d s
 gives-d {v = v} {v' = v'} {b = b} {b' = b'} {ends = ends} {first_d = None} {k = k} was some g =
     let d = makes-d was.raw refl (room-d was.raw refl some) k g.there g.number was.listed v' b' g.nodes g.roster in

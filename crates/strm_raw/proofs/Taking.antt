@@ -15,7 +15,7 @@ use Rattle.strm_raw.specs.Raw.{weigh, ids, times, chain_of, held_of, block_no, s
 use Rattle.strm_raw.specs.declared.msg_nodes.MsgLink.{MsgLink}
 use Rattle.strm_raw.specs.declared.data_nodes.DataLink.{DataLink}
 use Rattle.strm_raw.specs.Lists.{AreListed}
-use Rattle.strm_raw.specs.declared.neighbours.Ends.{Ends}
+use Rattle.strm_raw.specs.declared.neighbours.KeptEnds.{KeptEnds}
 use Rattle.strm_raw.proofs.Becoming.{Becomes, row-becomes}
 use Rattle.strm_raw.proofs.Apart.{apart-head, times-cons, times-self, sum-apart, map-apart, breaks-apart, hand-apart, lists-apart, weigh-apart}
 use Rattle.strm_raw.proofs.Stocking.{Stocked, stocked, references-at, free-kept, shown-kept}
@@ -200,7 +200,7 @@ module _ {v : Nodes} {b : Roster} {first_m : Option MsgLink} {first_d : Option D
         dblks = v.dblks;
       }
 
-  pub added-becomes : {ends : List Ends} (old : List DataRow) → AreListed (record v { datas = old }) ends b → (value_of v b).lists ≡ (value_of (record v { datas = old }) b).lists → (v' : Nodes) (b' : Roster) → v' ≡ with_new → b' ≡ roster_new → r.ahead ≡ (row_at n v.rows).ahead → r.behind ≡ (row_at n v.rows).behind
+  pub added-becomes : {ends : List KeptEnds} (old : List DataRow) → AreListed (record v { datas = old }) ends b → (value_of v b).lists ≡ (value_of (record v { datas = old }) b).lists → (v' : Nodes) (b' : Roster) → v' ≡ with_new → b' ≡ roster_new → r.ahead ≡ (row_at n v.rows).ahead → r.behind ≡ (row_at n v.rows).behind
       → Becomes v' ends b' next_m first_d' (spare_m - 1) spare_d' (held (value_of v b) n (shown datas r ∷ []))
   added-becomes old listed same v' b' nodes roster ahead behind = row-becomes listed v' with_new b' roster_new nodes roster added refl n (place-m is l eq).0 r ahead behind refl refl _ added-value same
 

@@ -1,6 +1,7 @@
 -- The lists of a raw store: how a list leads through its messages, on and back.
-use Rattle.std.specs.Prelude.{ℕ, ◌≡◌, ◌≢◌, ◌≤◌, ◌+◌, ◌-◌, ◌==◌, if◌then◌else◌, List, [], ◌∷◌, length, sum_by, slice_index_or, slice_set, Option, None, Some, option_map}
-use denote.RawPtr.{Ptr}
+use Rattle.std.specs.Prelude.{ℕ, ◌≡◌, ◌≢◌, ◌≤◌, ◌+◌, ◌-◌, ◌==◌, if◌then◌else◌, List, [], ◌∷◌, length, sum_by, slice_index_or, slice_set, Option, None, Some, option_map, unwrap_or}
+use Rattle.strm_types.specs.declared.limits.TheConstants.{LISTS}
+use denote.RawPtr.{Ptr, null_ptr}
 use Rattle.strm_types.specs.Ranked as ranked
 use Rattle.strm_blocks.specs.Blocks.{StoreValue, rank_of, list_at}
 use Rattle.strm_blocks.specs.Outcomes.{Popped, PoppedLast}
@@ -10,13 +11,24 @@ use Rattle.strm_raw.specs.Raw.{value_of, msg_in, without_in, ids, broken}
 use Rattle.strm_raw.specs.declared.neighbours.Course.{Course}
 use Rattle.strm_raw.specs.declared.neighbours.Course.TheVariants.{On, Back}
 use Rattle.strm_raw.specs.declared.neighbours.Ends.{Ends}
+use Rattle.strm_raw.specs.declared.neighbours.KeptEnds.{KeptEnds}
 use Rattle.strm_raw.specs.declared.msg_nodes.MsgLink.{MsgLink}
 
 abbrev pub no_ends : Ends
 no_ends = record { first = None; last = None; count = 0 }
 
-abbrev pub ends_at : ℕ → List Ends → Ends
-ends_at k ends = slice_index_or ends k no_ends
+-- the ends that a store keeps, and ends as it keeps them
+abbrev pub opened : KeptEnds → Ends
+opened e = record { first = if e.count == 0 then None else Some e.first; last = if e.count == 0 then None else Some e.last; count = e.count }
+
+abbrev pub nowhere : MsgLink
+nowhere = record { at = null_ptr }
+
+abbrev pub kept : Ends → KeptEnds
+kept e = record { first = unwrap_or e.first nowhere; last = unwrap_or e.last nowhere; count = e.count }
+
+abbrev pub ends_at : ℕ → List KeptEnds → Ends
+ends_at k ends = opened (slice_index_or ends k (kept no_ends))
 
 abbrev pub queue_at : ℕ → List (List Msg) → List Msg
 queue_at k lists = slice_index_or lists k []
@@ -80,8 +92,8 @@ pub record AreWhole (rows : List Row) (q : List Msg) : Type 0 where
 
 -- The ends of each list lead to nodes, the links of each list are its messages, its count says how many they are, and each list is in order of
 -- rank.
-pub record AreListed (v : Nodes) (ends : List Ends) (b : Roster) : Type 0 where
-  pub eight : length ends ≡ 8
+pub record AreListed (v : Nodes) (ends : List KeptEnds) (b : Roster) : Type 0 where
+  pub eight : length ends ≡ LISTS
   pub first : (k : ℕ) → IsMsgOrNone v.mat (length v.rows) (ends_at k ends).first
   pub last : (k : ℕ) → IsMsgOrNone v.mat (length v.rows) (ends_at k ends).last
   pub tied : (k : ℕ) → IsList v (ends_at k ends) (queue_at k b.lists)
@@ -125,14 +137,14 @@ abbrev pub seated : ℕ → ℕ → MsgLink → Roster → Roster
 seated k i l b = record b { lists = slice_set b.lists k (seat_in (msg_number b.mat l) (msg_in i b.hand) (queue_at k b.lists)); hand = without_in i b.hand }
 
 -- A message is taken off a list: its neighbours are tied, and it counts no longer.
-pub record Unseats (v v' : Nodes) (ends ends' : List Ends) (b b' : Roster) (k : ℕ) (l : MsgLink) : Type 0 where
+pub record Unseats (v v' : Nodes) (ends ends' : List KeptEnds) (b b' : Roster) (k : ℕ) (l : MsgLink) : Type 0 where
   pub after : Ends
   pub nodes : v' ≡ record v { rows = v'.rows }
   pub tied : Ties v.mat v.rows v'.rows (ends_at k ends) after (behind_of v.rows (msg_number v.mat l)) (ahead_of v.rows (msg_number v.mat l))
   pub count : after.count ≡ (ends_at k ends).count - 1
   pub first : IsMsgOrNone v.mat (length v.rows) after.first
   pub last : IsMsgOrNone v.mat (length v.rows) after.last
-  pub ends_are : ends' ≡ slice_set ends k after
+  pub ends_are : ends' ≡ slice_set ends k (kept after)
   pub roster_is : b' ≡ unseated k l b
 
 -- the message at the end of a list where it begins in a course is taken off it, and is in hand

@@ -1,5 +1,6 @@
 -- What a raw store stands for, and what holds of its fields.
 use Rattle.std.specs.Prelude.{◌≢◌, ℕ, ◌≡◌, ◌≤◌, ◌+◌, ◌-◌, ◌==◌, nat_lt, if◌then◌else◌, List, [], ◌∷◌, ◌++◌, length, map, drop, slice_index_or, replicate, sum_by, count_by, slice_range, Option, None, Some, option_map}
+use Rattle.strm_types.specs.declared.limits.TheConstants.{LISTS}
 use Rattle.strm_blocks.specs.Blocks.{Block, Held, StoreValue, times_in}
 use Rattle.strm_raw.specs.Numbered.{Nodes, Row, DataRow, row_at, data_at, no_bytes, msg_number, data_number, with_data, IsMsg, IsMsgOrNone, IsDataOrNone}
 use Rattle.strm_raw.specs.Roster.{Msg, Roster}
@@ -87,7 +88,7 @@ askew r = (r.start - r.end) + (r.end - 256)
 pub record IsRaw (v : Nodes) (first_m : Option MsgLink) (first_d : Option DataLink) (spare_m spare_d : ℕ) (b : Roster) : Type 0 where
   pub same : b.mat ≡ v.mat
   pub same_d : b.dat ≡ v.dat
-  pub eight : length b.lists ≡ 8
+  pub eight : length b.lists ≡ LISTS
   pub most_m : v.mblks ≤ 65536
   pub most_d : v.dblks ≤ 65536
   pub few_m : length v.rows ≤ v.mblks
@@ -190,4 +191,4 @@ pub record GivesOne (old new : Nodes) (b b' : Roster) (k : DataLink) (first firs
 
 -- the roster of a store with nothing in it, none of whose blocks is made
 abbrev pub empty_roster : MsgLink → DataLink → Roster
-empty_roster l k = record { mat = l.at; dat = k.at; free_m = []; free_d = []; lists = replicate 8 []; hand = [] }
+empty_roster l k = record { mat = l.at; dat = k.at; free_m = []; free_d = []; lists = replicate LISTS []; hand = [] }

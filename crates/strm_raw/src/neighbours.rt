@@ -1,10 +1,11 @@
 //! The two ends of a list of messages, how many stand on it, and its links.
 ghost use Rattle.std.specs.Prelude.{◌≡◌, ◌<◌, ◌+◌, ◌-◌, ◌^◌, length, option_map, MatchOption};
 ghost use Rattle.strm_raw.specs.Numbered.{IsMsg, IsMsgOrNone, msg_number, row_at, with_row};
-ghost use Rattle.strm_raw.specs.Lists.{Seats, Ties, along, edge, pick};
+ghost use Rattle.strm_raw.specs.Lists.{Seats, Ties, along, edge, kept, opened, pick};
 
 use crate::memory::Memory;
 use crate::msg_nodes::MsgLink;
+use std::ptr::null_mut;
 
 /// Where the first and the last message of a list lie, both `None` where no message stands on it, and how many stand there.
 #[derive(Clone, Copy)]
@@ -20,6 +21,44 @@ pub(crate) const NO_ENDS: Ends = Ends {
     last: None,
     count: 0,
 };
+
+/// The ends of a list as a store keeps them, in 24 bytes. Where no message stands on the list, both links lead nowhere.
+#[derive(Clone, Copy)]
+pub(crate) struct KeptEnds {
+    pub(crate) first: MsgLink,
+    pub(crate) last: MsgLink,
+    pub(crate) count: usize,
+}
+
+const _: () = prove!(size_of::<KeptEnds>() == 24);
+
+/// The ends that a store keeps.
+#[inline(always)]
+pub(crate) fn open(kept: KeptEnds) -> Ends
+    ensures { result ≡ opened kept }
+{
+    if kept.count == 0 {
+        return NO_ENDS;
+    }
+    Ends {
+        first: Some(kept.first),
+        last: Some(kept.last),
+        count: kept.count,
+    }
+}
+
+/// The ends of a list, to be kept.
+#[inline(always)]
+pub(crate) fn keep(ends: Ends) -> KeptEnds
+    ensures { result ≡ kept ends }
+{
+    let nowhere = MsgLink { at: null_mut() };
+    KeptEnds {
+        first: ends.first.unwrap_or(nowhere),
+        last: ends.last.unwrap_or(nowhere),
+        count: ends.count,
+    }
+}
 
 /// A course along a list: on from its first message, or back from its last one.
 #[derive(Clone, Copy)]

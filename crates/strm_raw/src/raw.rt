@@ -8,11 +8,12 @@ use crate::data_nodes::DataLink;
 use crate::ledger::Ledger;
 use crate::memory::Memory;
 use crate::msg_nodes::MsgLink;
-use crate::neighbours::{Ends, NO_ENDS};
+use crate::neighbours::{KeptEnds, NO_ENDS, keep};
 use std::alloc::{AllocError, Global};
 use std::marker::Model;
 use std::ptr::null_mut;
 use strm_blocks::InHand;
+use strm_types::LISTS;
 
 /// A store of message blocks and data blocks (STREAMS Programming Guide, "Message Structure"). Each block is a node, in
 /// memory that is reserved when the store is made and given back when it is dropped: a message block leads to the next one
@@ -22,7 +23,7 @@ use strm_blocks::InHand;
 #[derive(Drop)]
 pub struct RawStore {
     pub(crate) memory: Memory,
-    pub(crate) ends: [Ends; 8],
+    pub(crate) ends: [KeptEnds; LISTS],
     pub(crate) free_msg: Option<MsgLink>,
     pub(crate) free_data: Option<DataLink>,
     pub(crate) spare_m: usize,
@@ -59,7 +60,7 @@ impl RawStore {
         ledger.note(message.at, datum.at, 0, 0);
         Ok(RawStore {
             memory,
-            ends: [NO_ENDS; 8],
+            ends: [keep(NO_ENDS); LISTS],
             free_msg: None,
             free_data: None,
             spare_m: mblks,

@@ -5,13 +5,13 @@ use crate::changes::Change;
 use crate::data_nodes::DataNode;
 use crate::making::free_message;
 use crate::msg_nodes::{MsgNode, Shows};
-use crate::neighbours::{Course, NO_ENDS};
+use crate::neighbours::{Course, NO_ENDS, keep, open};
 use crate::raw::RawStore;
 use crate::tails::hang;
 use crate::visiting::{tell_list, tell_message};
 use std::alloc::{AllocError, Global};
 use strm_blocks::{Blocks, FlushWhat, InHand, NoBlocks, Peek, Reserve, Summary, Visitor};
-use strm_types::{Band, MsgKind};
+use strm_types::{Band, LISTS, MsgKind};
 
 impl Blocks for RawStore {
     ghost value = { λ s. s };
@@ -188,7 +188,7 @@ impl Blocks for RawStore {
     /// One load.
     fn is_empty(&self, list: usize) -> bool {
         let _ = &self.ledger;
-        self.ends[list].first.is_none()
+        self.messages(list) == 0
     }
 
     /// One load.
@@ -222,7 +222,7 @@ impl Blocks for RawStore {
     /// The cost is the same whatever the list's length.
     fn peek(&self, list: usize) -> Option<Peek> {
         let _ = &self.ledger;
-        let first = self.ends[list].first?;
+        let first = open(self.ends[list]).first?;
         let node = self.memory.message(first);
         Some(Peek {
             kind: node.kind,
@@ -233,7 +233,7 @@ impl Blocks for RawStore {
     /// It takes a step for each block of which the visitor is told.
     fn visit<V: Visitor>(&self, list: usize, visitor: &mut V) {
         let _ = &self.ledger;
-        tell_list(&self.memory, self.ends[list], visitor);
+        tell_list(&self.memory, open(self.ends[list]), visitor);
     }
 
     /// It takes a step for each block of which the visitor is told.
@@ -261,7 +261,7 @@ impl Blocks for RawStore {
         self.memory.clear();
         let (message, datum) = self.memory.begins();
         self.ledger.note(message.at, datum.at, 0, 0);
-        self.ends = [NO_ENDS; 8];
+        self.ends = [keep(NO_ENDS); LISTS];
         self.free_msg = None;
         self.free_data = None;
         (self.spare_m, self.spare_d) = self.memory.room();

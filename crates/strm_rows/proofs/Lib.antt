@@ -11,6 +11,8 @@ pub mod StateRows
 pub mod StackedRows
 pub mod PushRows
 pub mod CodePage
+pub mod LineBuffer
+pub mod LineBufferRows
 pub mod OwnRows
 pub mod StepRows
 pub mod QueueRows

@@ -42,13 +42,14 @@ never-open = refl
 pub names-of-drivers-and-heads : driver_of Slave ∷ head_of Slave ∷ [] ≡ named Slave Driver Down ∷ named Slave Head Up ∷ []
 names-of-drivers-and-heads = refl
 
--- modules of a user's own are told apart by their numbers, and have no queues
+-- modules of a user's own are told apart by their numbers, and have queues from 128 on
 pub own-numbers : map (λ name. same_module (names.Own 7) name) (names.Own 7 ∷ names.Own 8 ∷ names.Ldterm ∷ names.Pckt ∷ [])
     ≡ true ∷ false ∷ false ∷ false ∷ []
 own-numbers = refl
 
-pub own-has-no-queues : map have_queues (names.Own 0 ∷ names.Own 255 ∷ names.Ldterm ∷ []) ≡ false ∷ false ∷ true ∷ []
-own-has-no-queues = refl
+pub own-has-queues : map have_queues (names.Own 0 ∷ names.Own 127 ∷ names.Own 128 ∷ names.Own 255 ∷ names.Ldterm ∷ names.Ptem ∷ [])
+    ≡ false ∷ false ∷ true ∷ true ∷ true ∷ false ∷ []
+own-has-queues = refl
 
 -- each name is itself alone
 pub names-are-apart : map (λ name. times name all_names) all_names ≡ replicate 12 1

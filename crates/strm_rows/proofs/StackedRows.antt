@@ -83,13 +83,13 @@ ptem-loses-no-line = refl
 pub ptem-weighs-nothing : module_weight (λ direction (c : ℕ). true) Master ptem ≡ 0
 ptem-weighs-nothing = refl
 
-pub ptem-asks-nothing : map (λ way. module_asks way ptem) (Up ∷ Down ∷ []) ≡ Empty ∷ Empty ∷ []
+pub ptem-asks-nothing : map (λ way. module_asks no_own plain way ptem) (Up ∷ Down ∷ []) ≡ Empty ∷ Empty ∷ []
 ptem-asks-nothing = refl
 
 pub ptem-rests : map module_rests (ptem ∷ with_these [] [] [] ∷ []) ≡ true ∷ true ∷ []
 ptem-rests = refl
 
-pub ptem-serves-nothing : module_serves plain (record { side = Slave; at = 1; way = Up }) 0 true None ptem ≡ unserved ptem
+pub ptem-serves-nothing : module_serves no_own plain (record { side = Slave; at = 1; way = Up }) 0 true None ptem ≡ unserved ptem
 ptem-serves-nothing = refl
 
 pub nothing-is-served : unserved {C = ℕ} ptem ≡ record { acted = record { state = ptem; notes = []; sent = []; gone = [] }; bytes = 0; again = false }

@@ -4,9 +4,7 @@ use Rattle.strm_script.specs.Prelude.{Side, Master, Slave, Place, Head, Driver, 
 use Rattle.strm_types.specs.declared.names.ModuleName.TheVariants as modules
 use Rattle.strm_types.specs.declared.names.Place.TheVariants as places
 use Rattle.std.proofs.Common.{codes}
-use Rattle.strm_types.specs.Names.{has_queues_at}
-use Rattle.strm_types.proofs.EnabledNames.{queues-ldterm}
-use Rattle.strm_script.specs.Script.{side_name, place_name, way_name, queue_name}
+use Rattle.strm_script.specs.Script.{side_name, has_name, place_name, way_name, queue_name}
 use Rattle.strm_script.specs.Named.{and_then, after}
 use Rattle.strm_script.specs.ScriptReading.{Front, before, side_at, place_at, way_in, queue_in, placed_in, dotted_in}
 use Rattle.strm_script.proofs.Grammar.{and_then-found, option_map-found, after-found}
@@ -22,19 +20,19 @@ place-found line found h = elim (either-found _ _ found h) [
   ]
 ]
 
--- it is one where queues stand
+-- it is one whose queues have a name
 value-of : (word : List ℕ) (x : Place) (line : List ℕ) (found : Front Place) → before word x line ≡ Some found → x ≡ found.value
 value-of word x line found h =
     let m = option_map-found (λ rest. record { value = x; rest = rest }) (after word line) found h in
     ap (λ (f : Front Place). f.value) m.second
 
-place-has : (line : List ℕ) (found : Front Place) → place_at line ≡ Some found → has_queues_at found.value ≡ true
+place-has : (line : List ℕ) (found : Front Place) → place_at line ≡ Some found → has_name found.value ≡ true
 unfolding place_at
 place-has line found h = elim (either-found _ _ found h) [
-  | inl a ↦ subst (λ p. has_queues_at p ≡ true) (value-of (codes "head") Head line found a) refl
+  | inl a ↦ subst (λ p. has_name p ≡ true) (value-of (codes "head") Head line found a) refl
   | inr b ↦ elim (either-found _ _ found b) [
-    | inl c ↦ subst (λ p. has_queues_at p ≡ true) (value-of (codes "ldterm") (places.Module modules.Ldterm) line found c) refl
-    | inr d ↦ subst (λ p. has_queues_at p ≡ true) (value-of (codes "drv") Driver line found d) refl
+    | inl c ↦ subst (λ p. has_name p ≡ true) (value-of (codes "ldterm") (places.Module modules.Ldterm) line found c) refl
+    | inr d ↦ subst (λ p. has_name p ≡ true) (value-of (codes "drv") Driver line found d) refl
   ]
 ]
 
@@ -54,7 +52,7 @@ placed-found side place line name h =
 
 sided-found : (side : Side) (line : List ℕ) (name : QueueName) → dotted_in side line ≡ Some name
     → (place : Place) × (way : Way) × (line ≡ 46 ∷ place_name place ++ 46 ∷ way_name way) × (name ≡ record { side = side; place = place; way = way })
-    × (has_queues_at place ≡ true)
+    × (has_name place ≡ true)
 sided-found side line name h =
     let dot = and_then-found (λ rest. and_then (λ (place : Front Place). placed_in side place.value place.rest) (place_at rest)) (after (codes ".") line) name h in
     let place = and_then-found (λ (place : Front Place). placed_in side place.value place.rest) (place_at dot.value) name dot.second in
@@ -67,16 +65,16 @@ sided-found side line name h =
       place-has dot.value place.value place.first,
     )
 
-pub queue-found : (line : List ℕ) (name : QueueName) → queue_in line ≡ Some name → (line ≡ queue_name name) × (has_queues_at name.place ≡ true)
+pub queue-found : (line : List ℕ) (name : QueueName) → queue_in line ≡ Some name → (line ≡ queue_name name) × (has_name name.place ≡ true)
 unfolding queue_in
 queue-found line name h =
     let side = and_then-found (λ (side : Front Side). dotted_in side.value side.rest) (side_at line) name h in
     let rest = sided-found side.value.value side.value.rest name side.second in (
       (side-found line side.value side.first).line_is ∙ ap (λ k. side_name side.value.value ++ k) rest.2 ∙ ap queue_name (sym rest.3),
-      ap (λ (n : QueueName). has_queues_at n.place) rest.3 ∙ rest.4,
+      ap (λ (n : QueueName). has_name n.place) rest.3 ∙ rest.4,
     )
 
--- every name of a queue of a place where queues stand is read
+-- every name of a queue of a place whose queues have one is read
 ldterm-only : (side : Side) (way : Way)
     → let name : QueueName = record { side = side; place = places.Module modules.Ldterm; way = way } in queue_in (queue_name name) ≡ Some name
 unfolding queue_in side_at place_at way_in
@@ -85,7 +83,7 @@ ldterm-only Master Down = refl
 ldterm-only Slave Up = refl
 ldterm-only Slave Down = refl
 
-parts-only : (side : Side) (place : Place) (way : Way) → has_queues_at place ≡ true
+parts-only : (side : Side) (place : Place) (way : Way) → has_name place ≡ true
     → queue_in (queue_name (record { side = side; place = place; way = way })) ≡ Some (record { side = side; place = place; way = way })
 unfolding queue_in side_at place_at way_in
 parts-only Master Head Up has = refl
@@ -96,9 +94,10 @@ parts-only Slave Head Up has = refl
 parts-only Slave Head Down has = refl
 parts-only Slave Driver Up has = refl
 parts-only Slave Driver Down has = refl
-parts-only side (places.Module name) way has =
-    subst (λ n. queue_in (queue_name (record { side = side; place = places.Module n; way = way })) ≡ Some (record { side = side; place = places.Module n; way = way }))
-    (sym (queues-ldterm name has)) (ldterm-only side way)
+parts-only side (places.Module modules.Ldterm) way has = ldterm-only side way
+parts-only side (places.Module modules.Ptem) way has = absurd (cc)
+parts-only side (places.Module modules.Pckt) way has = absurd (cc)
+parts-only side (places.Module (modules.Own n)) way has = absurd (cc)
 
-pub queue-only : (name : QueueName) → has_queues_at name.place ≡ true → queue_in (queue_name name) ≡ Some name
+pub queue-only : (name : QueueName) → has_name name.place ≡ true → queue_in (queue_name name) ≡ Some name
 queue-only name has = parts-only name.side name.place name.way has

@@ -14,13 +14,16 @@ use Rattle.strm_types.specs.declared.spots.Spot.{Spot}
 use Rattle.strm_types.specs.Input.{input_begins, is_data, passes, stages, stages_done, treats}
 use Rattle.strm_types.specs.Ldterms as ldterms
 use Rattle.strm_types.specs.ModuleQueues.{at_place}
-use Rattle.strm_types.specs.Standings.{messages_at, stood}
+use Rattle.strm_types.specs.Owns.{Own}
+use Rattle.strm_types.specs.OwnStands.{own_served, own_serves}
+use Rattle.strm_types.specs.Standings.{QueuePair, messages_at, stood, way_queue}
 use Rattle.strm_laws.proofs.NoOwn.{none as no_own}
+use Rattle.strm_laws.specs.Behaviours.{own_by}
 use Rattle.strm_laws.specs.ModuleTurns.{Calls, again_at, asked_turn, calls, made_below, moved_by, moved_on, moved_within, turned_named, turned_there, waits_there, whole_module}
 use Rattle.strm_types.specs.OutputTurns.{output_serves}
 use Rattle.strm_laws.specs.Past.{has_room_past}
 use Rattle.strm_types.specs.Queue.{left_with, first_size}
-use Rattle.strm_laws.specs.Stacked.{Module, OfLdterm, Standing, module_asks, module_rests, module_serves}
+use Rattle.strm_laws.specs.Stacked.{Module, OfLdterm, OfOwn, Standing, module_asks, module_rests, module_serves}
 use Rattle.strm_laws.specs.TurnOutcomes.{stayed_put}
 use Rattle.strm_laws.specs.Turns.{turned_at}
 use Rattle.strm_types.specs.Names.{without}
@@ -50,12 +53,22 @@ module _ (side : Side) (at : ℕ) where
       by true = treats-none Up made (record p { read_queue = left_with rest p.read_queue; in_work = Some m })
       by false = refl
 
-  serves-once : (way : Way) (made : ℕ) (p : Standing ℕ) → (module_serves plain (there way) made false (Some 0) p).again ≡ false
+  -- one of a user's own treats one message
+  own-once : (way : Way) (o : Own) (queues : Option (QueuePair ℕ)) → (own_serves (own_by no_own plain) (there way) (record { part = o; queues = queues })).again ≡ false
+  own-once way o None = refl
+  own-once way o (Some pair) = by (way_queue way pair).messages
+    where
+      by : (ms : List (Message ℕ)) → (own_served (own_by no_own plain) (there way) (record { part = o; queues = Some pair }) pair ms).again ≡ false
+      by [] = refl
+      by (m ∷ rest) = refl
+
+  serves-once : (way : Way) (made : ℕ) (p : Standing ℕ) → (module_serves no_own plain (there way) made false (Some 0) p).again ≡ false
   serves-once way made p = by way p.part
     where
-      by : (way : Way) (part : Module ℕ) → (module_serves plain (there way) made false (Some 0) (stood part p.queues)).again ≡ false
+      by : (way : Way) (part : Module ℕ) → (module_serves no_own plain (there way) made false (Some 0) (stood part p.queues)).again ≡ false
       by Down (OfLdterm l) = let d = disciplined l p.queues in output-once made d.write_queue.messages d
       by Up (OfLdterm l) = let d = disciplined l p.queues in input-once made d.read_queue.messages d
+      by way (OfOwn o) = own-once way o p.queues
       by way other = refl
 
   none-among : (say : Standing ℕ → Bool) → ((p : Standing ℕ) → say p ≡ false) → (i : ℕ) (ps : List (Standing ℕ)) → slice_index_or (map say ps) i false ≡ false
@@ -69,8 +82,8 @@ module _ (side : Side) (at : ℕ) where
 
   ends-at-once : (way : Way) (s : State ℕ) → (calls no_own plain (there way) (3 * 0 + 1) false 0 s).ended ≡ true
   ends-at-once way s =
-      ends-where (again_at plain (there way) (made_below side s) false 0 (stream side s).modules) _ _
-      (none-among (λ p. (module_serves plain (there way) (made_below side s) false (Some 0) p).again) (serves-once way (made_below side s)) (at - 1) (stream side s).modules) refl
+      ends-where (again_at no_own plain (there way) (made_below side s) false 0 (stream side s).modules) _ _
+      (none-among (λ p. (module_serves no_own plain (there way) (made_below side s) false (Some 0) p).again) (serves-once way (made_below side s)) (at - 1) (stream side s).modules) refl
 
   moves-where : (ended : Bool) (one another : TurnOutcome ℕ) → ended ≡ true → (cond ended one another).turn ≡ one.turn
   moves-where true one another ended = refl
@@ -111,7 +124,7 @@ module _ (name : QueueName) (turn another : Turn) (s : State ℕ) (none : moved_
   named-same None stays = refl
   named-same (Some at) stays =
       let ps = (stream name.side s).modules in
-      stays-where (at_place module_rests false at ps) _ _ _ (asked-same at (at_place (module_asks name.way) asked.Empty at ps)) stays
+      stays-where (at_place module_rests false at ps) _ _ _ (asked-same at (at_place (module_asks no_own plain name.way) asked.Empty at ps)) stays
 
   stays-same : (place : Place) → Stays (turned_at no_own plain place name turn s)
       → turned_at no_own plain place name turn s ≡ turned_at no_own plain place name another s
@@ -135,7 +148,7 @@ module _ (side : Side) (at : ℕ) (way : Way) (name : QueueName) (s : State ℕ)
     there-alike : turned_there no_own plain (there side at way) name (Moved n) s ≡ turned_there no_own plain (there side at way) name (Moved m) s
     there-alike =
         let ps = (stream side s).modules in
-        ap (λ (o : TurnOutcome ℕ). cond (at_place module_rests false at ps) o (stayed_put Blocked s)) (asked-alike (at_place (module_asks way) asked.Empty at ps))
+        ap (λ (o : TurnOutcome ℕ). cond (at_place module_rests false at ps) o (stayed_put Blocked s)) (asked-alike (at_place (module_asks no_own plain way) asked.Empty at ps))
 
 abbrev named : ModuleName → Side → Way → QueueName
 named owner side way = record { side = side; place = places.Module owner; way = way }

@@ -10,8 +10,6 @@ use Rattle.std.proofs.lemmas.List.{length-append}
 use Rattle.std.proofs.Math.Seq.{take-append_seam, drop-append_seam}
 use Rattle.std.specs.Prelude.{⊤, is_some}
 use Rattle.std.specs.List.{AllByRecursion, list_all, position_or_len}
-use Rattle.strm_types.specs.Names.{has_queues_at}
-use Rattle.strm_types.proofs.EnabledNames.{queues-ldterm}
 use Rattle.strm_types.specs.declared.names.ModuleName.TheVariants as modules
 use Rattle.strm_types.specs.declared.events.FlushQueues.TheVariants as queues
 use Rattle.strm_types.specs.declared.modes.Mode.TheVariants as modes
@@ -19,7 +17,7 @@ use Rattle.strm_script.specs.declared.commands.NamedPrio.{NamedPrio}
 use Rattle.strm_script.specs.declared.commands.NamedPrio.TheVariants as prios
 use Rattle.strm_script.specs.declared.commands.NamedWanted.{NamedWanted}
 use Rattle.strm_script.specs.declared.commands.NamedWanted.TheVariants as wanteds
-use Rattle.strm_script.specs.Script.{side_name, queue_name, direction_name, flags_name, flush_name, mode_name, has_word, module_name, digit_of, hex_of, is_letter, HasValue, IsNumber, IsNumberTo, IsPiece, Itself, Named, Coded, IsText, IsQuoted, IsPrio, IsWanted, IsPart, IsName, IsModule}
+use Rattle.strm_script.specs.Script.{side_name, has_name, queue_name, direction_name, flags_name, flush_name, mode_name, has_word, module_name, digit_of, hex_of, is_letter, HasValue, IsNumber, IsNumberTo, IsPiece, Itself, Named, Coded, IsText, IsQuoted, IsPrio, IsWanted, IsPart, IsName, IsModule}
 use Rattle.strm_script.specs.Named.{and_then, after, at_end, whole, is_whole, named}
 use Rattle.strm_script.specs.Table.{Kind, AVerb, AnIoctl, ASide, ANumber, AShort, AByte, AText, APart, APrio, AWanted, AQueue, ADirection, AModule, SomeQueues, AMode, Flags, Said, verbs, ioctl_names, IsWord}
 use Rattle.strm_script.specs.ScriptReading.{Front, is_space, within, number_in, number_to, text_in, quoted_len, token_len, token_in, split, prio_in, wanted_in, part_in, is_name, name_in, sides, module_names, flushed, mode_names, directions, flag_names, word_in}
@@ -306,7 +304,7 @@ ldterm-plain Master Down = refl
 ldterm-plain Slave Up = refl
 ldterm-plain Slave Down = refl
 
-place-plain : (side : Side) (place : Place) (way : Way) → has_queues_at place ≡ true
+place-plain : (side : Side) (place : Place) (way : Way) → has_name place ≡ true
     → list_all is_plain (queue_name (record { side = side; place = place; way = way })) ≡ true
 place-plain Master Head Up has = refl
 place-plain Master Head Down has = refl
@@ -316,9 +314,10 @@ place-plain Slave Head Up has = refl
 place-plain Slave Head Down has = refl
 place-plain Slave Driver Up has = refl
 place-plain Slave Driver Down has = refl
-place-plain side (places.Module name) way has =
-    subst (λ n. list_all is_plain (queue_name (record { side = side; place = places.Module n; way = way })) ≡ true) (sym (queues-ldterm name has))
-    (ldterm-plain side way)
+place-plain side (places.Module modules.Ldterm) way has = ldterm-plain side way
+place-plain side (places.Module modules.Ptem) way has = absurd (cc)
+place-plain side (places.Module modules.Pckt) way has = absurd (cc)
+place-plain side (places.Module (modules.Own n)) way has = absurd (cc)
 
 prio-plain : (prio : NamedPrio) (word : List ℕ) → IsPrio prio word → list_all is_plain word ≡ true
 prio-plain prios.High word h = ap (list_all is_plain) h

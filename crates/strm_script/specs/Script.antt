@@ -10,6 +10,7 @@ use Rattle.strm_types.specs.declared.names.Place.TheVariants as places
 use Rattle.strm_types.specs.declared.names.ModuleName.TheVariants as modules
 use Rattle.strm_types.specs.declared.events.FlushQueues.TheVariants as queues
 use Rattle.strm_types.specs.declared.modes.Mode.TheVariants as modes
+use Rattle.strm_types.specs.Names.{have_queues}
 use Rattle.strm_script.specs.declared.commands.NamedPrio.{NamedPrio}
 use Rattle.strm_script.specs.declared.commands.NamedPrio.TheVariants as prios
 use Rattle.strm_script.specs.declared.commands.NamedWanted.{NamedWanted}
@@ -53,6 +54,11 @@ module_name (modules.Own n) = decimal (16 + n)
 abbrev pub has_word : ModuleName → Bool
 has_word (modules.Own n) = false
 has_word _ = true
+
+-- whether the queues of a place have a name: those of heads, drivers, and modules that have queues and a word
+abbrev pub has_name : Place → Bool
+has_name (places.Module name) = has_word name && have_queues name
+has_name _ = true
 
 abbrev pub place_name : Place → List ℕ
 place_name Head = codes "head"

@@ -11,9 +11,8 @@ use Rattle.strm_script.specs.declared.ioctls.IoctlName.{IoctlName}
 use Rattle.strm_script.specs.declared.ioctls.IoctlName.TheVariants as ioctls
 use Rattle.strm_script.specs.declared.verbs.Verb.{Verb}
 use Rattle.strm_script.specs.declared.verbs.Verb.TheVariants as words
-use Rattle.strm_types.specs.Names.{has_queues_at}
 use Rattle.strm_script.specs.Named.{named}
-use Rattle.strm_script.specs.Script.{Command, Open, Call, Flush, Put, Get, Turn, Run, Show, Ledger, Cut, Group, side_name, queue_name, direction_name, flags_name, flush_name, mode_name, usual_size, byte_max, short_max, window_bytes, group_bytes, IsNumber, IsNumberTo, IsQuoted, IsPart, IsPrio, IsWanted, IsModule}
+use Rattle.strm_script.specs.Script.{Command, Open, Call, Flush, Put, Get, Turn, Run, Show, Ledger, Cut, Group, side_name, has_name, queue_name, direction_name, flags_name, flush_name, mode_name, usual_size, byte_max, short_max, window_bytes, group_bytes, IsNumber, IsNumberTo, IsQuoted, IsPart, IsPrio, IsWanted, IsModule}
 
 -- the kinds of words that a line has
 pub data Kind : Type 0 where
@@ -107,7 +106,7 @@ IsWord AText text word = IsQuoted text word
 IsWord APart part word = IsPart part word
 IsWord APrio prio word = IsPrio prio word
 IsWord AWanted wanted word = IsWanted wanted word
-IsWord AQueue name word = (word ≡ queue_name name) × (has_queues_at name.place ≡ true)
+IsWord AQueue name word = (word ≡ queue_name name) × (has_name name.place ≡ true)
 IsWord ADirection direction word = word ≡ direction_name direction
 IsWord AModule known word = IsModule known word
 IsWord SomeQueues what word = word ≡ flush_name what

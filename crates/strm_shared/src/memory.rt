@@ -112,7 +112,7 @@ fn are_had<P: Object, R: Wait>(
     was_cut && has_crew(system, alloc) && are_made
 }
 
-// A pair is cut, and workers are had, once there is memory.
+// Where all memory is taken nothing is made that asks for it, and a write goes well; once it was given back, all is.
 fn is_short_for<P: Object, R: Wait + Abort>(
     rt: &R,
     alloc: Global,
@@ -132,6 +132,7 @@ fn is_short_for<P: Object, R: Wait + Abort>(
     Ok(())
 }
 
+// The same of a pair that is opened here, whose ends are told four calls.
 pub(crate) fn is_short<P: Object, R: Wait + Abort>(
     rt: &R,
     alloc: Global,

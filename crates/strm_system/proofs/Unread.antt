@@ -22,8 +22,9 @@ use Rattle.strm_types.specs.Cells.{Cells}
 use Rattle.strm_types.specs.Deliver.{Acted, Carried, Fate, Goes, Comes, Parcel, Took, carried, in_turn, onward}
 use Rattle.strm_types.specs.Drivers.{answered, crosses, driver_put, flush_down, freed, ioctl_put, own_flushed, put_across, put_down, taken_in}
 use Rattle.strm_laws.proofs.NoOwn.{none as no_own}
+use Rattle.strm_laws.specs.Behaviours.{own_by}
 use Rattle.strm_laws.specs.Earlier.{driver_place, modules_on}
-use Rattle.strm_types.specs.Flushing.{asked_by, flush_message, read_flush, is_bare_flush}
+use Rattle.strm_types.specs.Flushing.{asked_by, flush_message, read_flush, is_bare_flush, is_flush}
 use Rattle.strm_types.specs.Heads.{head_flushed, head_put, is_doubled, obeyed, passed_by, Head}
 use Rattle.strm_types.specs.Ioctls.{read_ioc}
 use Rattle.strm_types.specs.LdtermPuts.{ldterm_puts}
@@ -31,6 +32,8 @@ use Rattle.strm_types.specs.Ldterms.{Discipline, both, flush_passes, line_flushe
 use Rattle.strm_types.specs.Message.{Message, has_parts}
 use Rattle.strm_types.specs.Modules.{put_among}
 use Rattle.strm_types.specs.Names.{direction_at, is_master, is_open}
+use Rattle.strm_types.specs.Owns.{Own}
+use Rattle.strm_types.specs.OwnStands.{own_holds, own_puts, own_queued, pair_flushed, way_flushed}
 use Rattle.strm_laws.specs.Puts.{across_of, delivered, made_above, passed_up, put_at_driver, put_at_head, put_at_module, put_behind, put_below, put_in}
 use Rattle.strm_types.specs.Queue.{Queue}
 use Rattle.strm_types.specs.Rules.{number_of}
@@ -39,7 +42,7 @@ use Rattle.strm_laws.specs.Stacked.{Module, OfLdterm, OfPtem, OfPckt, OfOwn, Sta
 use Rattle.strm_laws.specs.State.{State, stream}
 use Rattle.strm_types.specs.TakenUp.{input_flushed, taken_up, termios_taken}
 use Rattle.strm_types.specs.Typing.{up_alone}
-use Rattle.strm_types.specs.Standings.{stood}
+use Rattle.strm_types.specs.Standings.{stood, QueuePair}
 use Rattle.strm_types.specs.LdtermStands.{disciplined}
 use Rattle.strm_types.proofs.LdtermPuts as of_ldterm
 use Rattle.strm_types.proofs.PcktPuts as of_pckt
@@ -158,6 +161,26 @@ module _ {C : Type 0} (dir : Dir) where
     taken = λ way is ioc t. taken-unread here ioc.command t m l;
   })
 
+  -- at a module of a user's own, which obeys an M_FLUSH where it has queues
+  way-flushed-unread : (here : Spot) (band : Option Band) (flushed : Bool) (way : Way) (pair : QueuePair C) → Unread (way_flushed here band flushed way pair)
+  way-flushed-unread here band false way pair = refl
+  way-flushed-unread here band true way pair = refl
+
+  pair-unread : (here : Spot) (m : Message C) (o : Own) (pair : QueuePair C) → Unread (pair_flushed here m o pair)
+  pair-unread here m o pair =
+      let flush = asked_by m.plain in
+      let above = way_flushed here flush.band flush.for_read Up pair in
+      none-both above.gone (way_flushed here flush.band flush.for_write Down above.state).gone
+      (way-flushed-unread here flush.band flush.for_read Up pair) (way-flushed-unread here flush.band flush.for_write Down above.state)
+
+  own-unread : (cells : Cells C) (here : Spot) (m : Message C) (o : Own) (queues : Option (QueuePair C))
+      → Unread (own_puts (own_by no_own cells) here m (record { part = o; queues = queues }))
+  own-unread cells here m o None = refl
+  own-unread cells here m o (Some pair) =
+      let own = own_by no_own cells in
+      either (is_flush m.kind) (pair_flushed here m o pair) _ (pair-unread here m o pair)
+      (either (own_holds own here m o) (own_queued here.way m o pair) _ refl refl)
+
   -- at any module
   module _ (cells : Cells C) where
     module-unread : (made : ℕ) (here : Spot) (m : Message C) (q : Standing C) → Unread (module_puts no_own cells made here m q)
@@ -167,7 +190,7 @@ module _ {C : Type 0} (dir : Dir) where
         by (OfLdterm l) = ldterm-unread here m (disciplined l q.queues)
         by (OfPtem p) = ap (λ told. reads dir told) (of_ptem.puts-gone here m p)
         by (OfPckt p) = of_pckt.puts-each cells made here m (λ t. reads dir t.gone ≡ 0) refl (λ up is. refl)
-        by (OfOwn o) = refl
+        by (OfOwn o) = own-unread cells here m o q.queues
 
     among-unread : (made i : ℕ) (here : Spot) (m : Message C) (ps : List (Standing C))
         → Unread (put_among (module_puts no_own cells made) i here m ps)

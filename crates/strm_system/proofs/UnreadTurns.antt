@@ -26,6 +26,7 @@ use Rattle.strm_types.specs.declared.spots.Spot.{Spot}
 use Rattle.strm_types.specs.declared.termios.Termios.{Termios}
 use Rattle.strm_types.specs.Cells.{Cells, cells_made}
 use Rattle.strm_laws.proofs.NoOwn.{none as no_own}
+use Rattle.strm_laws.specs.Behaviours.{own_by}
 use Rattle.strm_laws.specs.Closes.{and_then, closed_at, driver_emptied, head_emptied, stream_emptied}
 use Rattle.strm_types.specs.Deliver.{Acted, Fate, carried, in_turn}
 use Rattle.strm_types.specs.Emptied.{cells_gone, of_all}
@@ -43,11 +44,13 @@ use Rattle.strm_types.specs.Options.{mode_message}
 use Rattle.strm_types.specs.Output.{made_for, post, posts, told_for}
 use Rattle.strm_types.specs.OutputTurns.{output_dir, output_serves, posted, unchanged}
 use Rattle.strm_laws.specs.Past.{has_room_past}
+use Rattle.strm_types.specs.Owns.{Own}
+use Rattle.strm_types.specs.OwnStands.{own_served, own_serves}
 use Rattle.strm_laws.specs.Pushes.{all_taken, head_above, mode_behind, mode_on_push, mode_put, modules_emptied, popped, pushed_named, top_on, top_taken, with_modules}
 use Rattle.strm_laws.specs.Puts.{put_in}
 use Rattle.strm_types.specs.Queue.{is_full, is_none_left, left_with}
 use Rattle.strm_types.specs.Service.{cleared, line_gone, queues_cleared}
-use Rattle.strm_laws.specs.Stacked.{Module, OfLdterm, Standing, module_asks, module_line, module_name, module_rests, module_serves, without_kind_line, kind_line}
+use Rattle.strm_laws.specs.Stacked.{Module, OfLdterm, OfOwn, Standing, module_asks, module_line, module_name, module_rests, module_serves, without_kind_line, kind_line}
 use Rattle.strm_laws.specs.State.{State, stream}
 use Rattle.strm_types.specs.Termios.{icanon, imaxbel, noflsh, opost}
 use Rattle.strm_laws.specs.TurnOutcomes.{TurnOutcome, stayed_put}
@@ -173,14 +176,24 @@ module _ {C : Type 0} (dir : Dir) (cells : Cells C) where
   serves-at Up here false made stop l = input-unread dir cells (record here { way = Up }) stop made l.read_queue.messages l
   serves-at Up here true made stop l = stages-unread dir cells (record here { way = Up }) (3 * unwrap_or stop (to_treat l) - stages_done l.stage) made l
 
-  serves-unread : (here : Spot) (again : Bool) (made : ℕ) (stop : Option ℕ) (q : Standing C) → Unread dir (module_serves cells here made again stop q).acted
+  -- A module of a user's own does with what it takes off a queue what it does with what comes.
+  own-unread : (here : Spot) (o : Own) (queues : Option (QueuePair C)) → Unread dir (own_serves (own_by no_own cells) here (record { part = o; queues = queues })).acted
+  own-unread here o None = refl
+  own-unread here o (Some pair) = at (way_queue here.way pair).messages
+    where
+      at : (ms : List (Message C)) → Unread dir (own_served (own_by no_own cells) here (record { part = o; queues = Some pair }) pair ms).acted
+      at [] = refl
+      at (m ∷ rest) = refl
+
+  serves-unread : (here : Spot) (again : Bool) (made : ℕ) (stop : Option ℕ) (q : Standing C) → Unread dir (module_serves no_own cells here made again stop q).acted
   serves-unread here again made stop q = by q.part
     where
-      by : (part : Module C) → Unread dir (module_serves cells here made again stop (stood part q.queues)).acted
+      by : (part : Module C) → Unread dir (module_serves no_own cells here made again stop (stood part q.queues)).acted
       by (OfLdterm l) = serves-at here.way here again made stop (disciplined l q.queues)
+      by (OfOwn o) = own-unread here o q.queues
       by other = refl
 
-  acts-unread : (here : Spot) (made : ℕ) (again : Bool) (left : ℕ) (i : ℕ) (ps : List (Standing C)) → Unread dir (act_among (λ q. (module_serves cells here made again (Some left) q).acted) i ps)
+  acts-unread : (here : Spot) (made : ℕ) (again : Bool) (left : ℕ) (i : ℕ) (ps : List (Standing C)) → Unread dir (act_among (λ q. (module_serves no_own cells here made again (Some left) q).acted) i ps)
   acts-unread here made again left i [] = refl
   acts-unread here made again left zero (q ∷ ps) = serves-unread here again made (Some left) q
   acts-unread here made again left (suc i) (q ∷ ps) = acts-unread here made again left i ps
@@ -191,12 +204,12 @@ module _ {C : Type 0} (dir : Dir) (cells : Cells C) where
     calls-unread (suc more) again left s =
         let ps = (stream here.side s).modules in
         let made = made_below here.side s in
-        let t = module_called cells here again left s in
+        let t = module_called no_own cells here again left s in
         let u = in_turn (carried (put_in no_own cells) HOPS) t.sent t.state in
-        let less = left - bytes_at cells here made again left ps in
+        let less = left - bytes_at no_own cells here made again left ps in
         let v = calls no_own cells here more true less u.state in
         let out = none-both dir t.gone u.gone (acts-unread here made again left (here.at - 1) ps) (sent-unread dir cells t.sent t.state) in
-        either-calls (again_at cells here made again left ps) _ _ (none-both dir (t.gone ++ u.gone) v.gone out (calls-unread more true less u.state)) out
+        either-calls (again_at no_own cells here made again left ps) _ _ (none-both dir (t.gone ++ u.gone) v.gone out (calls-unread more true less u.state)) out
       where
         either-calls : (b : Bool) (one another : Calls C) → reads dir one.gone ≡ 0 → reads dir another.gone ≡ 0 → reads dir (cond b one another).gone ≡ 0
         either-calls true one another first second = first
@@ -224,7 +237,7 @@ module _ {C : Type 0} (dir : Dir) (cells : Cells C) where
     there-unread : (name : QueueName) (turn : Turn) (s : State C) → Quiet (turned_there no_own cells here name turn s)
     there-unread name turn s =
         let ps = (stream here.side s).modules in
-        let asks = at_place (module_asks here.way) asked.Empty here.at ps in
+        let asks = at_place (module_asks no_own cells here.way) asked.Empty here.at ps in
         either-turns (at_place module_rests false here.at ps) (asked_turn no_own cells here asks name turn s) (stayed_put Blocked s) (asked-unread asks name turn s) refl
 
   module-turn : (name : QueueName) (turn : Turn) (s : State C) → reads dir (module_turned no_own cells name turn s).gone ≡ 0

@@ -1,5 +1,5 @@
 -- A turn of a stream of two modules, step by step.
-use Rattle.std.proofs.Common.{ℕ, zero, suc, ◌≡◌, ◌≢◌, ◌≤◌, ◌+◌, true, false, cond, Bool, Option, None, Some, List, [], ◌∷◌, length, get_or, map, refl, sym, ap, subst, ◌∙◌, arith}
+use Rattle.std.proofs.Common.{ℕ, zero, suc, ◌≡◌, ◌≢◌, ◌≤◌, ◌<◌, ◌+◌, true, false, cond, Bool, Option, None, Some, List, [], ◌∷◌, length, get_or, map, refl, sym, ap, subst, ◌∙◌, arith}
 use Rattle.std.specs.Prelude.{◌==◌, ◌&&◌, min, nat_le, sum_by}
 use Rattle.std.proofs.lemmas.Bool.{and_parts}
 use Rattle.std.proofs.lemmas.Bool.Decides.{nat_tests}
@@ -152,16 +152,27 @@ four-lists (suc (suc (suc k))) =
     let c = miss 2 (suc (suc (suc k))) (λ e. absurd (omega arith)) in
     omega (arith, a, b, c, once-most 3 (suc (suc (suc k))))
 
--- two queues on the second two lists
-pub two-ready : (s : StoreValue) (pair : pairs.QueuePair) → IsReady s pair.read → IsReady s pair.write → pair.read.list ≡ 2 → pair.write.list ≡ 3 → IsPairReady s pair
+-- two queues on the first two lists
+pub two-ready : (s : StoreValue) (pair : pairs.QueuePair) → IsReady s pair.read → IsReady s pair.write → pair.read.list ≡ 0 → pair.write.list ≡ 1 → IsPairReady s pair
 two-ready s pair read write first second = record { read = read; write = write; apart = omega (arith, first, second) }
 
-pub two-own : (pair : pairs.QueuePair) → pair.read.list ≡ 2 → pair.write.list ≡ 3 → (k : ℕ) → queues_own (Some pair) k ≡ once 2 k + once 3 k
-two-own pair first second k = ap (λ l. once l k + once pair.write.list k) first ∙ ap (λ l. once 2 k + once l k) second
+pub two-own : (pair : pairs.QueuePair) → pair.read.list ≡ 0 → pair.write.list ≡ 1 → (k : ℕ) → queues_own (Some pair) k ≡ once 0 k + once 1 k
+two-own pair first second k = ap (λ l. once l k + once pair.write.list k) first ∙ ap (λ l. once 0 k + once l k) second
+
+-- the two lists of the lower one come before those of the upper one
+pair-low : (k : ℕ) → 0 < once 0 k + once 1 k → k ≤ 1
+pair-low zero some = omega arith
+pair-low (suc zero) some = omega arith
+pair-low (suc (suc k)) some = absurd (omega (arith, some, miss 0 (suc (suc k)) (λ e. absurd (omega (arith, e))), miss 1 (suc (suc k)) (λ e. absurd (omega (arith, e)))))
+
+pair-high : (k : ℕ) → 0 < once 2 k + once 3 k → 2 ≤ k
+pair-high zero some = absurd (omega (arith, some, miss 2 0 (λ e. absurd (omega (arith, e))), miss 3 0 (λ e. absurd (omega (arith, e)))))
+pair-high (suc zero) some = absurd (omega (arith, some, miss 2 1 (λ e. absurd (omega (arith, e))), miss 3 1 (λ e. absurd (omega (arith, e)))))
+pair-high (suc (suc k)) some = omega arith
 
 -- two modules whose queues stand on the first four lists of a new store
 pub two-new : {M : Type 0} (mblks dblks : ℕ) (m n : M) (a b : pairs.QueuePair) (all : List (Standing M)) → all ≡ standing m (Some a) ∷ standing n (Some b) ∷ [] → IsPairReady (empty_store mblks dblks) a
-    → IsPairReady (empty_store mblks dblks) b → ((k : ℕ) → queues_own (Some a) k ≡ once 0 k + once 1 k) → ((k : ℕ) → queues_own (Some b) k ≡ once 2 k + once 3 k) → AtRest (empty_store mblks dblks) all
+    → IsPairReady (empty_store mblks dblks) b → ((k : ℕ) → queues_own (Some a) k ≡ once 2 k + once 3 k) → ((k : ℕ) → queues_own (Some b) k ≡ once 0 k + once 1 k) → AtRest (empty_store mblks dblks) all
 two-new mblks dblks m n a b all is above below first second =
     let x = standing m (Some a) in
     let y = standing n (Some b) in
@@ -170,6 +181,10 @@ two-new mblks dblks m n a b all is above below first second =
         held = record {
           each = (record { queues = above; itself = refl }, (record { queues = below; itself = refl }, tt));
           apart = λ k. omega (arith, sum_by-cons (λ z. owns z k) x (y ∷ []), sum_by-cons (λ z. owns z k) y [], four-lists k, first k, second k);
+          order = (
+            λ j k others own. omega (arith, pair-low j (omega (arith, others, sum_by-cons (λ z. owns z j) y [], second j)), pair-high k (omega (arith, own, first k))),
+            ((λ j k others own. absurd (omega (arith, others))), tt),
+          );
         };
         two = refl;
       };

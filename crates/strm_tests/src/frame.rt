@@ -102,18 +102,22 @@ fn a_writer_waits_at_the_nearest_queue(rt: HostRuntime) -> Result<(), Fail> {
     Ok(())
 }
 
+// Enables a queue, where fewer than 14 are.
+fn enable(enabled: &mut Enabled, name: QueueName) {
+    if enabled.as_slice().len() < 14 {
+        enabled.enable(name);
+    }
+}
+
 #[test]
 fn the_queues_of_a_popped_module_leave_the_enabled_list(rt: HostRuntime) -> Result<(), Fail> {
     let mut enabled = Enabled::new();
     for side in [Side::Slave, Side::Master] {
         for way in [Way::Up, Way::Down] {
-            enabled.enable(QueueName {
-                side,
-                place: Place::Module(ModuleName::Ldterm),
-                way,
-            });
+            let place = Place::Module(ModuleName::Ldterm);
+            enable(&mut enabled, QueueName { side, place, way });
         }
-        enabled.enable(side.driver());
+        enable(&mut enabled, side.driver());
     }
     enabled.forget(Side::Slave, ModuleName::Ptem);
     assert_eq!(rt; enabled.as_slice().len(), 6);

@@ -1,4 +1,4 @@
-//! Moves on a store of any kind, each with what must come of it. Between two moves each message stands on one of the eight lists.
+//! Moves on a store of any kind, each with what must come of it. Between two moves each message stands on one of the first eight lists.
 
 mod edits;
 mod looks;

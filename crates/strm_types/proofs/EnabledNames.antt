@@ -1,5 +1,6 @@
 -- Lists of queue names in which each stands once.
-use Rattle.std.proofs.Common.{ℕ, ◌≡◌, ◌≤◌, ◌<◌, ◌+◌, Bool, true, false, cond, List, [], ◌∷◌, ◌++◌, length, get_or, take, append-nil, refl, sym, ap, subst, ◌∙◌, arith}
+use Rattle.std.proofs.Common.{ℕ, ◌≡◌, ◌≤◌, ◌<◌, ◌+◌, Bool, true, false, cond, List, [], ◌∷◌, ◌++◌, length, get_or, take, append-nil, refl, sym, ap}
+use Rattle.std.proofs.Common.{subst, ◌∙◌, arith}
 use Rattle.std.specs.Prelude.{if◌then◌else◌, ◌&&◌, ◌||◌, not}
 use Rattle.std.proofs.lemmas.Bool.Decides.{nat_tests}
 use Rattle.std.proofs.lemmas.List.Elements.{filter_more}
@@ -12,7 +13,8 @@ use Rattle.strm_types.specs.declared.names.Place.TheVariants.{Head, Module, Driv
 use Rattle.strm_types.specs.declared.names.ModuleName.{ModuleName}
 use Rattle.strm_types.specs.declared.names.ModuleName.TheVariants as modules
 use Rattle.strm_types.specs.declared.names.QueueName.{QueueName}
-use Rattle.strm_types.specs.Names.{same_side, same_module, same_place, same_way, same_queue, has_queues_at, have_queues, is_enabled, without, times, AreQueues, IsOnce}
+use Rattle.strm_types.specs.Names.{same_side, same_module, same_place, same_way, same_queue, has_queues_at, is_enabled, without, times, AreAmong}
+use Rattle.strm_types.specs.Names.{AreQueues, IsOnce}
 
 -- what a test counts for
 one_where : {b : Bool} → b ≡ true → ◌≡◌ {A = ℕ} (if b then 1 else 0) 1
@@ -52,11 +54,7 @@ same_module-self modules.Ptem = refl
 same_module-self modules.Pckt = refl
 same_module-self (modules.Own n) = grind (arith, nat_tests)
 
--- the one name of modules that have queues
-pub queues-ldterm : (name : ModuleName) → have_queues name ≡ true → name ≡ modules.Ldterm
-queues-ldterm name has = same_module-sound name modules.Ldterm has
-
-same_place-sound : (a b : Place) → same_place a b ≡ true → a ≡ b
+pub same_place-sound : (a b : Place) → same_place a b ≡ true → a ≡ b
 same_place-sound Head Head h = refl
 same_place-sound (Module a) (Module b) h = ap (λ name. Module name) (same_module-sound a b h)
 same_place-sound Driver Driver h = refl
@@ -88,15 +86,28 @@ same_queue-sound a b h =
     let way = same_way-sound a.way b.way parts.2 in
     ap (λ (p : Side × Place × Way). record { side = p.0; place = p.1; way = p.2 }) (cc)
 
--- all names of places where queues stand
-all_names : List QueueName
-all_names =
-    record { side = Master; place = Head; way = Up } ∷ record { side = Master; place = Head; way = Down }
-    ∷ record { side = Master; place = Module modules.Ldterm; way = Up } ∷ record { side = Master; place = Module modules.Ldterm; way = Down }
-    ∷ record { side = Master; place = Driver; way = Up } ∷ record { side = Master; place = Driver; way = Down }
-    ∷ record { side = Slave; place = Head; way = Up } ∷ record { side = Slave; place = Head; way = Down }
-    ∷ record { side = Slave; place = Module modules.Ldterm; way = Up } ∷ record { side = Slave; place = Module modules.Ldterm; way = Down }
-    ∷ record { side = Slave; place = Driver; way = Up } ∷ record { side = Slave; place = Driver; way = Down } ∷ []
+-- and each compares alike with itself
+same_side-self : (a : Side) → same_side a a ≡ true
+same_side-self Master = refl
+same_side-self Slave = refl
+
+same_place-self : (a : Place) → same_place a a ≡ true
+same_place-self Head = refl
+same_place-self (Module name) = same_module-self name
+same_place-self Driver = refl
+
+same_way-self : (a : Way) → same_way a a ≡ true
+same_way-self Up = refl
+same_way-self Down = refl
+
+pub same_queue-self : (a : QueueName) → same_queue a a ≡ true
+same_queue-self a =
+    ap (λ b. b && same_place a.place a.place && same_way a.way a.way) (same_side-self a.side)
+    ∙ (ap (λ b. b && same_way a.way a.way) (same_place-self a.place) ∙ same_way-self a.way)
+
+-- whichever is named first
+pub same_queue-flip : (a b : QueueName) → same_queue a b ≡ true → same_queue b a ≡ true
+same_queue-flip a b is = subst (λ q. same_queue b q ≡ true) (sym (same_queue-sound a b is)) (same_queue-self b)
 
 -- how often any of some names stands in a list
 times_any : List QueueName → List QueueName → ℕ
@@ -119,32 +130,30 @@ unfolding times_any
 times_any-none [] = refl
 times_any-none (n ∷ ns) = omega (arith, times_any-none ns)
 
--- each name of a place where queues stand is one of all names, once
-hits-all : (side : Side) (place : Place) (way : Way) → has_queues_at place ≡ true → hits all_names (record { side = side; place = place; way = way }) ≡ 1
-unfolding hits all_names
-hits-all Master Head Up has = refl
-hits-all Master Head Down has = refl
-hits-all Slave Head Up has = refl
-hits-all Slave Head Down has = refl
-hits-all Master Driver Up has = refl
-hits-all Master Driver Down has = refl
-hits-all Slave Driver Up has = refl
-hits-all Slave Driver Down has = refl
-hits-all side (Module name) way has =
-    subst (λ n. hits all_names (record { side = side; place = Module n; way = way }) ≡ 1) (sym (queues-ldterm name has)) (at side way)
+-- one that is among them is so at least once
+hits-some : (ns : List QueueName) (name : QueueName) → is_enabled name ns ≡ true → 1 ≤ hits ns name
+unfolding hits
+hits-some [] name is = absurd (cc)
+hits-some (n ∷ ns) name is = at (same_queue n name) refl is (hits-some ns name)
   where
-    at : (side : Side) (way : Way) → hits all_names (record { side = side; place = Module modules.Ldterm; way = way }) ≡ 1
-    at Master Up = refl
-    at Master Down = refl
-    at Slave Up = refl
-    at Slave Down = refl
+    at : (same : Bool) → same_queue n name ≡ same → (same || is_enabled name ns) ≡ true → (is_enabled name ns ≡ true → 1 ≤ hits ns name)
+        → 1 ≤ (if same_queue name n then 1 else 0) + hits ns name
+    at true same is more = omega (arith, one_where (same_queue-flip n name same))
+    at false same is more = let behind = more is in omega (arith, behind)
 
-length-times : (names : List QueueName) → AreQueues names → length names ≡ times_any all_names names
-length-times [] has = sym (times_any-none all_names)
-length-times (n ∷ names) has =
-    let one : hits all_names n ≡ 1 = hits-all n.side n.place n.way has.0 in
-    let ih : length names ≡ times_any all_names names = length-times names has.1 in
-    omega (arith, one, ih, times_any-cons all_names n names)
+length-times : (among names : List QueueName) → AreAmong among names → length names ≤ times_any among names
+length-times among [] are = omega arith
+length-times among (n ∷ names) are =
+    omega (arith, hits-some among n are.0, length-times among names are.1, times_any-cons among n names)
+
+times-few : (ns names : List QueueName) → IsOnce names → times_any ns names ≤ length ns
+unfolding times_any
+times-few [] names once = omega arith
+times-few (n ∷ ns) names once = omega (arith, once n, times-few ns names once)
+
+-- names that stand once each are no more than those that they are among
+pub once-few : (among names : List QueueName) → IsOnce names → AreAmong among names → length names ≤ length among
+once-few among names once are = omega (arith, length-times among names are, times-few among names once)
 
 times-absent-at : (name : QueueName) (names : List QueueName) (b : Bool) → (b || is_enabled name names) ≡ false → (is_enabled name names ≡ false → times name names ≡ 0) → (if b then 1 else 0) + times name names ≡ 0
 times-absent-at name names true e ih = absurd (cc)
@@ -167,13 +176,11 @@ room-one (n ∷ ns) names name once none =
     room-at true e = let zero_times : times n names ≡ 0 = subst (λ q. times q names ≡ 0) (same_queue-sound name n e) none in omega (arith, zero_times)
     room-at false e = omega (arith, once n)
 
--- while a name is absent, fewer than all twelve are there
-pub once-room : (names : List QueueName) (name : QueueName) → IsOnce names → AreQueues names → has_queues_at name.place ≡ true → is_enabled name names ≡ false
-    → length names < 12
-once-room names name once are has h =
-    let one : hits all_names name ≡ 1 = hits-all name.side name.place name.way has in
-    let all : length all_names ≡ 12 = unfold all_names in refl in
-    omega (arith, one, all, length-times names are, room-one all_names names name once (times-absent name names h))
+-- and fewer while one of these is absent
+pub once-room : (among names : List QueueName) (name : QueueName) → IsOnce names → AreAmong among names → is_enabled name among ≡ true
+    → is_enabled name names ≡ false → length names < length among
+once-room among names name once are is absent =
+    omega (arith, hits-some among name is, length-times among names are, room-one among names name once (times-absent name names absent))
 
 -- one of them is of a place where queues stand
 pub queues-among : (names : List QueueName) (name : QueueName) → AreQueues names → is_enabled name names ≡ true → has_queues_at name.place ≡ true

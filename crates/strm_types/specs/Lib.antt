@@ -54,6 +54,7 @@ pub mod LdtermCalls
 pub mod Winsizes
 pub mod Acks
 pub mod Ptems
+pub mod OwnStands
 pub mod Owns
 pub mod Pckts
 pub mod Output

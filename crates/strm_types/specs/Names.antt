@@ -1,6 +1,8 @@
 -- Names of queues, and lists of them in which each stands once.
-use Rattle.std.specs.Prelude.{ℕ, ◌≡◌, ◌+◌, ◌≤◌, ◌==◌, Bool, true, false, ◌&&◌, not, if◌then◌else◌, List, [], ◌∷◌, ◌++◌, filter, Option, None, Some}
+use Rattle.std.specs.Prelude.{ℕ, ◌≡◌, ◌+◌, ◌≤◌, ◌==◌, nat_le, Bool, true, false, ◌&&◌, not, if◌then◌else◌, List, [], ◌∷◌, ◌++◌, filter, Option, None}
+use Rattle.std.specs.Prelude.{Some}
 use Rattle.std.specs.List.{AllByRecursion, list_any}
+use Rattle.strm_types.specs.declared.limits.TheConstants.{OWN_QUEUED}
 use Rattle.strm_types.specs.declared.names.Side.{Side}
 use Rattle.strm_types.specs.declared.names.Side.TheVariants.{Master, Slave}
 use Rattle.strm_types.specs.declared.names.Way.{Way}
@@ -86,9 +88,11 @@ driver_of side = record { side = side; place = Driver; way = Down }
 abbrev pub head_of : Side → QueueName
 head_of side = record { side = side; place = Head; way = Up }
 
--- whether modules of a name have queues: those of ldterm(7M) alone
+-- whether modules of a name have queues: ldterm(7M) has, and those of a user's own have of numbers from 128 on
 abbrev pub have_queues : ModuleName → Bool
-have_queues name = same_module name modules.Ldterm
+have_queues modules.Ldterm = true
+have_queues (modules.Own n) = nat_le OWN_QUEUED n
+have_queues _ = false
 
 -- the place of the queues of modules of a name, where they have any
 abbrev pub place_of : ModuleName → Option Place
@@ -151,6 +155,10 @@ times name (n ∷ names) = (if same_queue n name then 1 else 0) + times name nam
 -- each name is of a place where queues stand
 abbrev pub AreQueues : List QueueName → Type 0
 AreQueues names = AllByRecursion (λ name. has_queues_at name.place ≡ true) names
+
+-- each name is one of these
+abbrev pub AreAmong : List QueueName → List QueueName → Type 0
+AreAmong among names = AllByRecursion (λ name. is_enabled name among ≡ true) names
 
 -- each name stands there at most once
 abbrev pub IsOnce : List QueueName → Type 0

@@ -44,9 +44,9 @@ pub use kinds::{Band, MsgKind};
 pub use ledger::Ledger;
 pub use limits::{
     BANDS, BLOCK_SIZE, CHANGE_BLOCKS, CLOSE_BLOCKS, CONTENT_MAX, CONTROL_MAX, Config, DATA_MAX,
-    HIGH_PRIORITY_RANK, HOPS, IOCTL_BLOCKS, IOCTL_END, IOCTL_MAX, LISTS, MODULES, READ_MAX,
-    SETTINGS_MAX, SIGNAL_LAST, SIGNALS_MAX, STOP_BLOCKS, TURN_BLOCKS, WRITE_BLOCKS, chunk_count,
-    turn_blocks,
+    HIGH_PRIORITY_RANK, HOPS, IOCTL_BLOCKS, IOCTL_END, IOCTL_MAX, LISTS, MODULES, OWN_QUEUED,
+    READ_MAX, SETTINGS_MAX, SIGNAL_LAST, SIGNALS_MAX, STOP_BLOCKS, TURN_BLOCKS, WRITE_BLOCKS,
+    chunk_count, turn_blocks,
 };
 pub use modes::{ControlMode, Mode, Prio, ReadMode, Wanted};
 pub use names::{Dir, ModuleName, Openness, Place, QueueName, Side, Way};

@@ -10,7 +10,7 @@ use crate::names::Place;
 pub const BLOCK_SIZE: usize = 256;
 
 /// How many lists of messages a store has.
-pub const LISTS: usize = 8;
+pub const LISTS: usize = 16;
 
 /// How many bands a queue has: 0 for ordinary messages, up to 255.
 pub const BANDS: usize = 256;
@@ -40,6 +40,9 @@ pub const IOCTL_MAX: usize = 256;
 
 /// The most bytes that a module of a user's own is set to.
 pub const SETTINGS_MAX: usize = 320;
+
+/// The first number of modules of a user's own that have queues: those of lower numbers have none.
+pub const OWN_QUEUED: u8 = 128;
 
 /// The number that no ioctl gets: a pair numbers its ioctls from 1, up to the one before it.
 pub const IOCTL_END: u32 = 4294967295;

@@ -3,6 +3,8 @@
 ghost use Rattle.std.specs.Prelude.{◌≡◌};
 ghost use Rattle.strm_types.specs.Names as names;
 
+use crate::limits::OWN_QUEUED;
+
 /// An end of a pair: the master, which a terminal emulator holds, or the slave, which a shell has as its terminal.
 #[derive(Clone, Copy, Debug, Default, PartialEq)]
 pub enum Side {
@@ -158,11 +160,15 @@ impl ModuleName {
         self == other
     }
 
-    /// Whether modules of this name have queues: `ldterm` alone.
+    /// Whether modules of this name have queues: `ldterm`, and those of a user's own of numbers from `OWN_QUEUED` on.
     pub fn has_queues(self) -> bool
         ensures { result ≡ names.have_queues self }
     {
-        self.is_same(ModuleName::Ldterm)
+        match self {
+            ModuleName::Ldterm => true,
+            ModuleName::Ptem | ModuleName::Pckt => false,
+            ModuleName::Own(number) => OWN_QUEUED <= number,
+        }
     }
 
     /// The place of the queues of modules of this name; None where they have none.

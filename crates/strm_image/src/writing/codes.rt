@@ -66,17 +66,17 @@ pub fn put_side(out: &mut Sink, side: Side)
     out.put(&[code]);
 }
 
-/// What a queue belongs to: of modules `ldterm` alone has queues.
-#[tactic(auto, unfolding(crate::specs::Codes::place))]
+/// What a queue belongs to. The number of a module of a user's own stands behind its kind.
+#[tactic(auto, unfolding(crate::specs::Codes::place, crate::specs::Codes::place_kind))]
 pub fn put_place(out: &mut Sink, place: Place)
     ensures { out.new ≡ put (codes.place.text place) out.old }
 {
-    let code = match place {
-        Place::Head => 0,
-        Place::Module(_) => 1,
-        Place::Driver => 2,
-    };
-    out.put(&[code]);
+    match place {
+        Place::Head => out.put(&[0]),
+        Place::Module(ModuleName::Own(number)) => out.put(&[3, number]),
+        Place::Module(_) => out.put(&[1]),
+        Place::Driver => out.put(&[2]),
+    }
 }
 
 /// A read queue, or a write queue.

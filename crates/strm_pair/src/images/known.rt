@@ -5,8 +5,8 @@ ghost use Rattle.strm_image.specs.ImageTexts.{imaged_now};
 ghost use Rattle.strm_image.specs.ModuleTexts.{names_now};
 ghost use Rattle.strm_laws.specs.Known.{all_known, are_known};
 
-use crate::own::{OwnModule, is_known};
 use strm_image::{ModuleText, StateText};
+use strm_own::{OwnModule, is_known};
 
 // Whether there are modules of the names of a stream's.
 fn are_known<M: OwnModule>(modules: &[ModuleText<'_>]) -> bool

@@ -1,18 +1,21 @@
 //! Both streams as a text has them, with the enabled queues and the ledgers.
 
-ghost use Rattle.std.specs.Prelude.{◌≡◌, [], replicate};
+ghost use Rattle.std.specs.Prelude.{◌≡◌, ◌≤◌, [], length, replicate};
 ghost use Rattle.strm_types.specs.declared.limits.TheConstants.{LISTS};
 ghost use Rattle.strm_types.specs.Names.{AreQueues, IsOnce};
 ghost use Rattle.strm_laws.specs.Restorable.{Restorable};
+ghost use Rattle.strm_laws.specs.StackCosts.{stands_of};
 ghost use Rattle.strm_frame.specs.Hands.{HasRoom};
 ghost use Rattle.strm_image.specs.AccountTexts.{account_now};
 ghost use Rattle.strm_image.specs.ImageTexts.{imaged_now};
 ghost use Rattle.strm_pair.specs.Pairs.{AreHeld, SamePool, state_in};
 ghost use Rattle.strm_pair.specs.Restored.{fates_in, image_blocks};
 ghost use Rattle.strm_pair.specs.Runs.{Spent};
+ghost use Rattle.strm_pair.specs.Shelves.{Restocks, pairs_stand, tables_on};
 
 use crate::ends::first_list;
 use crate::images::made_streams::end_of;
+use crate::shelves::Shelf;
 use crate::streams::{SideTables, Streams};
 use strm_blocks::Blocks;
 use strm_frame::Enabled;
@@ -23,6 +26,7 @@ use strm_types::{Book, Both, Fates, QueueName, Side};
 fn enabled_of(names: &[QueueName]) -> Enabled
     requires once { IsOnce names.now }
     requires queues { AreQueues names.now }
+    requires few { length names.now ≤ 14 }
     ensures { result ≡ names.now }
 {
     let mut enabled = Enabled::new();
@@ -58,6 +62,7 @@ pub(crate) fn fates_of(text: &StateText<'_>) -> Fates
 /// Makes both streams of a text in a store that holds nothing, and has the blocks that the messages take.
 pub(crate) fn streams_of<B: Blocks>(
     store: &mut B,
+    shelf: &mut Shelf,
     tables: Both<SideTables>,
     text: &StateText<'_>,
 ) -> Streams
@@ -65,6 +70,8 @@ pub(crate) fn streams_of<B: Blocks>(
     requires hand { (B.value store.old).hand ≡ [] }
     requires good { Restorable (imaged_now text.now).state }
     requires room { HasRoom (B.value store.old) (image_blocks (imaged_now text.now)) }
+    requires shelf { pairs_stand (stands_of (imaged_now text.now).state) ≤ tables_on shelf.old }
+    ensures shelf { Restocks shelf.old shelf.new 0 (pairs_stand (stands_of (imaged_now text.now).state)) }
     ensures state { state_in (B.value store.new) result ≡ (imaged_now text.now).state }
     ensures held { AreHeld (B.value store.new) result }
     ensures spent { Spent (B.value store.old) (B.value store.new) (image_blocks (imaged_now text.now)) }
@@ -73,6 +80,7 @@ pub(crate) fn streams_of<B: Blocks>(
     let master = end_of(
         store,
         first_list(Side::Master),
+        shelf,
         tables.master,
         text.opened.master,
         &text.streams.master,
@@ -80,6 +88,7 @@ pub(crate) fn streams_of<B: Blocks>(
     let slave = end_of(
         store,
         first_list(Side::Slave),
+        shelf,
         tables.slave,
         text.opened.slave,
         &text.streams.slave,

@@ -1,6 +1,7 @@
 //! Queues as a text has them, made in a store.
 
 ghost use Rattle.std.specs.Prelude.{◌≡◌, ◌≤◌, ◌<◌, List, [], false, replicate, slice_set, sum_by};
+ghost use Rattle.strm_types.specs.declared.limits.TheConstants.{LISTS};
 ghost use Rattle.strm_types.specs.declared.limits.TheConstants.{BANDS};
 ghost use Rattle.strm_blocks.specs.Blocks.{Block, list_at};
 ghost use Rattle.strm_queue.specs.Flows.{plain_flows};
@@ -101,7 +102,7 @@ pub(crate) fn queue_of<B: Blocks>(
     table: Table,
     text: &QueueText<'_>,
 ) -> Queue
-    requires list { list < 8 }
+    requires list { list < LISTS }
     requires empty { list_at (B.value store.old) list ≡ [] }
     requires room { HasRoom (B.value store.old) (sum_by blocks_of (messages_now text.now.messages)) }
     ensures queue { queue_in (B.value store.new) result ≡ queue_now text.now }

@@ -1,13 +1,15 @@
 //! The text of the modules of a stream, from the top.
 
-ghost use Rattle.std.specs.Prelude.{◌≡◌, map};
+ghost use Rattle.std.specs.Prelude.{◌≡◌, map, IfSome};
 ghost use Rattle.std.specs.List.{AllByRecursion, flat_map};
 ghost use Rattle.strm_laws.specs.Stacked.{OfLdterm, OfOwn, OfPtem, OfPckt, of_kind};
 ghost use Rattle.strm_blocks.specs.Blocks.{StoreValue};
 ghost use Rattle.strm_image.specs.Modules.{alone, module_format, modules};
 ghost use Rattle.strm_image.specs.Sinks.{put};
 ghost use Rattle.strm_image.specs.declared.versions.Version.TheVariants.{Second};
-ghost use Rattle.strm_frame.specs.Standings.{Fits, standing, standing_in};
+ghost use Rattle.strm_types.specs.Standings.{stood};
+ghost use Rattle.strm_image.specs.Written.{pair_text};
+ghost use Rattle.strm_frame.specs.Standings.{Fits, IsPairReady, queues_in, standing, standing_in};
 ghost use Rattle.strm_ldterm.specs.Stands.{HasInHand, own_in};
 ghost use Rattle.strm_pty.specs.Beside.{ptem_in};
 ghost use Rattle.strm_pty.specs.Packs.{pckt_in};
@@ -17,7 +19,6 @@ ghost use Rattle.strm_pair.specs.Stacks.{IsStackHeld, modules_in};
 
 use crate::images::queues::put_queue;
 use crate::modules::AnyModule;
-use crate::own::Own;
 use crate::stacks::Stack;
 use strm_blocks::Blocks;
 use strm_frame::{QueuePair, Standing};
@@ -26,6 +27,7 @@ use strm_image::writing::{
 };
 use strm_image::{QueueKind, Sink};
 use strm_ldterm::Ldterm;
+use strm_own::Own;
 use strm_pty::Ptem;
 use strm_types::ModuleName;
 
@@ -56,8 +58,8 @@ fn put_ldterm<'a, B: Blocks>(
     let Some(pair) = queues else { unreachable!() };
     let mut out = out;
     put_line_modes(&mut out, ldterm);
-    let out = put_queue(store, &pair.read, QueueKind::LdtermRead, out);
-    put_queue(store, &pair.write, QueueKind::LdtermWrite, out)
+    let out = put_queue(store, &pair.read, QueueKind::ModuleRead, out);
+    put_queue(store, &pair.write, QueueKind::ModuleWrite, out)
 }
 
 // A ptem, which has no queues.
@@ -81,15 +83,36 @@ fn put_pckt<'a>(out: Sink<'a>) -> Sink<'a>
     out
 }
 
-// A module of a user's own: its number, and what it is set to.
+// The queues of a module, where it has any: the read queue, then the write queue.
+#[tactic(auto, using(strm_image::proofs::SinkRows::put_both, strm_image::proofs::SinkRows::put_nothing))]
+fn put_pair<'a, B: Blocks>(store: &B, queues: &Option<QueuePair>, out: Sink<'a>) -> Sink<'a>
+    requires { IfSome queues.now (IsPairReady (B.value store.now)) }
+    ensures { result ≡ put (pair_text (queues_in (B.value store.now) queues.now)) out.entry }
+{
+    match queues {
+        None => out,
+        Some(pair) => {
+            let out = put_queue(store, &pair.read, QueueKind::ModuleRead, out);
+            put_queue(store, &pair.write, QueueKind::ModuleWrite, out)
+        }
+    }
+}
+
+// A module of a user's own: its number, what it is set to, and its queues, where it has any.
 #[tactic(auto, using(strm_image::proofs::SinkRows::put_both, strm_image::proofs::WrittenRows::own_told))]
-fn put_own<'a>(own: &Own, out: Sink<'a>) -> Sink<'a>
-    ensures { result ≡ put ((module_format Second).text (alone (OfOwn own.now))) out.entry }
+fn put_own<'a, B: Blocks>(
+    store: &B,
+    own: &Own,
+    queues: &Option<QueuePair>,
+    out: Sink<'a>,
+) -> Sink<'a>
+    requires { IfSome queues.now (IsPairReady (B.value store.now)) }
+    ensures { result ≡ put ((module_format Second).text (stood (OfOwn own.now) (queues_in (B.value store.now) queues.now))) out.entry }
 {
     let mut out = out;
     put_module_name(&mut out, ModuleName::Own(own.number()));
     put_settings(&mut out, own.settings());
-    out
+    put_pair(store, queues, out)
 }
 
 // A module, behind its name.
@@ -101,7 +124,7 @@ fn put_module<'a, B: Blocks>(store: &B, any: &Standing<AnyModule>, out: Sink<'a>
         AnyModule::Ldterm(ldterm) => put_ldterm(store, ldterm, &any.queues, out),
         AnyModule::Ptem(ptem) => put_ptem_module(ptem, out),
         AnyModule::Pckt(_) => put_pckt(out),
-        AnyModule::Own(own) => put_own(own, out),
+        AnyModule::Own(own) => put_own(store, own, &any.queues, out),
     }
 }
 

@@ -1,18 +1,19 @@
 //! Calls as they are made: those that are refused, those that stop their caller, and those that are carried out, each entered in the journal.
 
-ghost use Rattle.std.specs.Prelude.{◌≡◌, ◌≤◌, length, MatchOption, IsOk, Err, IfOk};
+ghost use Rattle.std.specs.Prelude.{◌≡◌, ◌≤◌, length};
 ghost use Rattle.strm_types.specs.declared.entries.Entry.TheVariants.{Called};
 ghost use Rattle.strm_types.specs.declared.events.Event.TheVariants.{Read, Write};
 ghost use Rattle.strm_types.specs.declared.job_control.Verdict.TheVariants.{Allowed, Stopped};
 ghost use Rattle.strm_types.specs.declared.limits.TheConstants.{READ_MAX};
 ghost use Rattle.strm_types.specs.Events.{request};
 ghost use Rattle.strm_types.specs.Journal.{answer_len, reply_in};
-ghost use Rattle.strm_laws.specs.Pair.{AddsEntry, call_refused, call_verdict};
+ghost use Rattle.strm_laws.specs.Pair.{AddsEntry, call_verdict};
+ghost use Rattle.strm_pair.specs.Makes.{Makes};
 ghost use Rattle.strm_pair.specs.Parts.{longest_part};
 
-use crate::own::OwnModule;
 use crate::pair::Pair;
 use strm_blocks::Blocks;
+use strm_own::OwnModule;
 use strm_types::{Answer, Caller, Content, Event, Refusal, StopSignal, Verdict};
 
 impl<B: Blocks + Drop, M: OwnModule> Pair<B, M> {
@@ -48,7 +49,7 @@ impl<B: Blocks + Drop, M: OwnModule> Pair<B, M> {
         let told = &mut self.fates;
         let answer = self
             .streams
-            .carry_out::<B, M>(&mut self.store, caller, event, out, told);
+            .carry_out::<B, M>(&mut self.shelf, &mut self.store, caller, event, out, told);
         self.journal.add_call(caller, event, answer, out.as_slice());
         answer
     }
@@ -61,12 +62,7 @@ impl<B: Blocks + Drop, M: OwnModule> Pair<B, M> {
         event: &Event<&[u8]>,
         out: &mut Content,
     ) -> Result<Answer<u32>, Refusal>
-        ensures refused { MatchOption (call_refused M.does self.old caller (request event.now)) (IsOk result)
-            (λ r. (result ≡ Err r) × ((self.new ≡ self.old) × (out.new ≡ out.old))) }
-        ensures adds { IfOk result (λ answer.
-            AddsEntry M.does self.old self.new (Called caller (request event.now) (reply_in answer out.new.items))) }
-        ensures filled { IfOk result (λ answer. answer_len answer ≡ length out.new.items) }
-        ensures parts { IfOk result (λ answer. longest_part answer ≤ READ_MAX) }
+        ensures { Makes M.does self.old self.new caller (request event.now) result out.old out.new }
     {
         match self.verdict(caller, event) {
             Verdict::Refused(refusal) => Err(refusal),
@@ -85,12 +81,7 @@ impl<B: Blocks + Drop, M: OwnModule> Pair<B, M> {
         bytes: &[u8],
         out: &mut Content,
     ) -> Result<Answer<u32>, Refusal>
-        ensures refused { MatchOption (call_refused M.does self.old caller (Write bytes.now)) (IsOk result)
-            (λ r. (result ≡ Err r) × ((self.new ≡ self.old) × (out.new ≡ out.old))) }
-        ensures adds { IfOk result (λ answer.
-            AddsEntry M.does self.old self.new (Called caller (Write bytes.now) (reply_in answer out.new.items))) }
-        ensures filled { IfOk result (λ answer. answer_len answer ≡ length out.new.items) }
-        ensures parts { IfOk result (λ answer. longest_part answer ≤ READ_MAX) }
+        ensures { Makes M.does self.old self.new caller (Write bytes.now) result out.old out.new }
     {
         self.make(caller, &Event::Write { bytes }, out)
     }
@@ -104,12 +95,7 @@ impl<B: Blocks + Drop, M: OwnModule> Pair<B, M> {
         n: u32,
         out: &mut Content,
     ) -> Result<Answer<u32>, Refusal>
-        ensures refused { MatchOption (call_refused M.does self.old caller (Read n)) (IsOk result)
-            (λ r. (result ≡ Err r) × ((self.new ≡ self.old) × (out.new ≡ out.old))) }
-        ensures adds { IfOk result (λ answer.
-            AddsEntry M.does self.old self.new (Called caller (Read n) (reply_in answer out.new.items))) }
-        ensures filled { IfOk result (λ answer. answer_len answer ≡ length out.new.items) }
-        ensures parts { IfOk result (λ answer. longest_part answer ≤ READ_MAX) }
+        ensures { Makes M.does self.old self.new caller (Read n) result out.old out.new }
     {
         self.make(caller, &Event::Read { n }, out)
     }
@@ -122,12 +108,7 @@ impl<B: Blocks + Drop, M: OwnModule> Pair<B, M> {
         bytes: &[u8],
         out: &mut Content,
     ) -> Result<Answer<u32>, Refusal>
-        ensures refused { MatchOption (call_refused M.does self.old caller (Write bytes.now)) (IsOk result)
-            (λ r. (result ≡ Err r) × ((self.new ≡ self.old) × (out.new ≡ out.old))) }
-        ensures adds { IfOk result (λ answer.
-            AddsEntry M.does self.old self.new (Called caller (Write bytes.now) (reply_in answer out.new.items))) }
-        ensures filled { IfOk result (λ answer. answer_len answer ≡ length out.new.items) }
-        ensures parts { IfOk result (λ answer. longest_part answer ≤ READ_MAX) }
+        ensures { Makes M.does self.old self.new caller (Write bytes.now) result out.old out.new }
     {
         self.write(caller, bytes, out)
     }
@@ -140,12 +121,7 @@ impl<B: Blocks + Drop, M: OwnModule> Pair<B, M> {
         n: u32,
         out: &mut Content,
     ) -> Result<Answer<u32>, Refusal>
-        ensures refused { MatchOption (call_refused M.does self.old caller (Read n)) (IsOk result)
-            (λ r. (result ≡ Err r) × ((self.new ≡ self.old) × (out.new ≡ out.old))) }
-        ensures adds { IfOk result (λ answer.
-            AddsEntry M.does self.old self.new (Called caller (Read n) (reply_in answer out.new.items))) }
-        ensures filled { IfOk result (λ answer. answer_len answer ≡ length out.new.items) }
-        ensures parts { IfOk result (λ answer. longest_part answer ≤ READ_MAX) }
+        ensures { Makes M.does self.old self.new caller (Read n) result out.old out.new }
     {
         self.read(caller, n, out)
     }
@@ -158,12 +134,7 @@ impl<B: Blocks + Drop, M: OwnModule> Pair<B, M> {
         event: &Event<&[u8]>,
         out: &mut Content,
     ) -> Result<Answer<u32>, Refusal>
-        ensures refused { MatchOption (call_refused M.does self.old caller (request event.now)) (IsOk result)
-            (λ r. (result ≡ Err r) × ((self.new ≡ self.old) × (out.new ≡ out.old))) }
-        ensures adds { IfOk result (λ answer.
-            AddsEntry M.does self.old self.new (Called caller (request event.now) (reply_in answer out.new.items))) }
-        ensures filled { IfOk result (λ answer. answer_len answer ≡ length out.new.items) }
-        ensures parts { IfOk result (λ answer. longest_part answer ≤ READ_MAX) }
+        ensures { Makes M.does self.old self.new caller (request event.now) result out.old out.new }
     {
         match event {
             Event::Put {
@@ -190,12 +161,7 @@ impl<B: Blocks + Drop, M: OwnModule> Pair<B, M> {
         event: &Event<&[u8]>,
         out: &mut Content,
     ) -> Result<Answer<u32>, Refusal>
-        ensures refused { MatchOption (call_refused M.does self.old caller (request event.now)) (IsOk result)
-            (λ r. (result ≡ Err r) × ((self.new ≡ self.old) × (out.new ≡ out.old))) }
-        ensures adds { IfOk result (λ answer.
-            AddsEntry M.does self.old self.new (Called caller (request event.now) (reply_in answer out.new.items))) }
-        ensures filled { IfOk result (λ answer. answer_len answer ≡ length out.new.items) }
-        ensures parts { IfOk result (λ answer. longest_part answer ≤ READ_MAX) }
+        ensures { Makes M.does self.old self.new caller (request event.now) result out.old out.new }
     {
         match event {
             Event::Get { wanted, cmax, dmax } => {
@@ -218,18 +184,29 @@ impl<B: Blocks + Drop, M: OwnModule> Pair<B, M> {
         event: &Event<&[u8]>,
         out: &mut Content,
     ) -> Result<Answer<u32>, Refusal>
-        ensures refused { MatchOption (call_refused M.does self.old caller (request event.now)) (IsOk result)
-            (λ r. (result ≡ Err r) × ((self.new ≡ self.old) × (out.new ≡ out.old))) }
-        ensures adds { IfOk result (λ answer.
-            AddsEntry M.does self.old self.new (Called caller (request event.now) (reply_in answer out.new.items))) }
-        ensures filled { IfOk result (λ answer. answer_len answer ≡ length out.new.items) }
-        ensures parts { IfOk result (λ answer. longest_part answer ≤ READ_MAX) }
+        ensures { Makes M.does self.old self.new caller (request event.now) result out.old out.new }
     {
         match event {
             Event::Ioctl { command, body } => {
                 let command = *command;
                 self.make(caller, &Event::Ioctl { command, body }, out)
             }
+            _ => self.call_apart(caller, event, out),
+        }
+    }
+
+    /// Makes a call as [`Pair::call`] says. Each new pair is opened by three: these have a frame of their own.
+    #[inline(never)]
+    pub(super) fn open_apart(
+        &mut self,
+        caller: Caller,
+        event: &Event<&[u8]>,
+        out: &mut Content,
+    ) -> Result<Answer<u32>, Refusal>
+        ensures { Makes M.does self.old self.new caller (request event.now) result out.old out.new }
+    {
+        match event {
+            Event::OpenMaster | Event::Unlock | Event::OpenSlave => self.make(caller, event, out),
             _ => self.call_apart(caller, event, out),
         }
     }
@@ -242,17 +219,8 @@ impl<B: Blocks + Drop, M: OwnModule> Pair<B, M> {
         event: &Event<&[u8]>,
         out: &mut Content,
     ) -> Result<Answer<u32>, Refusal>
-        ensures refused { MatchOption (call_refused M.does self.old caller (request event.now)) (IsOk result)
-            (λ r. (result ≡ Err r) × ((self.new ≡ self.old) × (out.new ≡ out.old))) }
-        ensures adds { IfOk result (λ answer.
-            AddsEntry M.does self.old self.new (Called caller (request event.now) (reply_in answer out.new.items))) }
-        ensures filled { IfOk result (λ answer. answer_len answer ≡ length out.new.items) }
-        ensures parts { IfOk result (λ answer. longest_part answer ≤ READ_MAX) }
+        ensures { Makes M.does self.old self.new caller (request event.now) result out.old out.new }
     {
-        match event {
-            // Each new pair is opened by these: their kind is asked for among three.
-            Event::OpenMaster | Event::Unlock | Event::OpenSlave => self.make(caller, event, out),
-            _ => self.make(caller, event, out),
-        }
+        self.make(caller, event, out)
     }
 }

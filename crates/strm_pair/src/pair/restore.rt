@@ -18,31 +18,31 @@ use crate::base::Base;
 use crate::images::known::all_known;
 use crate::images::made_pairs::{fates_of, streams_of};
 use crate::journal::Journal;
-use crate::own::OwnModule;
 use crate::pair::Pair;
-use crate::streams::{SideTables, queue_tables};
+use crate::streams::{QueueTables, queue_tables};
 use std::alloc::{AllocError, Global};
 use std::marker::PhantomData;
 use strm_blocks::Blocks;
 use strm_image::{IMAGE_BLOCK, IMAGE_FIXED, StateText, read};
-use strm_types::{Both, Config, Refusal};
+use strm_own::OwnModule;
+use strm_types::{Config, Refusal};
 
 /// The memory of a pair that is to be made: of the bands of its queues, of its journal, and of the journal's base.
 #[derive(Drop)]
 pub(crate) struct Reserved {
-    pub tables: Both<SideTables>,
+    pub tables: QueueTables,
     pub journal: Journal,
     pub base: Vec<u8>,
 }
 
 impl Reserved {
     /// Asks for the memory of a pair of these sizes.
-    fn new(alloc: Global, limits: &Config) -> Result<Reserved, AllocError>
+    fn new<M: OwnModule>(alloc: Global, limits: &Config) -> Result<Reserved, AllocError>
         requires { limits.now.mblks ≤ 65536 }
-        ensures { IfOk result (λ r. IsReserved limits.now r) }
+        ensures { IfOk result (λ r. IsReserved M.queued limits.now r) }
     {
         Ok(Reserved {
-            tables: queue_tables(alloc)?,
+            tables: queue_tables::<M>(alloc)?,
             journal: Journal::new(alloc, limits.journal_events, limits.journal_bytes)?,
             base: Vec::with_capacity(alloc, IMAGE_FIXED + IMAGE_BLOCK * limits.mblks)?,
         })
@@ -58,18 +58,20 @@ impl<B: Blocks + Drop, M: OwnModule> Pair<B, M> {
         requires known { all_known M.does (imaged_now text.now).state ≡ true }
         requires room { HasRoom (B.value store) (image_blocks (imaged_now text.now)) }
         requires limits { limits ≡ sizes_over (B.value store) limits }
-        requires reserved { IsReserved limits reserved }
+        requires reserved { IsReserved M.queued limits reserved }
         requires wide { IsWide M.wide (B.value store) }
         ensures { result ≡ restored limits (imaged_now text.now) }
     {
         let mut store = store;
-        let streams = streams_of(&mut store, reserved.tables, text);
+        let mut shelf = reserved.tables.shelf;
+        let streams = streams_of(&mut store, &mut shelf, reserved.tables.ends, text);
         let fates = fates_of(text);
         store.audit();
         let base = Base::at(&store, &streams, &fates, reserved.base);
         Pair {
             store,
             streams,
+            shelf,
             journal: reserved.journal,
             base,
             limits,
@@ -118,7 +120,7 @@ impl<B: Blocks + Drop, M: OwnModule> Pair<B, M> {
             dblks,
             ..sizes
         };
-        let Ok(reserved) = Reserved::new(alloc, &limits) else {
+        let Ok(reserved) = Reserved::new::<M>(alloc, &limits) else {
             return Err((Refusal::NoMemory, store));
         };
         Ok(Pair::made_of(limits, &found.state, store, reserved))

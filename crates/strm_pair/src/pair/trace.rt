@@ -11,11 +11,11 @@ ghost use Rattle.strm_laws.specs.Known.{all_known};
 
 use crate::images::whole::image_into;
 use crate::images::widths::{know_fates, know_streams};
-use crate::own::OwnModule;
 use crate::pair::Pair;
 use std::alloc::Global;
 use strm_blocks::Blocks;
 use strm_image::Trace;
+use strm_own::OwnModule;
 use strm_types::NoMemory;
 
 // A copy of items.

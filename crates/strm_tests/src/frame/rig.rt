@@ -6,6 +6,7 @@ ghost use Rattle.strm_blocks.specs.Blocks.{in_hand, empty_store, free_d, free_m,
 ghost use Rattle.strm_msg.specs.Messages.{IsChain};
 ghost use Rattle.strm_tests.specs.Rigs.{is_end, AreTwo, AtRest};
 
+use super::enable;
 use super::stock::Stock;
 use arrayvec::ArrayVec;
 use strm_blocks::{Blocks, InHand};
@@ -49,15 +50,15 @@ impl Rig {
             module: Stock {
                 name: ModuleName::Ldterm,
             },
-            queues: Some(QueuePair::new(0, 1, upper)),
+            queues: Some(QueuePair::new(2, 3, upper)),
         });
         modules.push(Standing {
             module: Stock {
                 name: ModuleName::Pckt,
             },
             queues: Some(QueuePair {
-                read: Queue::new(2, 512, 128, lower.read),
-                write: Queue::new(3, 4, 2, lower.write),
+                read: Queue::new(0, 512, 128, lower.read),
+                write: Queue::new(1, 4, 2, lower.write),
             }),
         });
         Rig {
@@ -90,7 +91,9 @@ impl Rig {
                 None => None,
             },
         };
-        self.enabled.enable_found(name);
+        if let Some(name) = name {
+            enable(&mut self.enabled, name);
+        }
     }
 
     // The same where a condition holds.
@@ -171,7 +174,7 @@ impl Rig {
             way: Way::Down,
         };
         let mut told = Fates::none();
-        let served = self.modules.serve(store, here, false, &mut told);
+        let served = self.modules.serve::<(), B>(store, here, false, &mut told);
         self.note_all(at, served.acts.notes.as_slice());
         let mut sent = served.acts.sent;
         let Some(next) = sent.take_first() else {
@@ -202,7 +205,7 @@ impl Rig {
         ensures { AtRest (B.value store.new) self.new.modules.modules.items }
     {
         self.disable(at);
-        let Asks::Room(band) = self.modules.asks(store, at, Way::Down) else {
+        let Asks::Room(band) = self.modules.asks::<(), B>(store, at, Way::Down) else {
             self.end_turn(store, at, false);
             return Turn::Idle;
         };

@@ -11,7 +11,7 @@ ghost use Rattle.strm_tests.specs.Toys.{is_flush, onward, stays};
 
 use arrayvec::ArrayVec;
 use strm_blocks::{Blocks, InHand};
-use strm_frame::{Acts, Module, Outbox, PutProcedure, QueuePair, Sent, Served};
+use strm_frame::{Acts, Module, Outbox, Procedures, QueuePair, Sent, Served};
 use strm_msg::message_size;
 use strm_queue::standing::{dequeue, enqueue};
 use strm_types::{Asks, Band, Fates, ModuleName, MsgKind, Note, Spot, Way};
@@ -87,7 +87,7 @@ impl Module for Stock {
     ghost use Rattle.std.specs.Prelude.{refl, true, false};
     ghost use Rattle.strm_types.specs.declared.names.ModuleName.{ModuleName};
     ghost use Rattle.strm_tests.specs.Toys.{stocks, stock_does, stock_asks, stock_serves};
-    ghost use Rattle.strm_tests.specs.ToyLaws.{some-same, one-call};
+    ghost use Rattle.strm_tests.specs.ToyLaws.{some-same};
     ghost use Rattle.strm_tests.specs.Rigs.{HasQueues};
 
     ghost Plain = { ModuleName };
@@ -106,9 +106,9 @@ impl Module for Stock {
 
     ghost without_line = { λ p. p };
 
-    ghost asks = { stock_asks };
+    ghost asks = { λ by way x. stock_asks way x };
 
-    ghost serves = { stock_serves };
+    ghost serves = { λ by here again stop x. stock_serves here again stop x };
 
     ghost MayServe = { λ way again p. again ≡ false };
 
@@ -122,6 +122,61 @@ impl Module for Stock {
 
     fn name(&self) -> ModuleName {
         self.name
+    }
+
+    fn line_len(&self) -> usize {
+        0
+    }
+
+    fn clear_line(&mut self) -> usize {
+        0
+    }
+
+    ghost frame = { λ s t x queues others lists same held. (refl, some-same queues others lists held) };
+
+    ghost rested = { λ s t x queues others lists none held. (refl, some-same queues others lists held) };
+
+    ghost rests = { λ s x queues way i held may. refl };
+
+    ghost either_way = { λ way way' p may. may };
+
+    ghost line_stays = { λ p way again may. may };
+}
+
+impl Procedures<()> for Stock {
+    ghost use Rattle.std.specs.Prelude.{false};
+    ghost use Rattle.strm_frame.specs.NoOwn.{no_own};
+    ghost use Rattle.strm_tests.specs.ToyLaws.{one-call, stocks-within};
+
+    ghost by = { no_own };
+
+    ghost wide = { false };
+
+    fn put<B: Blocks>(
+        &mut self,
+        queues: &mut Option<QueuePair>,
+        store: &mut B,
+        here: Spot,
+        message: InHand,
+        _told: &mut Fates,
+    ) -> Acts {
+        store.audit();
+        let kind = store.kind(&message, 0);
+        if stays(kind, here.way) {
+            let Some(pair) = queues else { unreachable!() };
+            let enables = keep(pair, store, message);
+            return Acts {
+                notes: note_if(enables, Note::Enable(Way::Down)),
+                sent: Outbox::none(),
+            };
+        }
+        Acts {
+            notes: ArrayVec::new(),
+            sent: Outbox::one(Sent {
+                to: here.toward(onward(kind, here.way)),
+                message,
+            }),
+        }
     }
 
     fn asks<B: Blocks>(&self, queues: &Option<QueuePair>, store: &B, way: Way) -> Asks {
@@ -171,63 +226,9 @@ impl Module for Stock {
         }
     }
 
-    fn line_len(&self) -> usize {
-        0
-    }
-
-    fn clear_line(&mut self) -> usize {
-        0
-    }
-
-    ghost frame = { λ s t x queues others lists same held. (refl, some-same queues others lists held) };
-
-    ghost rested = { λ s t x queues others lists none held. (refl, some-same queues others lists held) };
-
-    ghost rests = { λ s x queues way i held may. refl };
-
-    ghost either_way = { λ way way' p may. may };
-
-    ghost turn_goes = { λ here again stop x may. one-call here again stop x };
-
-    ghost line_stays = { λ p way again may. may };
-}
-
-impl PutProcedure<()> for Stock {
-    ghost use Rattle.std.specs.Prelude.{false, []};
-    ghost use Rattle.strm_tests.specs.ToyLaws.{stocks-within};
-
-    ghost by = { λ here m x. record { state = x; notes = []; sent = []; gone = [] } };
-
-    ghost wide = { false };
-
-    fn put<B: Blocks>(
-        &mut self,
-        queues: &mut Option<QueuePair>,
-        store: &mut B,
-        here: Spot,
-        message: InHand,
-        _told: &mut Fates,
-    ) -> Acts {
-        store.audit();
-        let kind = store.kind(&message, 0);
-        if stays(kind, here.way) {
-            let Some(pair) = queues else { unreachable!() };
-            let enables = keep(pair, store, message);
-            return Acts {
-                notes: note_if(enables, Note::Enable(Way::Down)),
-                sent: Outbox::none(),
-            };
-        }
-        Acts {
-            notes: ArrayVec::new(),
-            sent: Outbox::one(Sent {
-                to: here.toward(onward(kind, here.way)),
-                message,
-            }),
-        }
-    }
-
     ghost within = { λ here m x. stocks-within here m x };
 
     ghost put_stays = { λ here m x way again may. may };
+
+    ghost turn_goes = { λ here again stop x may. one-call here again stop x };
 }

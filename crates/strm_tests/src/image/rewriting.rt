@@ -8,8 +8,9 @@ ghost use Rattle.strm_image.specs.Written.{IsShortSlot};
 
 use strm_image::writing::*;
 use strm_image::{
-    AccountText, FIRST_BANDS, Flow, FlowsText, LdtermText, MessagesText, ModuleText, QueueKind,
-    QueueText, Sink, StateText, StreamText, Version, band_behind, few_flows_at, message_behind,
+    AccountText, FIRST_BANDS, Flow, FlowsText, KindText, LdtermText, MessagesText, ModuleText,
+    QueueKind, QueueText, Sink, StateText, StreamText, Version, band_behind, few_flows_at,
+    message_behind,
 };
 use strm_types::{BANDS, Band, Book, HIGH_PRIORITY_RANK, Marks, SETTINGS_MAX, Slot};
 
@@ -118,17 +119,19 @@ fn put_ldterm(out: &mut Sink, l: &LdtermText<'_>) {
     put_flag(out, l.after_lnext);
     put_u32(out, l.column);
     put_line(out, few(l.line));
-    put_queue(out, &l.read_queue, QueueKind::LdtermRead);
-    put_queue(out, &l.write_queue, QueueKind::LdtermWrite);
 }
 
 fn put_module(out: &mut Sink, module: &ModuleText<'_>) {
     put_module_name(out, module.name());
-    match module {
-        ModuleText::Ldterm(l) => put_ldterm(out, l),
-        ModuleText::Ptem(p) => put_ptem(out, &p.termios, p.window),
-        ModuleText::Pckt => {}
-        ModuleText::Own(own) => put_settings(out, within(own.settings)),
+    match &module.kind {
+        KindText::Ldterm(l) => put_ldterm(out, l),
+        KindText::Ptem(p) => put_ptem(out, &p.termios, p.window),
+        KindText::Pckt => {}
+        KindText::Own(own) => put_settings(out, within(own.settings)),
+    }
+    if let Some(queues) = &module.queues {
+        put_queue(out, &queues.read, QueueKind::ModuleRead);
+        put_queue(out, &queues.write, QueueKind::ModuleWrite);
     }
 }
 

@@ -101,7 +101,7 @@ fn written_again(alloc: Global, text: &[u8]) -> Result<Option<Vec<u8>>, AllocErr
 #[test]
 fn read_and_written(rt: HostRuntime) -> Result<(), Fail> {
     let alloc = rt.alloc();
-    let parts: [&[u8]; 20] = [
+    let parts: [&[u8]; 22] = [
         // the front, and the master's head, whose last ioctl was answered with two bytes
         &[83, 84, 80, 73, 2, 1, 1, 0, 0, 0, 0, 4],
         &[
@@ -112,7 +112,7 @@ fn read_and_written(rt: HostRuntime) -> Result<(), Fail> {
         &EMPTY,
         // the slave's head, with a group and two signals, and an ioctl that waits
         &[0, 0, 6, 0, 0, 0, 5, 2, 2, 3, 1, 0, 0, 0, 1, 0, 0, 84, 3],
-        // ptem, an ldterm with a line of two bytes and a message on its read queue, and pckt
+        // ptem, an ldterm with a line of two bytes and a message on its read queue, and a module of a user's own that has queues
         &[3, 2],
         &[9; 43],
         &[1],
@@ -120,12 +120,14 @@ fn read_and_written(rt: HostRuntime) -> Result<(), Fail> {
         &[1, 0, 0, 0, 0, 80, 2, 120, 121],
         &[0, 0, 0, 0, 0, 0, 1, 0, 0, 0, 0, 0, 0, 0, 1, 0, 0, 0, 1, 122],
         &EMPTY,
-        &[3],
+        &[4, 200, 0, 1, 65],
         &EMPTY,
-        // an M_IOCTL of the slave's driver, two enabled queues, and the ledgers
+        &EMPTY,
+        &EMPTY,
+        // an M_IOCTL of the slave's driver, three enabled queues, and the ledgers
         &[0, 0, 0, 0, 0, 0, 1, 14, 0, 0, 0, 0, 0, 0, 1, 0, 0, 0, 16],
         &[6; 16],
-        &[2, 1, 1, 0, 0, 2, 1],
+        &[3, 1, 1, 0, 0, 2, 1, 1, 3, 200, 1],
         &[0, 0, 0, 0, 0, 0, 0, 3],
         &[0; 176],
     ];

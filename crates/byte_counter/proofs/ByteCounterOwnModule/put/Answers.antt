@@ -6,7 +6,7 @@ use Rattle.strm_types.specs.Tables.{own_does}
 use Rattle.strm_blocks.specs.Blocks.{token}
 use Rattle.strm_frame.specs.Outboxes.{message_in}
 use Rattle.strm_laws.specs.Behaviours.{passes_all}
-use Rattle.strm_pair.specs.OwnPuts.{OwnPuts}
+use Rattle.strm_own.specs.OwnPuts.{OwnPuts}
 use Rattle.byte_counter.specs.ByteCounter.{counted_on, data_length}
 use Rattle.byte_counter.proofs.ByteCounterOwnModule.put.Goals as goal
 

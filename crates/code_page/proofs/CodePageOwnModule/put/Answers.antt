@@ -5,7 +5,7 @@ use Rattle.strm_types.specs.Cells.{plain}
 use Rattle.strm_types.specs.Tables.{own_does}
 use Rattle.strm_blocks.specs.Blocks.{token}
 use Rattle.strm_frame.specs.Outboxes.{message_in}
-use Rattle.strm_pair.specs.OwnPuts.{OwnPuts}
+use Rattle.strm_own.specs.OwnPuts.{OwnPuts}
 use Rattle.code_page.specs.CodePages.{page_puts}
 use Rattle.code_page.specs.PageLaws.{ours-asked}
 use Rattle.code_page.proofs.CodePageOwnModule.put.Goals as goal

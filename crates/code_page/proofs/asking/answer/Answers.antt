@@ -7,7 +7,7 @@ use Rattle.strm_blocks.specs.Blocks.{token}
 use Rattle.strm_frame.specs.Outboxes.{message_in}
 use Rattle.strm_pty.proofs.Made.{nak-plain}
 use Rattle.strm_pty.proofs.Replied.{ack-plain}
-use Rattle.strm_pair.specs.OwnPuts.{OwnPuts}
+use Rattle.strm_own.specs.OwnPuts.{OwnPuts}
 use Rattle.code_page.specs.CodePages.{page_of}
 use Rattle.code_page.proofs.PagesAsked.{not-obeyed, obeyed}
 use Rattle.code_page.proofs.asking.answer.Goals as goal

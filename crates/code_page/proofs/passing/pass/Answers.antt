@@ -5,7 +5,7 @@ use Rattle.strm_blocks.specs.Blocks.{token}
 use Rattle.strm_msg.specs.Translated.{Translated}
 use Rattle.strm_frame.specs.Outboxes.{message_in}
 use Rattle.strm_laws.specs.Behaviours.{passes_all}
-use Rattle.strm_pair.specs.OwnPuts.{OwnPuts}
+use Rattle.strm_own.specs.OwnPuts.{OwnPuts}
 use Rattle.code_page.specs.CodePages.{is_page, passed}
 use Rattle.code_page.proofs.PagesPassed.{may-on, passes-on}
 use Rattle.code_page.proofs.PagesRead.{no-page, page-is}

@@ -11,7 +11,7 @@ returns-clause-asks g c =
     let w = g.M.Module in
     let d = c.index-modules-at.result in
     let xs = c.args.modules.now in
-    c.asks.ensures.asks ∙ sym (said-of (standing_in w.plain s) (w.asks c.args.way) xs c.args.at d d _ c.requires.within c.index-modules-at.is)
+    c.asks.ensures.asks ∙ sym (said-of (standing_in w.plain s) (w.asks g.M.Procedures.by c.args.way) xs c.args.at d d _ c.requires.within c.index-modules-at.is)
 
 pub returns-clause-few : goal.returns-clause-few
 returns-clause-few g c =

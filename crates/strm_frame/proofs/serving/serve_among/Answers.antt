@@ -50,7 +50,7 @@ returns-clause-does g c =
     let e = c.serve.ensures in
     let sent = λ (j : ℕ). times_sent j (sent_of r.acts.sent) in
     let f = (standing_in w.plain) s in
-    let serves = λ (p : Standing w.Plain ℕ). w.serves c.args.here c.args.again (stop_of r) p in
+    let serves = λ (p : Standing w.Plain ℕ). w.serves g.M.Procedures.by c.args.here c.args.again (stop_of r) p in
     let acts = λ (p : Standing w.Plain ℕ). (serves p).acted in
     let may = w.MayStop c.args.here.way c.args.again r.bytes in
     record {

@@ -31,7 +31,7 @@ returns-clause-does g c =
     let y = c.put.new.self in
     let e = c.put.ensures in
     let sent = λ (j : ℕ). times_sent j (sent_of c.put.result.sent) in
-    let puts = w.puts g.M.PutProcedure.by c.args.to m in
+    let puts = w.puts g.M.Procedures.by c.args.to m in
     let said = λ (say : Standing w.Plain ℕ → ℕ). sym (said-of (standing_in w.plain s) say xs i x d 0 c.requires.within refl) in
     let holds = said-of (standing_in w.plain s) (of_part w.holds) xs i x d true c.requires.within refl in
     record {

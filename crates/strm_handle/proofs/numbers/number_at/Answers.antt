@@ -1,19 +1,19 @@
--- Each of these is of a place where queues stand.
+-- Each of these has a number.
 use Rattle.std.proofs.Common.{◌≡◌, ◌∙◌, ℕ, zero, suc, true, List, [], ◌∷◌, Some, refl, sym, subst, arith}
 use Rattle.std.proofs.lemmas.Bool.{ltb-true}
 use Rattle.std.proofs.lemmas.Option.{slice_get_read}
 use Rattle.std.specs.Prelude.{get_or, length, nat_lt, slice_get}
 use Rattle.strm_types.specs.declared.names.QueueName.{QueueName}
-use Rattle.strm_types.specs.Names.{AreQueues, has_queues_at}
+use Rattle.strm_handle.specs.Numbers.{AreNumbered, has_number}
 use Rattle.strm_handle.proofs.numbers.number_at.Goals as goal
 
 -- the one at a place within the list
 is-there : (names : List QueueName) (place : ℕ) (name : QueueName) → true ≡ nat_lt place (length names) → name ≡ get_or names place name → slice_get names place ≡ Some name
 is-there names place name within is = slice_get_read names (length names) place name refl (ltb-true place (length names) (sym within)) is
 
-has-at : (names : List QueueName) (place : ℕ) (name : QueueName) → AreQueues names → slice_get names place ≡ Some name → has_queues_at name.place ≡ true
+has-at : (names : List QueueName) (place : ℕ) (name : QueueName) → AreNumbered names → slice_get names place ≡ Some name → has_number name.place ≡ true
 has-at [] place name are is = absurd (cc)
-has-at (n ∷ names) zero name are is = let same : n ≡ name = cc in subst (λ (q : QueueName). has_queues_at q.place ≡ true) same are.0
+has-at (n ∷ names) zero name are is = let same : n ≡ name = cc in subst (λ (q : QueueName). has_number q.place ≡ true) same are.0
 has-at (n ∷ names) (suc place) name are is = has-at names place name are.1 is
 
 pub returns-in-Some-clause-told : goal.returns-in-Some-clause-told

@@ -1,5 +1,5 @@
 -- They are new on two lists, or there are none.
-use Rattle.strm_pair.proofs.Prelude.{◌≡◌, true, false, refl, sym, ap, ◌∙◌, false≢true, None, Some, is_some}
+use Rattle.strm_pair.proofs.Prelude.{◌≡◌, ◌∙◌, true, false, refl, sym, ap, arith, false≢true, Some}
 use Rattle.strm_pair.specs.Prelude.{have_queues}
 use Rattle.strm_pair.proofs.stacks.queues_for.Goals as goal
 
@@ -13,11 +13,17 @@ returns-then-not-has_queues-clause-given c =
       own = λ is. absurd (false≢true is);
     }
 
-pub unreachable-requires : goal.unreachable-requires
-unreachable-requires c =
-    let has : have_queues c.args.name ≡ true = sym c.has_queues.ensures ∙ c.if-not-has_queues.false in
-    let none : c.args.shelf.now ≡ None = sym c.take.ensures.value ∙ c.in_default.is in
-    false≢true (sym (ap is_some none) ∙ c.requires.shelf has)
+pub returns-then-not-has_queues-clause-shelf : goal.returns-then-not-has_queues-clause-shelf
+returns-then-not-has_queues-clause-shelf c = record { tables = omega arith; room = omega arith }
+
+pub take-requires : goal.take-requires
+take-requires c = c.requires.shelf (sym c.has_queues.ensures ∙ c.if-not-has_queues.false)
+
+pub new-requires-clause-read : goal.new-requires-clause-read
+new-requires-clause-read c = omega (arith, c.requires.first (sym c.has_queues.ensures ∙ c.if-not-has_queues.false))
+
+pub new-requires-clause-write : goal.new-requires-clause-write
+new-requires-clause-write c = c.requires.first (sym c.has_queues.ensures ∙ c.if-not-has_queues.false)
 
 pub returns-clause-given : goal.returns-clause-given
 returns-clause-given c =
@@ -28,3 +34,6 @@ returns-clause-given c =
       ready = λ s reads writes. c.new.ensures.ready s reads writes;
       own = λ is. c.new.ensures.owns;
     }
+
+pub returns-clause-shelf : goal.returns-clause-shelf
+returns-clause-shelf c = record { tables = omega (arith, c.take.ensures.tables); room = omega (arith, c.take.ensures.room) }

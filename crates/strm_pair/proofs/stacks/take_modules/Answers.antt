@@ -1,7 +1,7 @@
--- Each step takes one module off, and where none stands none owns a list.
-use Rattle.strm_pair.proofs.Prelude.{◌≡◌, ◌<◌, true, false, List, [], ◌∷◌, length, ap, refl, arith, sym, ◌∙◌, ◌==◌, nat_tests}
-use Rattle.strm_pair.specs.Prelude.{all_of, owns}
+-- Each step takes one module off, and where none stands none has queues.
+use Rattle.strm_pair.proofs.Prelude.{◌≡◌, ◌<◌, true, false, List, [], ◌∷◌, length, ap, refl, arith, sum_by, sym, ◌∙◌, ◌==◌, nat_tests}
 use Rattle.strm_pair.specs.AnyModules.{AnyStanding}
+use Rattle.strm_pair.specs.Shows.{one_pair}
 use Rattle.strm_pair.proofs.stacks.take_modules.Goals as goal
 
 none-of : (xs : List AnyStanding) → length xs ≡ 0 → xs ≡ []
@@ -13,7 +13,10 @@ one-less [] ys some rest = absurd (some refl)
 one-less (x ∷ xs) ys some rest = let same = ap length (rest x xs refl) in omega (arith, same)
 
 pub loop-stack-init : goal.loop-stack-init
-loop-stack-init c = record { shelf = λ k before none. before none }
+loop-stack-init c = record { shelf = record { tables = refl; room = omega arith } }
+
+pub pop_top-requires : goal.pop_top-requires
+pop_top-requires c = omega (arith, c.requires, c.loop-stack.invariant.shelf.tables, c.loop-stack.invariant.shelf.room)
 
 pub loop-stack-smaller : goal.loop-stack-smaller
 loop-stack-smaller c =
@@ -22,10 +25,19 @@ loop-stack-smaller c =
     one-less xs c.pop_top.new.stack.modules.items (λ none. grind (arith, nat_tests)) c.pop_top.ensures.rest
 
 pub loop-stack-preserved : goal.loop-stack-preserved
-loop-stack-preserved c = record { shelf = λ k before none. c.pop_top.ensures.shelf k (λ own. c.loop-stack.invariant.shelf k before own) none }
+loop-stack-preserved c = record {
+  shelf = record {
+    tables = omega (arith, c.pop_top.ensures.shelf.tables, c.loop-stack.invariant.shelf.tables);
+    room = omega (arith, c.pop_top.ensures.shelf.room, c.loop-stack.invariant.shelf.room);
+  };
+}
 
 pub returns-clause-shelf : goal.returns-clause-shelf
-returns-clause-shelf c = λ k before.
+returns-clause-shelf c =
     let xs = c.loop-stack.stack.modules.items in
     let none : (length xs == 0) ≡ true = sym c.is_empty.ensures ∙ c.loop-stack-test.false in
-    c.loop-stack.invariant.shelf k before (ap (λ ys. all_of owns ys k) (none-of xs (grind (arith, nat_tests))))
+    let bare = ap (λ ys. sum_by (λ (x : AnyStanding). one_pair x.queues) ys) (none-of xs (grind (arith, nat_tests))) in
+    record {
+      tables = omega (arith, c.loop-stack.invariant.shelf.tables, bare);
+      room = c.loop-stack.invariant.shelf.room;
+    }

@@ -1,10 +1,10 @@
-use Rattle.strm_pair.proofs.Prelude.{ℕ, ◌≡◌, true, length, is_some}
-use Rattle.strm_pair.specs.Stacks.{stack_owns}
+use Rattle.strm_pair.proofs.Prelude.{length}
+use Rattle.strm_pair.specs.Shelves.{Restocks, pairs_among}
 use Rattle.strm_pair.proofs.stacks.take_modules.Given as goal
 
 abbrev pub invariant-loop-stack : goal.invariant-loop-stack
 invariant-loop-stack l = record {
-  shelf : (k : ℕ) → (stack_owns l.initial.stack k ≡ 0 → is_some l.initial.shelf ≡ true) → stack_owns l.stack k ≡ 0 → is_some l.shelf ≡ true;
+  shelf : Restocks l.initial.shelf l.shelf (pairs_among l.initial.stack.modules.items) (pairs_among l.stack.modules.items);
 }
 
 abbrev pub decreases-loop-stack : goal.decreases-loop-stack

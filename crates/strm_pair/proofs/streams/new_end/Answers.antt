@@ -2,7 +2,9 @@
 use Rattle.strm_pair.proofs.Prelude.{refl, map, ap, arith, rules, sym, subst, none-once}
 use Rattle.strm_pair.specs.Prelude.{all_of, AreHeld, owns}
 use Rattle.strm_pair.specs.AnyModules.{IsHeld, module_in}
+use Rattle.strm_pair.specs.Stacks.{stack_owns}
 use Rattle.strm_pair.specs.Streams.{AreApart}
+use Rattle.strm_pair.proofs.Sides.{blank-for}
 use Rattle.strm_pair.proofs.streams.new_end.Goals as goal
 
 pub returns-clause-side : goal.returns-clause-side
@@ -13,11 +15,9 @@ returns-clause-side c = λ s blank.
       driver_list = search rules;
       head = search rules;
       driver = search rules;
-      stack = subst (λ xs. AreHeld IsHeld owns s xs) (sym none) (record { each = tt; apart = λ k. omega arith });
+      stack = subst (λ xs. AreHeld IsHeld owns s xs) (sym none) (record { each = tt; apart = λ k. omega arith; order = tt });
       once = subst (λ xs. AreApart (map (module_in s) xs)) (sym none) none-once;
-      owned = λ k some. absurd (omega (arith, some, ap (λ xs. all_of owns xs k) none));
-      spare = search rules;
-      shelf = λ none. refl;
+      lists = blank-for s c.args.first blank (stack_owns c.new-3.result) (λ k. ap (λ xs. all_of owns xs k) none);
     }
 
 pub returns-clause-stream : goal.returns-clause-stream

@@ -13,4 +13,4 @@ pub invariant_of-result : goal.invariant_of-result
 invariant_of-result c =
     let same : c.loop-name.name ≡ c.args.mblks = omega arith in
     let names = rw same at c.loop-name.invariant.names in
-    rw (c.new-2.ensures, c.new-3.ensures, c.new-4.ensures, c.new-5.ensures, c.new-6.ensures, c.new-7.ensures, c.new-8.ensures, c.new-9.ensures, c.new-10.ensures) (IsTable-new c.args.mblks c.args.dblks c.loop-name.idle c.loop-name.spare c.in_ok-data.data.references c.requires.few_mblks (omega arith) (omega arith) names c.in_ok-data.ensures)
+    rw (c.no_lists.ensures, c.new-2.ensures) (IsTable-new c.args.mblks c.args.dblks c.loop-name.idle c.loop-name.spare c.in_ok-data.data.references c.requires.few_mblks (omega arith) (omega arith) names c.in_ok-data.ensures)

@@ -50,5 +50,5 @@ returns-clause-does g c =
     let These = λ (xs zs : List _).
     Puts (all_in (standing_in w.plain)) (AreHeld (Fits w.IsHeld) owns) (all_of owns) (all_of (keeps_of w.keeps)) s t xs zs (slice_index_or (map (of_part w.holds) (all_in (standing_in w.plain) s xs)) (to.at - 1) true) n
     (said (of_part (λ p. own_at (w.does p) to m)) xs)
-    c.put_among.result c.args.told.now c.put_among.new.told (put_among (w.puts g.M.PutProcedure.by) (to.at - 1) to m (all_in (standing_in w.plain) s xs)) in
+    c.put_among.result c.args.told.now c.put_among.new.told (put_among (w.puts g.M.Procedures.by) (to.at - 1) to m (all_in (standing_in w.plain) s xs)) in
     subst (These c.args.self.now.modules.items) (sym same) (subst (λ xs. These xs ys) before c.put_among.ensures.does)

@@ -21,5 +21,5 @@ returns-clause-does g c =
     let These = λ (xs zs : List _).
     Serves (all_in (standing_in w.plain)) (AreHeld (Fits w.IsHeld) owns) (all_of owns) (all_of (keeps_of w.keeps)) (at_place (of_part (w.turn_cost here true)) 0 here.at)
     (λ bytes ps. HoldsAt (w.MayStop here.way c.args.again bytes) ps (here.at - 1)) s t xs zs r c.args.told.now c.serve_among.new.told
-    (served_among (w.serves here c.args.again (stop_of r)) (here.at - 1) (all_in (standing_in w.plain) s xs)) in
+    (served_among (w.serves g.M.Procedures.by here c.args.again (stop_of r)) (here.at - 1) (all_in (standing_in w.plain) s xs)) in
     subst (These c.args.self.now.modules.items) (sym same) (subst (λ xs. These xs ys) before c.serve_among.ensures.does)

@@ -4,8 +4,9 @@ use Rattle.strm_pair.specs.Prelude.{list_at, all_of, AreHeld, owns}
 use Rattle.strm_frame.proofs.Pairs.{empty-ready}
 use Rattle.strm_queue.proofs.Renewed.{fresh-queue}
 use Rattle.strm_pair.specs.AnyModules.{IsHeld, module_in}
+use Rattle.strm_pair.specs.Stacks.{stack_owns}
 use Rattle.strm_pair.specs.Streams.{AreApart}
-use Rattle.strm_pair.proofs.Sides.{blank-at, readable-none}
+use Rattle.strm_pair.proofs.Sides.{blank-for, readable-none}
 use Rattle.strm_pair.proofs.ends.StreamEnd.renew.Goals as goal
 
 pub returns-clause-side : goal.returns-clause-side
@@ -19,11 +20,9 @@ returns-clause-side c = λ s t first is blank.
       driver_list = driver_is;
       head = record { ready = empty-ready t head first head_is c.renew.ensures.counted blank.head; readable = readable-none (list_at t head.list) (ap (list_at t) head_is ∙ blank.head) };
       driver = empty-ready t c.renew-2.new.self (first + 1) driver_is c.renew-2.ensures.counted blank.driver;
-      stack = subst (λ xs. AreHeld IsHeld owns t xs) (sym none) (record { each = tt; apart = λ k. omega arith });
+      stack = subst (λ xs. AreHeld IsHeld owns t xs) (sym none) (record { each = tt; apart = λ k. omega arith; order = tt });
       once = subst (λ xs. AreApart (map (module_in t) xs)) (sym none) none-once;
-      owned = λ k some. absurd (omega (arith, some, ap (λ xs. all_of owns xs k) none));
-      spare = λ k low high own. blank-at t first blank k low high;
-      shelf = λ own. c.take_modules.ensures.shelf (first + 2) is.shelf;
+      lists = blank-for t first blank (stack_owns c.take_modules.new.stack) (λ k. ap (λ xs. all_of owns xs k) none);
     }
 
 pub returns-clause-stream : goal.returns-clause-stream

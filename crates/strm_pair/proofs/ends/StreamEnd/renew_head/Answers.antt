@@ -16,6 +16,5 @@ returns g c =
       opened = refl;
       driver = refl;
       stack = refl;
-      shelf = refl;
       keeps = renewed-keeps s new q c.renew.new.self.queue emptied (c.renew.ensures.list ∙ c.flushq.ensures.list) c.renew.ensures.counted;
     }

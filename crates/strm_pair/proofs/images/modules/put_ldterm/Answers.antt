@@ -27,7 +27,7 @@ returns g c =
     let s = g.B.Blocks.value c.args.store.now in
     let x = c.args.ldterm.now in
     let pair = c.in-Some.pair in
-    c.put_queue.ensures ∙ ap (put ((queue Second queues.LdtermWrite).text (queue_in s pair.write)))
-    (c.put_queue-out.ensures ∙ ap (put ((queue Second queues.LdtermRead).text (queue_in s pair.read))) (c.put_line_modes.ensures s))
+    c.put_queue.ensures ∙ ap (put ((queue Second queues.ModuleWrite).text (queue_in s pair.write)))
+    (c.put_queue-out.ensures ∙ ap (put ((queue Second queues.ModuleRead).text (queue_in s pair.read))) (c.put_line_modes.ensures s))
     ∙ ldterm_written s x pair c.args.out
     ∙ ap (λ o. put ((module_format Second).text (of_kind OfLdterm (standing_in own_in s (standing x o)))) c.args.out) (sym c.in-Some.is)

@@ -39,5 +39,4 @@ returns-in-Pckt g c =
 pub returns-in-Own : goal.returns-in-Own
 returns-in-Own g c =
     let s = g.B.Blocks.value c.args.store.now in
-    let none = subst (λ m. IsKindHeld s m c.args.any.now.queues) c.in-Own.is c.requires.held.itself in
-    c.put_own.ensures ∙ ap (λ p. put ((module_format Second).text p) c.args.out) (stands-alone s c.args.any.now _ c.in-Own.is none)
+    c.put_own.ensures ∙ ap (λ m. put ((module_format Second).text (module_in s (standing m c.args.any.now.queues))) c.args.out) (sym c.in-Own.is)

@@ -1,15 +1,11 @@
 -- Each kind is new, fits queues where it has some and fits none else, and keeps nothing.
-use Rattle.strm_pair.proofs.Prelude.{◌≡◌, true, false, refl, ap, subst, false≢true, MatchOption, Option, None, Some, is_some}
-use Rattle.strm_pair.specs.Prelude.{OfLdterm, OfOwn, OfPtem, StoreValue, QueuePair, HasInHand}
+use Rattle.strm_pair.proofs.Prelude.{◌≡◌, true, false, refl, sym, ap, ◌∙◌, subst, MatchOption, Option}
+use Rattle.strm_pair.specs.Prelude.{OfLdterm, OfOwn, OfPtem, have_queues}
+use Rattle.strm_types.specs.declared.names.ModuleName.TheVariants as names
 use Rattle.strm_types.specs.Owns.{Own}
 use Rattle.strm_laws.specs.Behaviours.{fresh_own}
-use Rattle.strm_ldterm.specs.declared.ldterm.Ldterm.{Ldterm}
-use Rattle.strm_pair.proofs.MadeModules.{none-are}
+use Rattle.strm_pair.proofs.MadeModules.{ldterm-fits, none-are}
 use Rattle.strm_pair.proofs.modules.AnyModule.made.Goals as goal
-
-ldterm-fits : (s : StoreValue) (x : Ldterm) (queues : Option QueuePair) → is_some queues ≡ true → ((pair : QueuePair) → HasInHand s x (Some pair)) → HasInHand s x queues
-ldterm-fits s x None has held = absurd (false≢true has)
-ldterm-fits s x (Some pair) has held = held pair
 
 pub returns-in-Ldterm : goal.returns-in-Ldterm
 returns-in-Ldterm g c = rw c.in-Ldterm.is (record {
@@ -41,7 +37,7 @@ returns-in-Some g c =
     rw c.in-Own.is (record {
       known = made.0;
       made = λ s. ap OfOwn made.1;
-      fresh = record { held = λ s queues has. none-are queues has; rests = λ i. refl };
+      fresh = record { held = λ s queues has. has ∙ ap (λ (o : Own). have_queues (names.Own o.number)) (sym made.1); rests = λ i. refl };
     })
 
 pub returns-in-None : goal.returns-in-None

@@ -1,12 +1,14 @@
 -- The store stands for the state of the image, and the base is written of it.
-use Rattle.strm_pair.proofs.Prelude.{◌≡◌, ◌∙◌, ℕ, [], ap, arith, refl, sym}
-use Rattle.strm_pair.specs.Prelude.{Config, Fates, State, imaged_now}
+use Rattle.strm_pair.proofs.Prelude.{◌≡◌, ◌∙◌, ℕ, [], ap, arith, refl, subst, sym}
+use Rattle.strm_pair.specs.Prelude.{Config, Fates, State, imaged_now, stands_of}
 use Rattle.strm_image.proofs.FittedImages.{image_base, image_told}
 use Rattle.strm_pair.specs.BaseTexts.{begun_at, start_in}
 use Rattle.strm_pair.specs.Restored.{fates_in}
+use Rattle.strm_pair.specs.Shelves.{IsStocked}
 use Rattle.strm_pair.proofs.BaseRows.{is-written}
 use Rattle.strm_pair.proofs.RestoredPairs.{free-of, left-free, restored-has, restored-kept, restored-room, restored-shown}
 use Rattle.strm_frame.proofs.WidePools.{wide-on}
+use Rattle.strm_pair.proofs.ShelfSteps.{image-few, stocked-full}
 use Rattle.strm_pair.proofs.pair.Pair.made_of.Goals as goal
 
 pub streams_of-streams-requires-clause-good : goal.streams_of-streams-requires-clause-good
@@ -46,6 +48,9 @@ invariant_of-result g c =
           restored-kept u c.streams_of-streams.result c.args.reserved.journal (start_in c.at-base.result) c.args.limits fates x begins made.state r.journal c.fates_of-fates.ensures K c.requires.known
           (image_base x (fates_in x) told refl) made.held m d r.events r.bytes;
       wide = wide-on g.M.OwnModule.wide (g.B.Blocks.value c.args.store) u made.pool.mblks made.pool.dblks c.requires.wide;
+      stocked =
+          subst (λ (v : State ℕ). IsStocked g.M.OwnModule.queued c.streams_of-streams.new.shelf (stands_of v)) (sym made.state)
+          (stocked-full g.M.OwnModule.queued c.args.reserved.tables.shelf c.streams_of-streams.new.shelf (stands_of x.state) r.shelf made.shelf);
       written = is-written c.at-base.result _ fates [] c.args.limits c.at-base.ensures.start c.at-base.ensures.text (omega (arith, r.base, c.at-base.ensures.memory));
     }
 
@@ -59,3 +64,9 @@ returns g c =
     let begins = c.at-base.ensures.start ∙ ap (λ (t : State ℕ). begun_at t fates []) made.state ∙ ap (λ (f : Fates). begun_at x.state f []) c.fates_of-fates.ensures in
     restored-shown u c.streams_of-streams.result c.args.reserved.journal (start_in c.at-base.result) c.args.limits fates x begins made.state c.requires.reserved.journal c.fates_of-fates.ensures
     (left-free s u _ c.args.limits.mblks c.args.limits.dblks (free-of s c.args.limits c.requires.limits c.requires.lists c.requires.hand) made.spent)
+
+pub streams_of-streams-requires-clause-shelf : goal.streams_of-streams-requires-clause-shelf
+streams_of-streams-requires-clause-shelf g c =
+    let x = imaged_now c.args.text.now in
+    let good = (image_told c.requires.fits.0 x c.requires.fits.1).restorable in
+    omega (arith, c.requires.reserved.shelf.tables, image-few g.M.Behaves.does g.M.OwnModule.queued g.met.M.OwnModule.queues x.state good c.requires.known)

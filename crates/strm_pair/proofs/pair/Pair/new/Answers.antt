@@ -5,6 +5,8 @@ use Rattle.strm_pair.specs.BaseTexts.{start_in}
 use Rattle.strm_pair.specs.PairViews.{sizes_over}
 use Rattle.strm_pair.proofs.BaseRows.{is-written}
 use Rattle.strm_pair.proofs.Fresh.{AreFresh, fresh-has-image, fresh-kept, fresh-room, fresh-shown, fresh-start, vacant, all-free}
+use Rattle.strm_pair.specs.Pairs.{state_in}
+use Rattle.strm_pair.proofs.ShelfSteps.{stocked-new}
 use Rattle.strm_pair.proofs.pair.Pair.new.Goals as goal
 
 pub overflow_mul-mblks : goal.overflow_mul-mblks
@@ -54,6 +56,7 @@ invariant_of-result g c =
     record {
       kept = fresh-kept g.M.Behaves.does s _ _ _ l _ start blank as_new j.empty j.most_entries j.most_bytes c.none-fates.ensures;
       wide = c.requires.wide;
+      stocked = stocked-new g.M.OwnModule.queued _ (state_in s c.new-streams.result) (ap (λ v. state_in v c.new-streams.result) blank ∙ as_new.state) c.in-Ok.ensures;
       written = is-written c.at-base.result _ _ _ l c.at-base.ensures.start c.at-base.ensures.text (omega (arith, c.in-Ok-with_capacity.ensures.capacity, c.at-base.ensures.memory));
     }
 

@@ -51,6 +51,7 @@ invariant_of-self g c =
           })
           c.add_call.ensures.within leads (subst FewBooked (sym leads.state) few) added c.add_call.ensures.most_entries c.add_call.ensures.most_bytes;
       wide = (let pool = c.carry_out-answer.ensures.leads.pool in wide-on g.M.OwnModule.wide s new pool.mblks pool.dblks c.self.invariant.wide);
+      stocked = c.carry_out-answer.ensures.stocked;
       written = c.self.invariant.written;
     }
 
@@ -155,3 +156,9 @@ add_call-requires-clause-room g c =
     let room = (call-allowed K old (journal_of p.journal) p.limits (enough (blocks_asked asked) (free_in s)) c.args.caller asked allowed).1 in
     room-less (journal_of p.journal) p.limits p.journal.most_entries p.journal.most_bytes (length (payload_of asked) + content_max asked) (length (payload_of asked) + length c.as_slice.result.now)
     c.self.invariant.kept.events c.self.invariant.kept.bytes (omega (arith, c.carry_out-answer.ensures.content, ap length c.as_slice.ensures.value)) room
+
+pub carry_out-answer-requires-clause-known : goal.carry_out-answer-requires-clause-known
+carry_out-answer-requires-clause-known g c = c.self.invariant.kept.known
+
+pub carry_out-answer-requires-clause-stocked : goal.carry_out-answer-requires-clause-stocked
+carry_out-answer-requires-clause-stocked g c = c.self.invariant.stocked

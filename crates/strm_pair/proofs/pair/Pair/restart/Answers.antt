@@ -34,6 +34,7 @@ invariant_of-self g c =
       kept = kept-restarted K s p.streams p.journal c.clear.new.self (start_in p.base) (start_in c.write.new.self) p.limits p.fates c.self.invariant.kept
           on c.clear.ensures.empty c.clear.ensures.most_entries c.clear.ensures.most_bytes;
       wide = c.self.invariant.wide;
+      stocked = c.self.invariant.stocked;
       written = is-written c.write.new.self (state_in s p.streams) p.fates c.go_on.new.self.entries p.limits c.write.ensures.start c.write.ensures.text
           (omega (arith, c.self.invariant.written.room, c.write.ensures.memory));
     }

@@ -37,6 +37,7 @@ invariant_of-self g c =
           c.add_call.ensures.within (subst (λ (o : Outcome ℕ). Leads s s p.streams p.fates p.fates o.state o.gone) same (leads-nowhere s p.streams p.fates c.self.invariant.kept.held)) c.self.invariant.kept.few
           c.add_call.ensures.added c.add_call.ensures.most_entries c.add_call.ensures.most_bytes;
       wide = c.self.invariant.wide;
+      stocked = c.self.invariant.stocked;
       written = c.self.invariant.written;
     }
 

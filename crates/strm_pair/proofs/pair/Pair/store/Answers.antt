@@ -18,5 +18,5 @@ returns g c =
     subst (λ (v : PairState). Shows s v.state) c.self.view_is (record {
       hand = kept.hand;
       streams = each-side (λ side t. ShowsStream s (first_list side) t) (state_in s p.streams).ends
-          (stream-shown s 0 p.streams.ends.master (kept.beside Master) (idle Master)) (stream-shown s 4 p.streams.ends.slave (kept.beside Slave) (idle Slave));
+          (stream-shown s 0 p.streams.ends.master (kept.beside Master) (idle Master)) (stream-shown s 8 p.streams.ends.slave (kept.beside Slave) (idle Slave));
     })

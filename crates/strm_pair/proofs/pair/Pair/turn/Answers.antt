@@ -1,10 +1,12 @@
 -- A turn that isn't refused is a step, and the journal gains it.
-use Rattle.strm_pair.proofs.Prelude.{◌≡◌, ◌∙◌, ap, sym, refl, subst, rules, arith, None, turn-allowed}
-use Rattle.strm_pair.specs.Prelude.{Turned, plain, PlainEntry, after, enough, turn_blocks, PairState, AddsEntry, MovesOn, queue_refused}
+use Rattle.strm_pair.proofs.Prelude.{ℕ, ◌≡◌, ◌∙◌, ap, sym, refl, subst, rules, arith, None, turn-allowed}
+use Rattle.strm_pair.specs.Prelude.{State, stands_of, Turned, plain, PlainEntry, after, enough, turn_blocks, PairState, AddsEntry, MovesOn, queue_refused}
 use Rattle.strm_laws.specs.Step.{IsTurn}
 use Rattle.strm_pair.specs.BaseTexts.{start_in}
 use Rattle.strm_pair.specs.Pairs.{state_in, journal_of, free_in}
 use Rattle.strm_pair.specs.PairViews.{pair_of}
+use Rattle.strm_laws.proofs.StackStays.{turn-stands}
+use Rattle.strm_pair.proofs.ShelfSteps.{stocked-same}
 use Rattle.strm_pair.proofs.JournalLemmas.{room-less}
 use Rattle.strm_pair.proofs.Steps.{kept-step, led-rests, step-shown}
 use Rattle.strm_pair.proofs.Refusing.{asked-free, turn-free}
@@ -30,6 +32,9 @@ invariant_of-self g c =
           })
           tt c.turn-turn.ensures.leads c.turn-turn.ensures.few c.add_turn.ensures.added c.add_turn.ensures.most_entries c.add_turn.ensures.most_bytes;
       wide = (let pool = c.turn-turn.ensures.leads.pool in wide-on g.M.OwnModule.wide s new pool.mblks pool.dblks c.self.invariant.wide);
+      stocked =
+          stocked-same g.M.OwnModule.queued p.shelf (stands_of old) (stands_of (state_in new c.turn-turn.new.self))
+          (ap (λ (v : State ℕ). stands_of v) c.turn-turn.ensures.leads.state ∙ turn-stands K plain c.args.name c.turn-turn.result old) c.self.invariant.stocked;
       written = c.self.invariant.written;
     }
 

@@ -1,7 +1,9 @@
 -- A put takes no more than it may, of blocks and of the books.
-use Rattle.strm_pair.proofs.Prelude.{ap, arith}
+use Rattle.strm_pair.proofs.Prelude.{ap, arith, subst, sym}
 use Rattle.strm_pair.specs.Prelude.{spare, message_in, token}
+use Rattle.strm_pair.specs.Enabling.{AreFewEnabled}
 use Rattle.strm_pair.specs.Pairs.{state_in}
+use Rattle.strm_pair.proofs.Enabling.{put-few}
 use Rattle.strm_pair.proofs.PlaceCosts.{plain-few, puts-spend}
 use Rattle.strm_frame.proofs.WidePools.{wide-on}
 use Rattle.strm_pair.proofs.stations.StreamsStations.put_at.Goals as goal
@@ -19,6 +21,7 @@ returns-clause-puts g c =
       held = record {
         beside = e.beside;
         wide = wide-on g.M.OwnModule.wide s (g.B.Blocks.value c.put.new.store) e.pool.mblks e.pool.dblks c.requires.held.wide;
+        enabled = subst AreFewEnabled (sym e.state) (put-few (state_in s c.args.self.now) c.requires.held.enabled g.M.Behaves.does c.args.to (message_in s i));
       };
       chains = e.chains;
       hands = e.hands;

@@ -5,6 +5,7 @@ use Rattle.strm_pair.specs.Pairs.{state_in}
 use Rattle.strm_pair.specs.Effects.{Delivers}
 use Rattle.strm_pair.proofs.ChunkSteps.{chunks-none, chunks-full, chunks-more}
 use Rattle.strm_pair.proofs.DataLemmas.{front-256, back-256}
+use Rattle.strm_pair.proofs.Enabling.{delivered-few}
 use Rattle.strm_pair.proofs.Leading.{leads-both, leads-nowhere, rests-behind}
 use Rattle.strm_frame.proofs.WidePools.{room-left, wide-on}
 use Rattle.strm_pair.proofs.streams.Streams.+send_chunks.Goals as goal
@@ -48,7 +49,8 @@ send_chunks-more-requires g t c κs within =
     let some = c.if-chunks-eq0.false in
     let chunk = data_message c.split_at.result.0.now in
     let sent = delivered K plain (below_head c.args.side) chunk old in
-    let rests = rests-behind s mid c.send_chunk.new.self c.args.told.now c.send_chunk.new.told sent.state sent.gone c.send_chunk.ensures.delivers.leads (delivered-idle K plain (below_head c.args.side) chunk old c.requires.rests.idle) in
+    let rests = rests-behind s mid c.send_chunk.new.self c.args.told.now c.send_chunk.new.told sent.state sent.gone c.send_chunk.ensures.delivers.leads (delivered-idle K plain (below_head c.args.side) chunk old c.requires.rests.idle)
+    (delivered-few old c.requires.rests.enabled K (below_head c.args.side) chunk) in
     let left = room-left s mid c.args.chunks 1 (c.args.chunks - 1) (omega (arith, some)) c.requires.room c.send_chunk.ensures.spends in
     let pool = c.send_chunk.ensures.delivers.leads.pool in
     (omega arith, (within.0, (within.1, (rests, (left, wide-on g.M.OwnModule.wide s mid pool.mblks pool.dblks c.requires.wide)))))

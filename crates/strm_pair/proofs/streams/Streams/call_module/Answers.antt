@@ -11,7 +11,7 @@ pub deliver_all-requires-clause-may : goal.deliver_all-requires-clause-may
 deliver_all-requires-clause-may g c =
     let st = state_in (g.B.Blocks.value c.args.store.now) c.args.self.now in
     let low : c.args.here.at - 1 < length (stream c.args.here.side st).modules = let inside = c.requires.may.inside in let within = c.requires.may.within in omega arith in
-    calls-may (g.B.Blocks.value c.args.store.now) (g.B.Blocks.value c.act-served.new.store) c.args.self.now c.act-served.new.self c.args.here c.args.again
+    calls-may g.M.Behaves.does (g.B.Blocks.value c.args.store.now) (g.B.Blocks.value c.act-served.new.store) c.args.self.now c.act-served.new.self c.args.here c.args.again
     (call_of c.act-served.result) (sent_of c.act-served.result.acts.sent) c.args.told.now c.act-served.new.told c.requires.may.inside c.requires.may.begins low c.act-served.ensures c.requires.books
 
 pub deliver_all-requires-clause-held : goal.deliver_all-requires-clause-held
@@ -19,7 +19,7 @@ deliver_all-requires-clause-held g c =
     let s = g.B.Blocks.value c.args.store.now in
     let t = g.B.Blocks.value c.act-served.new.store in
     let e = c.act-served.ensures in
-    record { beside = e.beside; wide = wide-on g.M.OwnModule.wide s t e.pool.mblks e.pool.dblks c.requires.wide }
+    record { beside = e.beside; wide = wide-on g.M.OwnModule.wide s t e.pool.mblks e.pool.dblks c.requires.wide; enabled = e.enabled }
 
 pub returns : goal.returns
 returns g c =
@@ -27,6 +27,6 @@ returns g c =
     let d = c.deliver_all.ensures.delivers in
     let st = state_in (g.B.Blocks.value c.args.store.now) c.args.self.now in
     let low : c.args.here.at - 1 < length (stream c.args.here.side st).modules = let inside = c.requires.may.inside in let within = c.requires.may.within in omega arith in
-    calls-by (g.B.Blocks.value c.args.store.now) (g.B.Blocks.value c.act-served.new.store) c.args.self.now c.act-served.new.self c.args.here c.args.again
+    calls-by K (g.B.Blocks.value c.args.store.now) (g.B.Blocks.value c.act-served.new.store) c.args.self.now c.act-served.new.self c.args.here c.args.again
     (call_of c.act-served.result) (sent_of c.act-served.result.acts.sent) c.args.told.now c.act-served.new.told c.requires.may.inside c.requires.may.begins low c.act-served.ensures
-    K (g.B.Blocks.value c.deliver_all.new.store) c.deliver_all.new.stations c.deliver_all.new.told c.requires.may.hand c.deliver_all.ensures.blocks d.told d.state d.held.beside d.hands d.takes d.pool
+    (g.B.Blocks.value c.deliver_all.new.store) c.deliver_all.new.stations c.deliver_all.new.told c.requires.may.hand c.deliver_all.ensures.blocks d.told d.state d.held.beside d.hands d.takes d.pool d.held.enabled

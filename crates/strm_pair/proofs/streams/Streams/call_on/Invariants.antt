@@ -1,5 +1,8 @@
 use Rattle.std.specs.Bool.{OnTrue}
+use Rattle.std.specs.Prelude.{◌≡◌}
 use Rattle.strm_frame.specs.Hands.{HasRoom}
+use Rattle.strm_laws.specs.StackCosts.{stands_of}
+use Rattle.strm_pair.specs.Enabling.{AreFewEnabled}
 use Rattle.strm_pair.specs.ModuleServed.{IsKeptAll, next_cost}
 use Rattle.strm_pair.specs.Pairs.{state_in, AreBeside, SamePool}
 use Rattle.strm_pair.proofs.CallsOn.{Along, FewAt, still_to_come}
@@ -16,6 +19,8 @@ invariant-loop-call g l =
       beside : AreBeside (value l.store) l.self;
       hand : IsKeptAll (value l.store) l.self;
       pool : SamePool (value l.fn.store) (value l.store);
+      enabled : AreFewEnabled st;
+      stands : stands_of st ≡ stands_of (state_in (value l.fn.store) l.fn.self);
     }
 
 abbrev pub decreases-loop-call : goal.decreases-loop-call

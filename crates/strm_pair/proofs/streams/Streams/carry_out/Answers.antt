@@ -1,12 +1,16 @@
 -- Plain bytes have no origin: what goes down and what comes up are the bytes themselves.
 use Rattle.strm_pair.proofs.Prelude.{ℕ, ◌≡◌, List, take, refl, sym, ap, ◌∙◌, arith, option_map, unless-none}
-use Rattle.strm_pair.specs.Prelude.{Bytes, Open, Master, Einval, request, may_stand, named_by, refused_at_once, unfit, stream}
+use Rattle.strm_pair.specs.Prelude.{Bytes, Open, Master, Einval, request, may_stand, named_by, refused_at_once, stands_of, unfit, State, stream}
 use Rattle.std.proofs.Math.Seq.{take-length}
 use denote.Ref.{Bor}
 use Rattle.strm_types.specs.declared.events.Event.{Event}
+use Rattle.strm_pair.specs.declared.streams.Streams.{Streams}
 use Rattle.strm_pair.specs.Pairs.{state_in, end_at}
 use Rattle.strm_pair.proofs.Refusing.{few-asked, number-left, put-in_range}
-use Rattle.strm_pair.proofs.Sides.{held-with}
+use Rattle.strm_pair.proofs.CallsStand.{flush-stands, get-stands, ioctl-stands, master-stands, mode-stands, put-stands, read-stands, signals-stand}
+use Rattle.strm_pair.proofs.CallsStand.{slave-stands, told-stands, write-stands}
+use Rattle.strm_pair.proofs.ShelfSteps.{stocked-same}
+use Rattle.strm_pair.proofs.Sides.{held-with, set-state}
 use Rattle.strm_pair.proofs.Leading.{leads-alone}
 use Rattle.strm_pair.proofs.streams.Streams.carry_out.Goals as goal
 
@@ -90,9 +94,7 @@ returns-in-OpenMaster-clause-leads g c =
         driver = is.driver;
         stack = is.stack;
         once = is.once;
-        owned = is.owned;
-        spare = is.spare;
-        shelf = is.shelf;
+        lists = is.lists;
       });
       pool = record { mblks = refl; dblks = refl };
     })
@@ -111,3 +113,100 @@ returns-in-IoctlResult-clause-leads g c =
 pub returns-in-Signals-clause-leads : goal.returns-in-Signals-clause-leads
 returns-in-Signals-clause-leads g c =
     rw c.in-Signals.is (leads-alone _ (g.B.Blocks.value c.args.store.now) c.args.self.now c.take_signals.new.self c.args.told.now c.requires.rests.held c.take_signals.ensures.becomes)
+
+-- the modules that stand stay, and the tables on the shelf
+pub returns-in-OpenMaster-clause-stocked : goal.returns-in-OpenMaster-clause-stocked
+returns-in-OpenMaster-clause-stocked g c =
+    let q = g.M.OwnModule.queued in
+    let s = g.B.Blocks.value c.args.store.now in
+    let st = state_in s c.args.self.now in
+    stocked-same q c.args.shelf.now (stands_of st) (stands_of (state_in s c.open_master.new.self))
+    (ap (λ (p : Streams). stands_of (state_in s p)) c.open_master.ensures.streams ∙ ap (λ (v : State ℕ). stands_of v) (set-state s c.args.self.now Master (record (end_at Master c.args.self.now) { opened = Open })) ∙ master-stands st) c.requires.stocked
+
+pub returns-in-Unlock-clause-stocked : goal.returns-in-Unlock-clause-stocked
+returns-in-Unlock-clause-stocked g c =
+    let q = g.M.OwnModule.queued in
+    let s = g.B.Blocks.value c.args.store.now in
+    let st = state_in s c.args.self.now in
+    stocked-same q c.args.shelf.now (stands_of st) (stands_of (state_in s c.unlock.new.self))
+    (ap (λ (p : Streams). stands_of (state_in s p)) c.unlock.ensures.streams) c.requires.stocked
+
+pub returns-in-OpenSlave-clause-stocked : goal.returns-in-OpenSlave-clause-stocked
+returns-in-OpenSlave-clause-stocked g c =
+    let q = g.M.OwnModule.queued in
+    let s = g.B.Blocks.value c.args.store.now in
+    let st = state_in s c.args.self.now in
+    stocked-same q c.args.shelf.now (stands_of st) (stands_of (state_in (g.B.Blocks.value c.open_slave.new.store) c.open_slave.new.self))
+    (ap (λ (v : State ℕ). stands_of v) (c.open_slave.ensures.leads c.args.told.now).state ∙ slave-stands st) c.requires.stocked
+
+pub returns-in-Flush-clause-stocked : goal.returns-in-Flush-clause-stocked
+returns-in-Flush-clause-stocked g c =
+    let q = g.M.OwnModule.queued in
+    let s = g.B.Blocks.value c.args.store.now in
+    let st = state_in s c.args.self.now in
+    stocked-same q c.args.shelf.now (stands_of st) (stands_of (state_in (g.B.Blocks.value c.flush.new.store) c.flush.new.self))
+    (ap (λ (v : State ℕ). stands_of v) c.flush.ensures.delivers.leads.state ∙ flush-stands g.M.Behaves.does c.args.caller.side c.in-Flush.band c.in-Flush.what st) c.requires.stocked
+
+pub returns-in-Write-clause-stocked : goal.returns-in-Write-clause-stocked
+returns-in-Write-clause-stocked g c =
+    let q = g.M.OwnModule.queued in
+    let s = g.B.Blocks.value c.args.store.now in
+    let st = state_in s c.args.self.now in
+    stocked-same q c.args.shelf.now (stands_of st) (stands_of (state_in (g.B.Blocks.value c.write.new.store) c.write.new.self))
+    (ap (λ (v : State ℕ). stands_of v) c.write.ensures.delivers.leads.state ∙ write-stands g.M.Behaves.does c.args.caller.side _ st) c.requires.stocked
+
+pub returns-in-Read-clause-stocked : goal.returns-in-Read-clause-stocked
+returns-in-Read-clause-stocked g c =
+    let q = g.M.OwnModule.queued in
+    let s = g.B.Blocks.value c.args.store.now in
+    let st = state_in s c.args.self.now in
+    stocked-same q c.args.shelf.now (stands_of st) (stands_of (state_in (g.B.Blocks.value c.read.new.store) c.read.new.self))
+    (ap (λ (v : State ℕ). stands_of v) c.read.ensures.leads.state ∙ read-stands c.args.caller.side c.in-Read.n st) c.requires.stocked
+
+pub returns-in-Put-clause-stocked : goal.returns-in-Put-clause-stocked
+returns-in-Put-clause-stocked g c =
+    let q = g.M.OwnModule.queued in
+    let s = g.B.Blocks.value c.args.store.now in
+    let st = state_in s c.args.self.now in
+    stocked-same q c.args.shelf.now (stands_of st) (stands_of (state_in (g.B.Blocks.value c.putmsg.new.store) c.putmsg.new.self))
+    (ap (λ (v : State ℕ). stands_of v) c.putmsg.ensures.delivers.leads.state ∙ put-stands g.M.Behaves.does c.args.caller.side _ _ _ st) c.requires.stocked
+
+pub returns-in-Get-clause-stocked : goal.returns-in-Get-clause-stocked
+returns-in-Get-clause-stocked g c =
+    let q = g.M.OwnModule.queued in
+    let s = g.B.Blocks.value c.args.store.now in
+    let st = state_in s c.args.self.now in
+    stocked-same q c.args.shelf.now (stands_of st) (stands_of (state_in (g.B.Blocks.value c.getmsg.new.store) c.getmsg.new.self))
+    (ap (λ (v : State ℕ). stands_of v) c.getmsg.ensures.leads.state ∙ get-stands c.args.caller.side _ _ _ st) c.requires.stocked
+
+pub returns-in-Mode-clause-stocked : goal.returns-in-Mode-clause-stocked
+returns-in-Mode-clause-stocked g c =
+    let q = g.M.OwnModule.queued in
+    let s = g.B.Blocks.value c.args.store.now in
+    let st = state_in s c.args.self.now in
+    stocked-same q c.args.shelf.now (stands_of st) (stands_of (state_in s c.set_mode.new.self))
+    (ap (λ (v : State ℕ). stands_of v) (c.set_mode.ensures.state s) ∙ mode-stands c.args.caller.side _ st) c.requires.stocked
+
+pub returns-in-Ioctl-clause-stocked : goal.returns-in-Ioctl-clause-stocked
+returns-in-Ioctl-clause-stocked g c =
+    let q = g.M.OwnModule.queued in
+    let s = g.B.Blocks.value c.args.store.now in
+    let st = state_in s c.args.self.now in
+    stocked-same q c.args.shelf.now (stands_of st) (stands_of (state_in (g.B.Blocks.value c.ioctl.new.store) c.ioctl.new.self))
+    (ap (λ (v : State ℕ). stands_of v) c.ioctl.ensures.delivers.leads.state ∙ ioctl-stands g.M.Behaves.does c.args.caller.side _ _ st) c.requires.stocked
+
+pub returns-in-IoctlResult-clause-stocked : goal.returns-in-IoctlResult-clause-stocked
+returns-in-IoctlResult-clause-stocked g c =
+    let q = g.M.OwnModule.queued in
+    let s = g.B.Blocks.value c.args.store.now in
+    let st = state_in s c.args.self.now in
+    stocked-same q c.args.shelf.now (stands_of st) (stands_of (state_in s c.tell_ioctl.new.self))
+    (ap (λ (v : State ℕ). stands_of v) (c.tell_ioctl.ensures.becomes.state s) ∙ told-stands c.args.caller.side st) c.requires.stocked
+
+pub returns-in-Signals-clause-stocked : goal.returns-in-Signals-clause-stocked
+returns-in-Signals-clause-stocked g c =
+    let q = g.M.OwnModule.queued in
+    let s = g.B.Blocks.value c.args.store.now in
+    let st = state_in s c.args.self.now in
+    stocked-same q c.args.shelf.now (stands_of st) (stands_of (state_in s c.take_signals.new.self))
+    (ap (λ (v : State ℕ). stands_of v) (c.take_signals.ensures.becomes.state s) ∙ signals-stand c.args.caller.side st) c.requires.stocked

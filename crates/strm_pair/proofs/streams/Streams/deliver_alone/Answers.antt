@@ -17,6 +17,9 @@ deliver-requires-clause-can_put g c =
     let is = c.requires.alone in
     alone-can s i (in_hand s i) (kept_by p) is.hand (rests s p is.beside is.idle)
 
+pub deliver-requires-clause-held : goal.deliver-requires-clause-held
+deliver-requires-clause-held g c = let is = c.requires.alone in record { beside = is.beside; wide = c.requires.wide; enabled = is.enabled }
+
 pub deliver-requires-clause-may : goal.deliver-requires-clause-may
 deliver-requires-clause-may g c =
     let s = g.B.Blocks.value c.args.store.now in

@@ -1,11 +1,56 @@
 -- The nearest earlier queue is the one that it was before the turn ended, as the modules keep their names.
-use Rattle.strm_pair.proofs.Prelude.{ℕ, false, ap, ◌∙◌}
-use Rattle.strm_pair.specs.Prelude.{at_place, enable_if, enable_some, before_at, queue_ended, State, stream, with_stream}
+use Rattle.strm_pair.proofs.Prelude.{ℕ, ◌≡◌, ◌-◌, Bool, false, ap, subst, sym, ◌∙◌, queue-names}
+use Rattle.strm_pair.specs.Prelude.{QueueName, Spot, StoreValue, stands_of, turn_ended, at_place, enable_if, enable_some, before_at, queue_ended, State, stream, with_stream}
 use Rattle.strm_types.specs.Service.{end_relieves, has_more}
 use Rattle.strm_pair.specs.declared.streams.Streams.{Streams}
+use Rattle.strm_laws.specs.Restorable.{IsThere}
+use Rattle.strm_laws.proofs.StackStays.{same-names}
+use Rattle.strm_frame.specs.MayEnable.{MayEnable}
+use Rattle.strm_pair.specs.Enabling.{AreFewEnabled}
 use Rattle.strm_pair.specs.Pairs.{state_in}
+use Rattle.strm_pair.proofs.Enabling.{let-few, let-room, with-few}
 use Rattle.strm_pair.proofs.NearestStays.{before-ended}
 use Rattle.strm_pair.proofs.streams.Streams.end_module_turn.Goals as goal
+
+-- the queue that ends a turn is there still
+ended-few : (here : Spot) (took : Bool) (s : StoreValue) (p q : Streams) → AreFewEnabled (state_in s p)
+    → state_in s q ≡ with_stream here.side (queue_ended here took (stream here.side (state_in s p))) (state_in s p) → AreFewEnabled (state_in s q)
+ended-few here took s p q e is =
+    let st = state_in s p in
+    let t = queue_ended here took (stream here.side st) in
+    subst AreFewEnabled (sym is) (with-few st e here.side t (queue-names here.way (turn_ended took) (here.at - 1) (stream here.side st).modules))
+
+ended-there : (here : Spot) (took : Bool) (s : StoreValue) (p q : Streams) (name : QueueName) → IsThere (stands_of (state_in s p)) name
+    → state_in s q ≡ with_stream here.side (queue_ended here took (stream here.side (state_in s p))) (state_in s p)
+    → IsThere (stands_of (state_in s q)) name
+ended-there here took s p q name there is =
+    let st = state_in s p in
+    let t = queue_ended here took (stream here.side st) in
+    let same = ap (λ (x : State ℕ). stands_of x) is
+    ∙ same-names here.side t st (queue-names here.way (turn_ended took) (here.at - 1) (stream here.side st).modules) in
+    subst (λ a. IsThere a name) (sym same) there
+
+pub let_go-requires : goal.let_go-requires
+let_go-requires g c =
+    let s = g.B.Blocks.value c.args.store.now in
+    let here = c.args.here in
+    let q = c.end_queue-end.new.self in
+    let few = ended-few here c.args.took s c.args.self.now q c.requires.enabled c.end_queue-end.ensures.state in
+    record { few = (s, let-few (state_in s q) few here.side here.way here.at c.end_queue-end.result.room) }
+
+pub enable_if-requires : goal.enable_if-requires
+enable_if-requires g c =
+    let s = g.B.Blocks.value c.args.store.now in
+    let here = c.args.here in
+    let name = c.args.name in
+    let q = c.end_queue-end.new.self in
+    let e = c.end_queue-end.ensures in
+    let few = ended-few here c.args.took s c.args.self.now q c.requires.enabled e.state in
+    let there = ended-there here c.args.took s c.args.self.now q name c.requires.there e.state in
+    record {
+      room = λ more. subst (λ (x : Streams). MayEnable x.enabled name) (sym (c.let_go.ensures s))
+          (let-room (state_in s q) few here.side here.way here.at c.end_queue-end.result.room name there);
+    }
 
 pub returns-clause-state : goal.returns-clause-state
 returns-clause-state g c =

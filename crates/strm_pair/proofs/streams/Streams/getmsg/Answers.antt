@@ -7,10 +7,21 @@ use Rattle.strm_types.specs.Heads as heads
 use Rattle.strm_types.specs.Queue as plain
 use Rattle.strm_pair.specs.declared.streams.Streams.{Streams}
 use Rattle.strm_pair.specs.Pairs.{end_at, state_in, with_end}
+use Rattle.strm_pair.proofs.Enabling.{let-few, same-stack}
 use Rattle.strm_pair.proofs.Sides.{head-is, head-went, modules-behind}
 use Rattle.strm_pair.proofs.GetSteps.{got_at, gives-is, got-answer, got-filled, got-few, got-parts}
 use Rattle.strm_pair.proofs.ReadSteps.{read-beside}
 use Rattle.strm_pair.proofs.streams.Streams.getmsg.Goals as goal
+
+pub let_go-requires : goal.let_go-requires
+let_go-requires g c =
+    let s = g.B.Blocks.value c.args.store.now in
+    let p = c.args.self.now in
+    let side = c.args.side in
+    let end = end_at side p in
+    let e = record end { head = record end.head { queue = c.getmsg-got.new.queue } } in
+    let few = same-stack s s p side e refl c.requires.enabled in
+    rw c.get_mut.ensures.value (record { few = (s, let-few (state_in s (with_end side e p)) few side Up 0 c.getmsg-got.result.lets_go) })
 
 pub returns-clause-answer : goal.returns-clause-answer
 returns-clause-answer g c =

@@ -14,7 +14,5 @@ returns c =
       driver = record { messages = is.driver.messages; counted = is.driver.counted };
       stack = is.stack;
       once = is.once;
-      owned = is.owned;
-      spare = is.spare;
-      shelf = is.shelf;
+      lists = is.lists;
     })

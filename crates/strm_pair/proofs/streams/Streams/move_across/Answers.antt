@@ -1,11 +1,13 @@
 -- The message is alone in hand.
-use Rattle.strm_pair.proofs.Prelude.{ℕ, ◌∷◌, sym, ap, subst, ◌∙◌, arith, range-spare}
+use Rattle.strm_pair.proofs.Prelude.{ℕ, ◌∷◌, refl, sym, ap, subst, ◌∙◌, arith, range-spare}
 use Rattle.strm_pair.specs.Prelude.{Moved, Side, Up, Spot, plain, tallied, Carried, AreIdle, size_of, other, delivered, modules_on, left_with, spare}
 use Rattle.strm_pair.specs.Prelude.{stream, State, message_of, in_hand, token}
 use Rattle.strm_laws.specs.Turns.{turn_ended}
 use Rattle.strm_msg.proofs.Bounds.{bytes-few}
 use Rattle.strm_msg.proofs.Chains.{size-shown}
+use Rattle.strm_pair.specs.Enabling.{AreFewEnabled}
 use Rattle.strm_pair.specs.Pairs.{state_in}
+use Rattle.strm_pair.proofs.Enabling.{delivered-few, with-few}
 use Rattle.strm_pair.proofs.TurnSteps.{ended-spare, taken-idle, taken-spare, up-few}
 use Rattle.strm_frame.proofs.WidePools.{wide-on}
 use Rattle.strm_pair.proofs.streams.Streams.move_across.Goals as goal
@@ -20,6 +22,8 @@ deliver_alone-requires-clause-alone g c =
       chain = e.chain;
       beside = e.beside;
       idle = subst AreIdle (sym e.state) (taken-idle c.args.side _ (state_in (g.B.Blocks.value c.args.store.now) c.args.self.now) c.requires.may.rests.idle);
+      enabled = subst AreFewEnabled (sym e.state)
+          (with-few (state_in (g.B.Blocks.value c.args.store.now) c.args.self.now) c.requires.may.rests.enabled c.args.side _ refl);
     }
 
 pub deliver_alone-requires-clause-room : goal.deliver_alone-requires-clause-room
@@ -46,6 +50,17 @@ overflow_cast-result g c =
     let i = token c.in-Some.message in
     let chain = c.in-Some.ensures.chain in
     omega (arith, c.message_size-size.ensures.message chain, size-shown (in_hand got i) chain, bytes-few got i c.audit.ensures)
+
+-- the queues that the message enabled are there
+pub end_turn-requires-clause-enabled : goal.end_turn-requires-clause-enabled
+end_turn-requires-clause-enabled g c =
+    let K = g.M.Behaves.does in
+    let s = g.B.Blocks.value c.args.store.now in
+    let took = g.B.Blocks.value c.take_first.new.store in
+    let e = c.in-Some.ensures in
+    let got = state_in took c.take_first.new.self in
+    let few = subst AreFewEnabled (sym e.state) (with-few (state_in s c.args.self.now) c.requires.may.rests.enabled c.args.side _ refl) in
+    subst AreFewEnabled (sym c.deliver_alone.ensures.leads.state) (delivered-few got few K _ (message_of (in_hand took (token c.in-Some.message))))
 
 pub returns : goal.returns
 returns g c =

@@ -1,7 +1,23 @@
 -- The first note, and where there are more each of them.
 use Rattle.strm_pair.proofs.Prelude.{sym, ◌∙◌}
-use Rattle.strm_pair.proofs.NotesDone.{noted-last, noted-more}
+use Rattle.strm_pair.proofs.NotesDone.{noted-front, noted-last, noted-more, noted-rest}
 use Rattle.strm_pair.proofs.streams.Streams.note.Goals as goal
+
+pub note_one-requires : goal.note_one-requires
+note_one-requires c =
+    let s = c.requires.few.0 in
+    record { few = (s, noted-front s c.args.side c.args.place c.args.at c.in-Some.first.now c.in-Some.rest.now c.args.notes.now c.args.self.now c.in-Some.ensures.cases.0 c.requires.few.1) }
+
+pub note_each-requires : goal.note_each-requires
+note_each-requires c =
+    let s = c.requires.few.0 in
+    record {
+      few = (
+        s,
+        noted-rest s c.args.side c.args.place c.args.at c.in-Some.first.now c.in-Some.rest.now c.args.notes.now c.args.self.now c.note_one.new.self
+            c.in-Some.ensures.cases.0 (c.note_one.ensures s) c.requires.few.1,
+      );
+    }
 
 pub returns-then-not-is_empty : goal.returns-then-not-is_empty
 returns-then-not-is_empty c = λ s.

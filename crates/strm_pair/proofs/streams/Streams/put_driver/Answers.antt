@@ -1,9 +1,12 @@
 -- The driver takes the message, and what it says of its queues is done.
-use Rattle.strm_pair.proofs.Prelude.{ℕ, ◌≡◌, refl, ap, subst, ◌∙◌, Some, can-in_hand}
+use Rattle.strm_pair.proofs.Prelude.{ℕ, ◌≡◌, refl, ap, subst, sym, ◌∙◌, Some, can-in_hand}
 use Rattle.strm_pair.specs.Prelude.{Driver, Across, Acted, tallied, driver_put, Queue, before_among, IsKeptAhead, earlier_at, noted, message_in}
-use Rattle.strm_pair.specs.Prelude.{parcels_in, sent_of, OnlyQueue, queue_in, token}
+use Rattle.strm_pair.specs.Prelude.{parcels_in, sent_of, OnlyQueue, queue_in, stands_of, token}
+use Rattle.strm_laws.proofs.EnabledExist.{AreNoted}
 use Rattle.strm_pair.specs.declared.ends.StreamEnd.{StreamEnd}
 use Rattle.strm_pair.specs.Pairs.{end_at, kept_by, state_in, with_end}
+use Rattle.strm_pair.proofs.DriverNoted.{driver-noted}
+use Rattle.strm_pair.proofs.Enabling.{noted-few, stands-stack}
 use Rattle.strm_pair.proofs.PutSteps.{driver-by, driver-room}
 use Rattle.strm_pair.proofs.Sides.{modules-behind}
 use Rattle.strm_pair.proofs.streams.Streams.put_driver.Goals as goal
@@ -13,6 +16,24 @@ put-acts-requires-clause-in_hand g c = can-in_hand (g.B.Blocks.value c.args.stor
 
 pub put-acts-requires-clause-room : goal.put-acts-requires-clause-room
 put-acts-requires-clause-room g c = driver-room c.args.to.way (g.B.Blocks.value c.args.store.now) (token c.args.message) c.requires.may.chain c.requires.room
+
+-- what it says of its queue is there
+pub note-requires : goal.note-requires
+note-requires g c =
+    let s = g.B.Blocks.value c.args.store.now in
+    let p = c.args.self.now in
+    let st = state_in s p in
+    let side = c.args.to.side in
+    let at = c.driver_place-at.result in
+    let notes = c.as_slice.result.now in
+    let end = record (end_at side p) { driver = c.put-acts.new.queue } in
+    let one = with_end side end p in
+    let did : StreamEnd → Acted ℕ (Queue ℕ) = λ x. driver_put side c.across-across.result (record c.args.to { at = at })
+    (message_in s (token c.args.message)) (queue_in s x.driver) in
+    let said = c.as_slice.ensures.value ∙ subst (λ (x : StreamEnd). c.put-acts.result.notes.items ≡ (did x).notes) c.get_mut.ensures.value c.put-acts.ensures.notes in
+    let fine = subst (λ ns. AreNoted (stands_of st) side (Some Driver) ns) (sym said) (driver-noted st side c.across-across.result (record c.args.to { at = at })
+    (message_in s (token c.args.message)) (queue_in s (end_at side p).driver)) in
+    rw c.get_mut.ensures.value (record { few = (s, noted-few s s p one side (Some Driver) at notes c.requires.enabled (stands-stack s s p side end refl) refl fine) })
 
 pub returns-clause-does : goal.returns-clause-does
 returns-clause-does g c =

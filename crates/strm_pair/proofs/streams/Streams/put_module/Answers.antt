@@ -1,6 +1,6 @@
 -- The module takes the message, what it says of its queues is done by how the stream was before, and what it made is told, and fits the books.
 use Rattle.strm_pair.proofs.Prelude.{◌-◌, map, sym, ap, ◌∙◌, arith, slice_index_or, None, keep-names}
-use Rattle.strm_pair.specs.Prelude.{MasterToSlave, SlaveToMaster, tallied, places_of, plain, earlier_at, noted, module_name, message_in, token}
+use Rattle.strm_pair.specs.Prelude.{MasterToSlave, SlaveToMaster, tallied, places_of, plain, earlier_at, noted, module_name, message_in, stands_of, token}
 use Rattle.std.specs.List.{list_all}
 use Rattle.strm_types.specs.Tables.{name_holds}
 use Rattle.strm_laws.specs.State as state
@@ -10,12 +10,32 @@ use Rattle.strm_pair.specs.ModuleServed.{between, with_more}
 use Rattle.strm_pair.specs.Pairs.{end_at, state_in}
 use Rattle.strm_pair.specs.PutBy.{taken_at}
 use Rattle.strm_pair.specs.Stacks.{modules_in}
+use Rattle.strm_pair.proofs.Enabling.{noted-few, place-noted, stands-stack}
 use Rattle.strm_pair.proofs.Holding.{place-holds, stands-kept}
 use Rattle.strm_pair.proofs.ModuleSteps.{module-by, put-between, put-fits}
 use Rattle.strm_pair.proofs.NearestStays.{before-stays}
 use Rattle.strm_pair.proofs.PlaceCosts.{plain-few}
 use Rattle.strm_pair.proofs.Sides.{modules-are}
 use Rattle.strm_pair.proofs.streams.Streams.put_module.Goals as goal
+
+-- what it says of its queues is there
+pub note-requires : goal.note-requires
+note-requires g c =
+    let K = g.M.Behaves.does in
+    let s = g.B.Blocks.value c.args.store.now in
+    let t = g.B.Blocks.value c.put_on_stack-acts.new.store in
+    let p = c.args.self.now in
+    let y = c.put_on_stack-acts.new.self in
+    let to = c.args.to in
+    let e = c.put_on_stack-acts.ensures in
+    let notes = c.as_slice.result.now in
+    let names = ap (λ ls. map module_name ls) e.takes.state
+    ∙ keep-names K plain 0 (to.at - 1) to (message_in s (token c.args.message)) (modules_in s (end_at to.side p).stack) in
+    let same = ap (λ (z : Streams). stands_of (state_in t z)) e.streams
+    ∙ stands-stack s t p to.side (record (end_at to.side p) { stack = (end_at to.side y).stack }) names in
+    let place_is = c.place_at-place.ensures s ∙ ap (λ (on : state.Stream _). slice_index_or (places_of on.modules) (to.at - 1) None) (c.end.ensures.stream s) in
+    let fine = place-noted s p to.side c.place_at-place.result (to.at - 1) notes place_is in
+    record { few = (t, noted-few s t p y to.side c.place_at-place.result to.at notes c.requires.enabled same (ap (λ (z : Streams). z.enabled) e.streams) fine) }
 
 pub book_made-requires-clause-master : goal.book_made-requires-clause-master
 book_made-requires-clause-master g c =

@@ -3,8 +3,18 @@ use Rattle.strm_pair.proofs.Prelude.{ap, ◌∙◌, refl}
 use Rattle.strm_pair.specs.Prelude.{Up, tallied, direction_of, enable_some, read_gone, before_among, messages_on}
 use Rattle.strm_pair.specs.Pairs.{end_at, state_in, with_end}
 use Rattle.strm_pair.proofs.ReadSteps.{read-answer, read-told, read-beside, read-state}
+use Rattle.strm_pair.proofs.Enabling.{let-few, same-stack}
 use Rattle.strm_pair.proofs.Sides.{modules-behind}
 use Rattle.strm_pair.proofs.streams.Streams.read.Goals as goal
+
+pub let_go-requires : goal.let_go-requires
+let_go-requires g c =
+    let s = g.B.Blocks.value c.args.store.now in
+    let p = c.args.self.now in
+    let side = c.args.side in
+    let e = record (end_at side p) { head = c.read-goes.new.self } in
+    let few = same-stack s s p side e refl c.requires.enabled in
+    rw c.get_mut.ensures.value (record { few = (s, let-few (state_in s (with_end side e p)) few side Up 0 c.read-goes.result) })
 
 pub returns-clause-answer : goal.returns-clause-answer
 returns-clause-answer g c =

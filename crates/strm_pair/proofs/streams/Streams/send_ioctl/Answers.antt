@@ -1,7 +1,8 @@
 -- The M_IOCTL is alone in hand.
 use Rattle.strm_pair.proofs.Prelude.{ℕ, ◌≡◌, ◌≤◌, List, [], ◌∷◌, refl, sym, ap, subst, ◌∙◌, arith, range-spare}
 use Rattle.strm_pair.specs.Prelude.{Side, Down, Spot, plain, AreIdle, Message, delivered, spare, most_of, State, in_hand, token, StoreValue}
-use Rattle.strm_pair.specs.Prelude.{message_of}
+use Rattle.strm_pair.specs.Prelude.{message_of, stream}
+use Rattle.strm_laws.specs.Prelude.{Waiting}
 use Rattle.strm_types.specs.declared.ioctls.Ioc.{Ioc}
 use Rattle.strm_laws.specs.Calls.{ioctl_begun}
 use Rattle.strm_types.specs.Ioctls.{asking, ioctl_message}
@@ -9,6 +10,8 @@ use Rattle.strm_head.specs.Sending.{ioctl_blocks}
 use Rattle.strm_pair.specs.declared.streams.Streams.{Streams}
 use Rattle.strm_pair.specs.Pairs.{state_in}
 use Rattle.strm_pair.specs.Effects.{AreAtRest, Becomes, Leads}
+use Rattle.strm_pair.specs.Enabling.{AreFewEnabled}
+use Rattle.strm_pair.proofs.Enabling.{with-few}
 use Rattle.strm_pair.proofs.Idle.{idle-with}
 use Rattle.strm_pair.proofs.InHand.{made-alone, made-state, made-leads, made-left}
 use Rattle.strm_pair.proofs.PlaceCosts.{may-by}
@@ -18,6 +21,12 @@ use Rattle.strm_pair.proofs.streams.Streams.send_ioctl.Goals as goal
 -- the modules stay where an ioctl begins
 begun-idle : (side : Side) (command : ℕ) (s : State ℕ) → AreIdle s → AreIdle (ioctl_begun side command s)
 begun-idle side command s idle = idle-with side _ s (idle side) idle
+
+-- and enabled queues
+begun-few : (side : Side) (command : ℕ) (s : State ℕ) → AreFewEnabled s → AreFewEnabled (ioctl_begun side command s)
+begun-few side command s e =
+    let few = with-few s e side (record (stream side s) { head = record (stream side s).head { ioctl = Waiting s.next_ioctl command } }) refl in
+    record { all = few.all; few = few.few; among = few.among; names = few.names }
 
 -- an M_IOCTL on its way down
 ioctl-few : (side : Side) (ioc : Ioc) (body : List ℕ) → most_of {C = ℕ} (record { side = side; at = 1; way = Down }) (ioctl_message ioc body) ≤ 30
@@ -36,6 +45,7 @@ begun-rests : (s : StoreValue) (p q : Streams) (side : Side) (command : ℕ) →
 begun-rests s p q side command at_rest begun = record {
   held = begun.held s at_rest.held;
   idle = subst AreIdle (sym (begun.state s)) (begun-idle side command (state_in s p) at_rest.idle);
+  enabled = subst AreFewEnabled (sym (begun.state s)) (begun-few side command (state_in s p) at_rest.enabled);
 }
 
 pub deliver_alone-requires-clause-alone : goal.deliver_alone-requires-clause-alone

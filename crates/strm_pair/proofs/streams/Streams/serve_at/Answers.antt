@@ -20,21 +20,24 @@ serve-requires g c =
     let few = length-map c.get_mut.result.now.stack.modules.items (module_in s) in
     let same = modules-are s p here.side ∙ ap (λ (e : StreamEnd). modules_in s e.stack) (sym is) in
     let turn = subst (λ ms. HoldsAt (HoldsOfPart (MayServe here.way c.args.again)) ms (here.at - 1)) same
-    (may-serve here.way c.args.again (here.at - 1) (stream here.side (state_in s p)).modules (omega (arith, c.requires.inside, c.requires.within)) c.requires.begins) in (
+    (may-serve here.way c.args.again (here.at - 1) (stream here.side (state_in s p)).modules (omega (arith, c.requires.may.inside, c.requires.may.within)) c.requires.may.begins) in (
       omega arith,
       (
-        c.requires.inside,
+        c.requires.may.inside,
         (
-          omega (arith, c.requires.within, few, ap length same),
+          omega (arith, c.requires.may.within, few, ap length same),
           (
-            rw is (c.requires.beside here.side).stack,
+            rw is (c.requires.may.beside here.side).stack,
             (
               turn,
               (
                 record {
-                  apart = λ i. omega (arith, c.requires.hand i, kept-parts here.side p i, ap (λ (e : StreamEnd). stack_keeps e.stack i) is);
+                  apart = λ i. omega (arith, c.requires.may.hand i, kept-parts here.side p i, ap (λ (e : StreamEnd). stack_keeps e.stack i) is);
                 },
-                subst (λ ms. HasRoom s (at_place (turn_cost here c.args.again) 0 here.at ms)) same c.requires.room,
+                (
+                  subst (λ ms. HasRoom s (at_place (turn_cost here c.args.again) 0 here.at ms)) same c.requires.may.room,
+                  c.requires.wide,
+                ),
               ),
             ),
           ),
@@ -51,6 +54,6 @@ returns-clause-serves g c =
     let t = g.B.Blocks.value c.serve.new.store in
     let x = (end_at c.args.here.side c.args.self.now).stack in
     let e = rw c.get_mut.ensures.value at c.serve.ensures.does in
-    subst (λ y. StackServes s t x y c.args.here c.args.again c.serve.result c.args.told.now c.serve.new.told)
+    subst (λ y. StackServes g.M.Behaves.does s t x y c.args.here c.args.again c.serve.result c.args.told.now c.serve.new.told)
     (sym (stack-there c.args.self.now c.args.here.side c.get_mut.result.now c.serve.new.self c.get_mut.ensures.value).0)
     (record { state = e.state; notes = e.notes; sent = e.sent; tells = e.told; bytes = e.bytes; asks = e.again; over = on-true c.serve.result.stopped (λ stop. stop.1) e.stopped; few = on-true c.serve.result.stopped (λ stop. stop.0) e.stopped; some = e.some; ends = e.stops; made = e.made; held = e.held; own = e.own; chains = e.chains; hands = e.hands; room = e.room; pool = e.pool })

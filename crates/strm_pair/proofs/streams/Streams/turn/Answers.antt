@@ -1,10 +1,38 @@
 -- A driver's turn makes little: what becomes packets of its message.
-use Rattle.strm_pair.proofs.Prelude.{ap, sym, subst, arith, turn-few, range-spare, spare-low}
-use Rattle.strm_pair.specs.Prelude.{plain, FewBooked, spare, stream, driver_turned}
+use Rattle.strm_pair.proofs.Prelude.{ℕ, ◌≡◌, List, ap, sym, subst, arith, turn-few, range-spare, spare-low}
+use Rattle.strm_pair.specs.Prelude.{plain, FewBooked, QueueName, STOP_BLOCKS, StoreValue, spare, stream, driver_turned}
+use Rattle.strm_types.specs.Names.{without}
 use Rattle.strm_laws.proofs.StepBooks.{serves-books}
+use Rattle.strm_pair.specs.declared.streams.Streams.{Streams}
+use Rattle.strm_pair.specs.Effects.{MayDeliver}
+use Rattle.strm_pair.specs.Enabling.{AreFewEnabled}
 use Rattle.strm_pair.specs.Pairs.{free_in, state_in}
+use Rattle.strm_pair.proofs.Enabling.{without-few}
 use Rattle.strm_pair.proofs.MovingOn.{driver-moves, moves-taken}
 use Rattle.strm_pair.proofs.streams.Streams.turn.Goals as goal
+
+-- the queue whose turn it is is off the list
+off-list : (s : StoreValue) (p : Streams) (name : QueueName) (names : List QueueName) (blocks : ℕ) → MayDeliver s p blocks → names ≡ without name p.enabled
+    → MayDeliver s (record p { enabled = names }) blocks
+off-list s p name names blocks may is = record {
+  rests = record {
+    held = record { hand = may.rests.held.hand; beside = may.rests.held.beside };
+    idle = may.rests.idle;
+    enabled = subst (λ ns. AreFewEnabled (record (state_in s p) { enabled = ns })) (sym is) (without-few (state_in s p) may.rests.enabled name);
+  };
+  room = may.room;
+  range = may.range;
+}
+
+pub turn_driver-requires-clause-may : goal.turn_driver-requires-clause-may
+turn_driver-requires-clause-may g c =
+    let s = g.B.Blocks.value c.args.store.now in
+    off-list s c.args.self.now c.args.name c.remove.new.self 8 (rw c.in-Driver.is at c.requires.may) c.remove.ensures
+
+pub turn_module-requires-clause-may : goal.turn_module-requires-clause-may
+turn_module-requires-clause-may g c =
+    let s = g.B.Blocks.value c.args.store.now in
+    off-list s c.args.self.now c.args.name c.remove.new.self STOP_BLOCKS (rw c.in-Module.is at c.requires.may) c.remove.ensures
 
 pub returns-in-Driver-clause-few : goal.returns-in-Driver-clause-few
 returns-in-Driver-clause-few g c =

@@ -1,7 +1,9 @@
 -- Where the module may serve, its calls are those of the turn's definition.
 use Rattle.strm_pair.proofs.Prelude.{ℕ, ◌≡◌, false, [], refl, sym, ap, subst, ◌∙◌, arith, not, ◌==◌, turn-few, range-spare, same-spare, spare-low}
 use Rattle.strm_pair.specs.Prelude.{Moved, plain, tallied, AreIdle, module_turn_ended, module_turned, FewBooked, spare, bytes_left, discipline_of}
-use Rattle.strm_pair.specs.Prelude.{module_at, TurnOutcome}
+use Rattle.strm_pair.specs.Prelude.{module_at, TurnOutcome, State, stands_of}
+use Rattle.strm_laws.specs.Restorable.{IsThere}
+use Rattle.strm_laws.proofs.EnabledExist.{named-is-there}
 use Rattle.strm_laws.proofs.Balances.{range-low}
 use Rattle.strm_laws.proofs.InOrder.{BooksMade}
 use Rattle.strm_laws.proofs.StepBooks.{ended-books, module-books}
@@ -15,6 +17,15 @@ use Rattle.strm_pair.proofs.streams.Streams.turn_module.Goals as goal
 
 pub end_module_turn-requires-clause-within : goal.end_module_turn-requires-clause-within
 end_module_turn-requires-clause-within g c = let stands = c.call_on-bytes.ensures.treats.stands in let inside = c.in-Serves.ensures.begins.inside in omega arith
+
+-- the module stands there still whose queue has its turn
+pub end_module_turn-requires-clause-there : goal.end_module_turn-requires-clause-there
+end_module_turn-requires-clause-there g c =
+    let s = g.B.Blocks.value c.args.store.now in
+    let old = state_in s c.args.self.now in
+    let begins = c.in-Serves.ensures.begins in
+    let there = named-is-there (stands_of old) old refl c.args.name c.in-Serves.here.at begins.found in
+    subst (λ a. IsThere a c.args.name) (sym (c.call_on-bytes.ensures.stands ∙ ap (λ (x : State ℕ). stands_of x) begins.stays)) there
 
 -- No more is treated than the first message has.
 pub overflow_cast-result : goal.overflow_cast-result
@@ -111,4 +122,4 @@ returns-in-Serves-clause-stops g c = λ owner place.
     let K = g.M.Behaves.does in
     let s = g.B.Blocks.value c.args.store.now in
     serves-moves K c.args.name c.in-Serves.here (state_in s c.args.self.now) (state_in s c.begin_module_turn.new.self) (g.B.Blocks.value c.call_on-bytes.new.store) c.call_on-bytes.result c.in-Serves.ensures.begins
-    c.call_on-bytes.ensures.treats.within c.call_on-bytes.ensures.treats.some c.call_on-bytes.ensures.few owner place
+    (ap (λ (t : TurnOutcome ℕ). t.turn) (c.call_on-bytes.ensures.treats.moves c.args.name)) c.call_on-bytes.ensures.treats.within c.call_on-bytes.ensures.treats.some c.call_on-bytes.ensures.few owner place

@@ -11,7 +11,7 @@ use Rattle.strm_raw.proofs.raw.RawStore.take_flushed.Goals as goal
 use Rattle.strm_raw.proofs.raw.RawStore.take_flushed.Goals.{After-unseat-message}
 
 pub loop-left-init : goal.loop-left-init
-loop-left-init c = sift-begins c.args.self.now c.args.list c.args.what c.self.invariant.raw c.self.invariant.wiped c.self.invariant.listed c.self.view_is _ refl _ c.messages-left.ensures
+loop-left-init c = sift-begins c.args.self.now c.args.list c.args.what c.self.invariant.raw c.self.invariant.wiped c.self.invariant.listed c.self.view_is _ c.open-at.ensures _ c.messages-left.ensures
 
 pub returns-in_default : goal.returns-in_default
 returns-in_default c = sift-ends c.args.self.now c.args.list c.args.what c.loop-left.taken c.loop-left.invariant (inl c.in_default.is)

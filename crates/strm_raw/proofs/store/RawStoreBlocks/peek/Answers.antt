@@ -4,6 +4,7 @@ use Rattle.strm_blocks.specs.Blocks.{StoreValue, list_at}
 use Rattle.strm_raw.specs.Numbered.{Row, msg_number, row_at}
 use Rattle.strm_raw.specs.Raw.{chain_of}
 use Rattle.strm_raw.specs.Lists.{ends_at, queue_at}
+use Rattle.strm_raw.specs.declared.neighbours.Ends.{Ends}
 use Rattle.strm_raw.specs.declared.msg_nodes.MsgLink.{MsgLink}
 use Rattle.strm_raw.proofs.Moved.{queue-value}
 use Rattle.strm_raw.proofs.Seating.{no-queue}
@@ -13,13 +14,13 @@ use Rattle.strm_raw.proofs.store.RawStoreBlocks.peek.Goals as goal
 pub returns-in_err-first : goal.returns-in_err-first
 returns-in_err-first c =
     let t = c.self.inside in let v = t.memory in let b = t.ledger.roster in let k = c.args.list in
-    let first = sym (list-begin v (ends_at k t.ends) (queue_at k b.lists) (c.self.invariant.listed.tied k)) ∙ ap (λ (o : Option MsgLink). option_map (msg_number v.mat) o) c.in_err-first.was in
+    let first = sym (list-begin v (ends_at k t.ends) (queue_at k b.lists) (c.self.invariant.listed.tied k)) ∙ ap (λ (e : Ends). option_map (msg_number v.mat) e.first) (sym c.open.ensures) ∙ ap (λ (o : Option MsgLink). option_map (msg_number v.mat) o) c.in_err-first.was in
     rw c.from_residual.ensures (ap (λ (s : StoreValue). list_at s k) (sym c.self.view_is) ∙ no-queue v b k (no-first (queue_at k b.lists) first))
 
 pub returns : goal.returns
 returns c =
     let t = c.self.inside in let v = t.memory in let b = t.ledger.roster in let k = c.args.list in
-    let first = sym (list-begin v (ends_at k t.ends) (queue_at k b.lists) (c.self.invariant.listed.tied k)) ∙ ap (λ (o : Option MsgLink). option_map (msg_number v.mat) o) c.in_ok-first.was in
+    let first = sym (list-begin v (ends_at k t.ends) (queue_at k b.lists) (c.self.invariant.listed.tied k)) ∙ ap (λ (e : Ends). option_map (msg_number v.mat) e.first) (sym c.open.ensures) ∙ ap (λ (o : Option MsgLink). option_map (msg_number v.mat) o) c.in_ok-first.was in
     let at = a-first (queue_at k b.lists) (msg_number v.mat c.in_ok-first.first) first in
     let row = c.message-node.ensures.row ∙ ap (λ i. row_at i v.rows) (sym at.1.1.1) in
     record {

@@ -1,9 +1,11 @@
 use Rattle.std.proofs.Common.{ℕ, ◌≤◌, [], refl, sym, ap, ◌∙◌, subst}
 use Rattle.std.specs.Prelude.{None, replicate}
+use Rattle.strm_types.specs.declared.limits.TheConstants.{LISTS}
 use Rattle.strm_blocks.specs.Blocks.{StoreValue}
 use Rattle.strm_raw.specs.Roster.{Roster}
 use Rattle.strm_raw.specs.Raw.{IsRaw, value_of}
-use Rattle.strm_raw.specs.Lists.{AreListed, no_ends}
+use Rattle.strm_raw.specs.Lists.{AreListed}
+use Rattle.strm_raw.specs.declared.neighbours.KeptEnds.{KeptEnds}
 use Rattle.strm_raw.proofs.Listed.{listed-none}
 use Rattle.strm_raw.proofs.Wiping.{wiped-none}
 use Rattle.strm_raw.proofs.Fresh.{empty-raw}
@@ -17,7 +19,7 @@ invariant_of-self c =
       raw = subst (λ (b : Roster). IsRaw v None None c.room.result.0 c.room.result.1 b) (sym c.note.ensures)
           (empty-raw v _ _ clear.rows clear.datas c.begins.ensures.messages c.begins.ensures.data most_m most_d _ _ (ap (λ (r : ℕ × ℕ). r.0) c.room.ensures) (ap (λ (r : ℕ × ℕ). r.1) c.room.ensures));
       wiped = wiped-none v.datas clear.datas;
-      listed = subst (λ (b : Roster). AreListed v (replicate 8 no_ends) b) (sym c.note.ensures) (listed-none v _ refl);
+      listed = subst (λ (x : KeptEnds × Roster). AreListed v (replicate LISTS x.0) x.1) (λ j. (sym c.keep-self-inside.ensures j, sym c.note.ensures j)) (listed-none v _ refl);
     }
 
 pub returns : goal.returns
@@ -25,4 +27,4 @@ returns c =
     let v = c.clear.new.self in
     let m = c.clear.ensures.mblks ∙ ap (λ (s : StoreValue). s.mblks) c.self.view_is in
     let d = c.clear.ensures.dblks ∙ ap (λ (s : StoreValue). s.dblks) c.self.view_is in
-    (λ j. value_of v (c.note.ensures j)) ∙ (λ j. record { lists = replicate 8 []; hand = []; mblks = m j; dblks = d j })
+    (λ j. value_of v (c.note.ensures j)) ∙ (λ j. record { lists = replicate LISTS []; hand = []; mblks = m j; dblks = d j })

@@ -21,6 +21,6 @@ returns c mblks dblks =
     let y : Standing Stock = standing n (Some lower) in
     two-new mblks dblks m n upper lower c.push-2.new.self.items (c.push-2.ensures.items ∙ ap (λ xs. xs ++ y ∷ []) (c.push.ensures.items ∙ ap (λ xs. xs ++ x ∷ []) c.new-modules.ensures))
     (c.new.ensures.ready s refl refl)
-    (two-ready s lower (empty-ready s c.new-2.result 2 c.new-2.ensures.list c.new-2.ensures.counted refl) (empty-ready s c.new-3.result 3 c.new-3.ensures.list c.new-3.ensures.counted refl) c.new-2.ensures.list c.new-3.ensures.list)
+    (two-ready s lower (empty-ready s c.new-2.result 0 c.new-2.ensures.list c.new-2.ensures.counted refl) (empty-ready s c.new-3.result 1 c.new-3.ensures.list c.new-3.ensures.counted refl) c.new-2.ensures.list c.new-3.ensures.list)
     c.new.ensures.owns
     (λ k. two-own lower c.new-2.ensures.list c.new-3.ensures.list k)

@@ -24,7 +24,7 @@ serve-served-requires g c =
     let s = g.B.Blocks.value c.args.store.now in
     let room = room-seen s (sym c.has_room.ensures ∙ c.if-not-has_room.false) in
     let few = eight-taken (map (standing_in (λ t y. y.name) s) xs) (c.args.at - 1) in
-    (omega arith, (c.requires.inside, (omega arith, (c.requires.rest.are.held, ((λ d. refl), (rest-in s (all_of (λ y i. 0) xs) (kept-none xs), record { mblks = omega (arith, few, room.mblks); dblks = omega (arith, few, room.dblks) }))))))
+    (omega arith, (c.requires.inside, (omega arith, (c.requires.rest.are.held, ((λ d. refl), (rest-in s (all_of (λ y i. 0) xs) (kept-none xs), (record { mblks = omega (arith, few, room.mblks); dblks = omega (arith, few, room.dblks) }, tt)))))))
 
 pub deliver-requires-clause-held : goal.deliver-requires-clause-held
 deliver-requires-clause-held g c = rw c.note_all.ensures (record { held = c.serve-served.ensures.does.held; two = c.serve-served.ensures.length ∙ c.requires.rest.are.two })

@@ -1,0 +1,6 @@
+pub mod Prelude
+pub mod OwnPuts
+pub mod Looking
+pub mod Stands
+pub mod Flushed
+pub mod StandsLaws

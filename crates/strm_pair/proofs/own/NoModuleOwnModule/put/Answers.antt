@@ -1,5 +1,0 @@
--- The message goes on, and all else stays.
-use Rattle.strm_pair.proofs.own.NoModuleOwnModule.put.Goals as goal
-
-pub returns : goal.returns
-returns g c = c.pass_on.ensures _ _ _ _ c.requires.may
