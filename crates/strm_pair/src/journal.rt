@@ -6,16 +6,19 @@ ghost use Rattle.strm_types.specs.Events.{request, payload_of};
 ghost use Rattle.strm_types.specs.Journal.{entry_in, entry_len, answer_len, reply_in, room_used};
 ghost use Rattle.strm_laws.specs.Restorable.{IsWithinCall};
 ghost use Rattle.strm_types.specs.declared.limits.TheConstants.{BANDS};
+ghost use Rattle.strm_journal.specs.Packed.{IsShort};
+ghost use Rattle.strm_journal.specs.Replies.{HasShortParts};
 ghost use Rattle.strm_pair.specs.Journals.{IsStored, has_room_for};
 
-use crate::zeros::{forget_all, give_back, shorten};
+use crate::zeros::{give_back, shorten};
 use std::alloc::{AllocError, Global};
+use strm_journal::{Packed, forget_all};
 use strm_types::{Answer, Caller, Entry, Event, Prio, QueueName, Turn};
 
 /// All that was carried out on a pair, in order: the entries, and their bytes in a buffer. Both have their room from
 /// the beginning. What it lets go is written over first.
 pub(crate) struct Journal {
-    pub entries: Vec<Entry<u32>>,
+    pub entries: Vec<Packed>,
     pub bytes: Vec<u8>,
     pub most_entries: usize,
     pub most_bytes: usize,
@@ -131,10 +134,11 @@ impl Journal {
     }
 
     // Adds an entry with its bytes: those of its call, in two parts, and those of its answer. Inlined, so that an entry is
-    // written once, where it stays.
+    // packed once, where it stays.
     #[inline(always)]
     fn add(&mut self, entry: Entry<u32>, first: &[u8], second: &[u8], content: &[u8])
         requires lengths { entry_len entry ≡ length first.now + length second.now + length content.now }
+        requires short { IsShort entry }
         requires room_entries { length self.old.entries.items < self.old.most_entries }
         requires room_bytes { length self.old.bytes.items + (length first.now + length second.now + length content.now)
             ≤ self.old.most_bytes }
@@ -143,7 +147,8 @@ impl Journal {
         ensures most_entries { self.new.most_entries ≡ self.old.most_entries }
         ensures most_bytes { self.new.most_bytes ≡ self.old.most_bytes }
     {
-        self.entries.push_reserved(entry);
+        let packed = Packed::of(&entry);
+        self.entries.push_reserved(packed);
         append(&mut self.bytes, first);
         append(&mut self.bytes, second);
         append(&mut self.bytes, content);
@@ -160,6 +165,7 @@ impl Journal {
     )
         requires filled { answer_len answer ≡ length content.now }
         requires small { length (payload_of (request event.now)) < 2 ^ 32 }
+        requires short { HasShortParts answer }
         requires room { has_room_for (journal_of self.old) self.old.most_entries self.old.most_bytes
             (length (payload_of (request event.now)) + length content.now) ≡ true }
         ensures added { journal_of self.new
