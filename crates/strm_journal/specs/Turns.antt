@@ -12,6 +12,10 @@ use Rattle.strm_journal.specs.Numbers.{is_odd, place_at, side_at, way_at}
 abbrev pub caller_at : (digits group : ℕ) → Caller
 caller_at digits group = record { side = side_at digits; group = group; ignores = is_odd (digits / 2); orphaned = is_odd ((digits / 2) / 2) }
 
+-- the cases of a call, in front of those
+abbrev pub cases_at : ℕ → ℕ
+cases_at digits = ((digits / 2) / 2) / 2
+
 -- the digits: the side and the way
 abbrev pub queue_at : (digits place : ℕ) → QueueName
 queue_at digits place = record { side = side_at digits; place = place_at place; way = way_at (digits / 2) }

@@ -6,7 +6,7 @@ use crate::calls::{asked, event_of};
 use crate::kinds::{Made, Told};
 use crate::numbers::place_number;
 use crate::replies::{answer_of, replied};
-use crate::turns::{caller_digits, caller_of, queue_digits, queue_of, turn_of, went};
+use crate::turns::{caller_digits, caller_of, cases_of, queue_digits, queue_of, turn_of, went};
 use std::marker::Model;
 use strm_types::{Answer, Caller, Entry, Event, QueueName, Turn};
 
@@ -38,19 +38,23 @@ impl Model for Packed {
 }
 
 impl Packed {
+    ghost use Rattle.std.specs.Prelude.{◌<◌, ◌^◌, length};
     ghost use Rattle.strm_types.specs.declared.entries.Entry.TheVariants.{Called, Turned};
+    ghost use Rattle.strm_types.specs.Events.{map_event, payload_of, request};
     ghost use Rattle.strm_journal.specs.Replies.{HasShortParts};
-    ghost use Rattle.strm_journal.specs.Packed.{IsShort, nothing};
+    ghost use Rattle.strm_journal.specs.Packed.{nothing};
 
-    // A call with its answer.
+    /// Packs a call, how many bytes it brings, and its answer, which has, where it is the message of a getmsg(2), parts of less than 65,535 bytes.
+    /// Inlined, so that where the kinds of both are known nothing asks for them.
     #[inline(always)]
-    fn called(caller: Caller, event: &Event<u32>, answer: &Answer<u32>) -> Packed
-        requires { HasShortParts answer.now }
-        ensures { result ≡ Called caller event.now answer.now }
+    pub fn called(caller: Caller, event: &Event<&[u8]>, answer: &Answer<u32>) -> Packed
+        requires small { length (payload_of (request event.now)) < 2 ^ 32 }
+        requires short { HasShortParts answer.now }
+        ensures { result ≡ Called caller (map_event (λ bytes. length bytes) (request event.now)) answer.now }
     {
-        let (made, band, first, second) = asked(event);
+        let (made, cases, band, first, second) = asked(event);
         let (told, third, fourth) = replied(answer);
-        let digits = caller_digits(&caller);
+        let digits = caller_digits(&caller, cases);
         Packed {
             made,
             told,
@@ -64,8 +68,9 @@ impl Packed {
         }
     }
 
-    // A turn.
-    fn turned(queue: &QueueName, turn: Turn) -> Packed
+    /// Packs a turn.
+    #[inline(always)]
+    pub fn turned(queue: &QueueName, turn: Turn) -> Packed
         ensures { result ≡ Turned queue.now turn }
     {
         let (made, second) = went(turn);
@@ -84,31 +89,15 @@ impl Packed {
         }
     }
 
-    /// Packs an entry, whose answer, where it is the message of a getmsg(2), has parts of less than 65,535 bytes. Inlined, so that where the
-    /// kinds of the call and of its answer are known nothing asks for them.
-    #[inline(always)]
-    pub fn of(entry: &Entry<u32>) -> Packed
-        requires { IsShort entry.now }
-        ensures { result ≡ entry.now }
-    {
-        match entry {
-            Entry::Called {
-                caller,
-                event,
-                answer,
-            } => Packed::called(*caller, event, answer),
-            Entry::Turned { queue, turn } => Packed::turned(queue, *turn),
-        }
-    }
-
     /// The entry that it tells.
     pub fn entry(&self) -> Entry<u32>
         ensures { result ≡ self.now }
     {
         if self.made.is_call() {
+            let cases = cases_of(self.digits);
             Entry::Called {
                 caller: caller_of(self.digits, self.group),
-                event: event_of(self.made, self.band, self.first, self.second),
+                event: event_of(self.made, cases, self.band, self.first, self.second),
                 answer: answer_of(self.told, self.third, self.fourth),
             }
         } else {

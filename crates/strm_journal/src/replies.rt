@@ -34,9 +34,23 @@ fn message(
     (Told::Msg, front, behind)
 }
 
-/// What is kept of an answer. Inlined, as is what is kept of a call.
+/// What is kept of an answer. That of a write or a read is inlined, so that where its kind is known nothing asks for it.
 #[inline(always)]
 pub(crate) fn replied(answer: &Answer<u32>) -> Reply
+    requires { HasShortParts answer.now }
+    ensures { answer_at result.0 result.1 result.2 ≡ answer.now }
+{
+    match answer {
+        Answer::Done => (Told::Done, 0, 0),
+        Answer::Count(n) => (Told::Count, *n, 0),
+        Answer::Bytes(n) => (Told::Bytes, *n, 0),
+        _ => replied_apart(answer),
+    }
+}
+
+// What is kept of any answer.
+#[inline(never)]
+fn replied_apart(answer: &Answer<u32>) -> Reply
     requires { HasShortParts answer.now }
     ensures { answer_at result.0 result.1 result.2 ≡ answer.now }
 {

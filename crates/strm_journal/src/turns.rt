@@ -3,7 +3,7 @@
 ghost use Rattle.std.specs.Prelude.{◌≡◌, ◌/◌, ◌<◌, false, if◌then◌else◌};
 ghost use Rattle.strm_journal.specs.Calls.{is_call};
 ghost use Rattle.strm_journal.specs.Numbers.{is_odd, side_at, way_at};
-ghost use Rattle.strm_journal.specs.Turns.{caller_at, queue_at, turn_at};
+ghost use Rattle.strm_journal.specs.Turns.{caller_at, cases_at, queue_at, turn_at};
 
 use crate::digits::{is_odd, with_digit};
 use crate::kinds::Made;
@@ -49,12 +49,14 @@ fn way_of(number: u32) -> Way
     if is_odd(number) { Way::Down } else { Way::Up }
 }
 
-/// The digits of a caller: its side, whether it ignores signals, whether its group is orphaned.
+/// The digits of a caller, its side, whether it ignores signals and whether its group is orphaned, in front of cases of its call.
 #[inline(always)]
-pub(crate) fn caller_digits(caller: &Caller) -> u8
-    ensures { caller_at result caller.now.group ≡ caller.now }
+pub(crate) fn caller_digits(caller: &Caller, cases: u32) -> u8
+    requires { cases < 8 }
+    ensures caller { caller_at result caller.now.group ≡ caller.now }
+    ensures cases { cases_at result ≡ cases }
 {
-    let orphaned = with_digit(caller.orphaned, 0);
+    let orphaned = with_digit(caller.orphaned, cases);
     let ignores = with_digit(caller.ignores, orphaned);
     let digits = with_digit(is_slave(caller.side), ignores);
     digits as u8
@@ -71,6 +73,13 @@ pub(crate) fn caller_of(digits: u8, group: u32) -> Caller
         ignores: is_odd(digits / 2),
         orphaned: is_odd(digits / 2 / 2),
     }
+}
+
+/// The cases of a call behind the digits of its caller.
+pub(crate) fn cases_of(digits: u8) -> u32
+    ensures { result ≡ cases_at digits }
+{
+    u32::from(digits) / 2 / 2 / 2
 }
 
 /// The digits of a queue: its side and its way.

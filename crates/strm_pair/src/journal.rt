@@ -6,14 +6,13 @@ ghost use Rattle.strm_types.specs.Events.{request, payload_of};
 ghost use Rattle.strm_types.specs.Journal.{entry_in, entry_len, answer_len, reply_in, room_used};
 ghost use Rattle.strm_laws.specs.Restorable.{IsWithinCall};
 ghost use Rattle.strm_types.specs.declared.limits.TheConstants.{BANDS};
-ghost use Rattle.strm_journal.specs.Packed.{IsShort};
 ghost use Rattle.strm_journal.specs.Replies.{HasShortParts};
 ghost use Rattle.strm_pair.specs.Journals.{IsStored, has_room_for};
 
 use crate::zeros::{give_back, shorten};
 use std::alloc::{AllocError, Global};
 use strm_journal::{Packed, forget_all};
-use strm_types::{Answer, Caller, Entry, Event, Prio, QueueName, Turn};
+use strm_types::{Answer, Caller, Event, Prio, QueueName, Turn};
 
 /// All that was carried out on a pair, in order: the entries, and their bytes in a buffer. Both have their room from
 /// the beginning. What it lets go is written over first.
@@ -134,11 +133,10 @@ impl Journal {
     }
 
     // Adds an entry with its bytes: those of its call, in two parts, and those of its answer. Inlined, so that an entry is
-    // packed once, where it stays.
+    // written once, where it stays.
     #[inline(always)]
-    fn add(&mut self, entry: Entry<u32>, first: &[u8], second: &[u8], content: &[u8])
+    fn add(&mut self, entry: Packed, first: &[u8], second: &[u8], content: &[u8])
         requires lengths { entry_len entry ≡ length first.now + length second.now + length content.now }
-        requires short { IsShort entry }
         requires room_entries { length self.old.entries.items < self.old.most_entries }
         requires room_bytes { length self.old.bytes.items + (length first.now + length second.now + length content.now)
             ≤ self.old.most_bytes }
@@ -147,8 +145,7 @@ impl Journal {
         ensures most_entries { self.new.most_entries ≡ self.old.most_entries }
         ensures most_bytes { self.new.most_bytes ≡ self.old.most_bytes }
     {
-        let packed = Packed::of(&entry);
-        self.entries.push_reserved(packed);
+        self.entries.push_reserved(entry);
         append(&mut self.bytes, first);
         append(&mut self.bytes, second);
         append(&mut self.bytes, content);
@@ -175,11 +172,7 @@ impl Journal {
         ensures most_bytes { self.new.most_bytes ≡ self.old.most_bytes }
     {
         is_within(event);
-        let entry = Entry::Called {
-            caller,
-            event: event.shape(),
-            answer,
-        };
+        let entry = Packed::called(caller, event, &answer);
         let (first, second) = parts_of(event);
         self.add(entry, first, second, content);
     }
@@ -191,6 +184,6 @@ impl Journal {
         ensures most_entries { self.new.most_entries ≡ self.old.most_entries }
         ensures most_bytes { self.new.most_bytes ≡ self.old.most_bytes }
     {
-        self.add(Entry::Turned { queue, turn }, &[], &[], &[]);
+        self.add(Packed::turned(&queue, turn), &[], &[], &[]);
     }
 }

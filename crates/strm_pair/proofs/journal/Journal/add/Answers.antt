@@ -1,6 +1,5 @@
 -- The entry's bytes are the last of the buffer.
-use Rattle.std.proofs.Common.{ℕ, ◌≡◌, ◌∙◌, ◌++◌, ◌∷◌, [], ap, append_assoc}
-use Rattle.strm_types.specs.declared.entries.Entry.{Entry}
+use Rattle.std.proofs.Common.{◌≡◌, ◌∙◌, ◌++◌, ◌∷◌, [], ap, append_assoc}
 use Rattle.strm_types.specs.Journal.{entries_in}
 use Rattle.strm_laws.proofs.JournalEntries.{entries_in-push}
 use Rattle.strm_pair.specs.Pairs.{journal_of}
@@ -15,6 +14,6 @@ returns-clause-added c =
     c.append-2.ensures.items ∙ ap (λ b. b ++ c.args.second.now) c.append.ensures.items ∙ append_assoc j.bytes.items c.args.first.now c.args.second.now in
     let bytes : c.append-3.new.buffer.items ≡ j.bytes.items ++ (payload ++ c.args.content.now) =
     c.append-3.ensures.items ∙ ap (λ b. b ++ c.args.content.now) call ∙ append_assoc j.bytes.items payload c.args.content.now in
-    ap (λ es. entries_in es c.append-3.new.buffer.items) (c.push_reserved.ensures.items ∙ ap (λ (e : Entry ℕ). j.entries.items ++ e ∷ []) c.of-packed.ensures)
+    ap (λ es. entries_in es c.append-3.new.buffer.items) c.push_reserved.ensures.items
     ∙ ap (λ b. entries_in (j.entries.items ++ c.args.entry ∷ []) b) bytes
     ∙ entries_in-push j.entries.items c.args.entry j.bytes.items (payload ++ c.args.content.now) j.stored.lengths
