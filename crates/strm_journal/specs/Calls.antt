@@ -29,8 +29,8 @@ part_by is_there len = if is_there then Some len else None
 abbrev pub wanted_by : (number band : ℕ) → Wanted
 wanted_by number band = if number == 0 then wanteds.Any else (if number == 1 then wanteds.High else wanteds.Band (record { 0 = band }))
 
--- The cases are of a putmsg whether it is in a band and which parts there are, as binary digits, and of a getmsg the number of what it takes. The kind
--- of a turn is none of a call: it stands for one that opens the master.
+-- The cases are of a putmsg whether it is in a band and which parts there are, as binary digits, and of a getmsg the number of what it takes. The
+-- kind of a turn is none of a call: it stands for one that opens the master.
 abbrev pub event_at : Made → (cases band first second : ℕ) → Event ℕ
 event_at made.OpenMaster cases band first second = OpenMaster
 event_at made.Unlock cases band first second = Unlock
@@ -43,7 +43,8 @@ event_at made.Look cases band first second = Look
 event_at made.Flush cases band first second = Flush (flush_at first) (band_at second)
 event_at made.Write cases band first second = Write first
 event_at made.Read cases band first second = Read first
-event_at made.Put cases band first second = Put (prio_by (is_odd cases) band) (part_by (is_odd (cases / 2)) first) (part_by (is_odd ((cases / 2) / 2)) second)
+event_at made.Put cases band first second =
+    Put (prio_by (is_odd cases) band) (part_by (is_odd (cases / 2)) first) (part_by (is_odd ((cases / 2) / 2)) second)
 event_at made.Get cases band first second = Get (wanted_by cases band) first second
 event_at made.Mode cases band first second = Mode (mode_at first)
 event_at made.Nread cases band first second = Nread

@@ -14,7 +14,8 @@ use Rattle.strm_journal.specs.Turns.{caller_at, cases_at, queue_at, turn_at}
 -- a call with its answer, or a turn
 abbrev pub unpacked : Inside → Entry ℕ
 unpacked p =
-    if is_call p.made then Called (caller_at p.digits p.group) (event_at p.made (cases_at p.digits) p.band p.first p.second) (answer_at p.told p.third p.fourth)
+    if is_call p.made
+    then Called (caller_at p.digits p.group) (event_at p.made (cases_at p.digits) p.band p.first p.second) (answer_at p.told p.third p.fourth)
     else Turned (queue_at p.digits p.first) (turn_at p.made p.second)
 
 -- what 24 bytes of 0 tell: an opening of the master

@@ -34,7 +34,7 @@ fn message(
     (Told::Msg, front, behind)
 }
 
-/// What is kept of an answer. That of a write or a read is inlined, so that where its kind is known nothing asks for it.
+/// What is kept of an answer. That of a write, a read or a getmsg(2) is inlined, so that where its kind is known nothing asks for it.
 #[inline(always)]
 pub(crate) fn replied(answer: &Answer<u32>) -> Reply
     requires { HasShortParts answer.now }
@@ -44,6 +44,13 @@ pub(crate) fn replied(answer: &Answer<u32>) -> Reply
         Answer::Done => (Told::Done, 0, 0),
         Answer::Count(n) => (Told::Count, *n, 0),
         Answer::Bytes(n) => (Told::Bytes, *n, 0),
+        Answer::Msg {
+            prio,
+            control,
+            body,
+            more_control,
+            more_data,
+        } => message(*prio, *control, *body, *more_control, *more_data),
         _ => replied_apart(answer),
     }
 }

@@ -1,8 +1,9 @@
 //! The journal of a pair.
 
-ghost use Rattle.std.specs.Prelude.{◌≡◌, ◌+◌, ◌≤◌, ◌<◌, ◌^◌, [], ◌∷◌, ◌++◌, length, vec_capacity, true, IfOk};
+ghost use Rattle.std.specs.Prelude.{◌≡◌, ◌+◌, ◌≤◌, ◌<◌, ◌^◌, [], ◌∷◌, ◌++◌, length, option_map, vec_capacity, true, IfOk};
 ghost use Rattle.strm_types.specs.declared.entries.Entry.TheVariants.{Called, Turned};
 ghost use Rattle.strm_types.specs.Events.{request, payload_of};
+ghost use Rattle.strm_types.specs.Message.{part};
 ghost use Rattle.strm_types.specs.Journal.{entry_in, entry_len, answer_len, reply_in, room_used};
 ghost use Rattle.strm_laws.specs.Restorable.{IsWithinCall};
 ghost use Rattle.strm_types.specs.declared.limits.TheConstants.{BANDS};
@@ -71,6 +72,17 @@ fn is_within(event: &Event<&[u8]>)
     }
 }
 
+// The bytes of a part, none where it is absent.
+#[inline(always)]
+fn part_bytes<'a>(lent: Option<&'a [u8]>) -> &'a [u8]
+    ensures { result.now ≡ part (option_map (λ bytes. bytes.now) lent.entry) }
+{
+    match lent {
+        Some(bytes) => bytes,
+        None => &[],
+    }
+}
+
 // The bytes of a call, in two parts. Inlined, so that where its kind is known nothing asks for it again.
 #[inline(always)]
 fn parts_of<'a>(event: &Event<&'a [u8]>) -> (&'a [u8], &'a [u8])
@@ -78,9 +90,9 @@ fn parts_of<'a>(event: &Event<&'a [u8]>) -> (&'a [u8], &'a [u8])
 {
     match event {
         Event::Write { bytes } => (bytes, &[]),
-        Event::Read { .. } | Event::Get { .. } => (&[], &[]),
+        Event::Put { control, body, .. } => (part_bytes(*control), part_bytes(*body)),
         Event::Ioctl { body, .. } => (body, &[]),
-        _ => event.payload(),
+        _ => (&[], &[]),
     }
 }
 
