@@ -15,8 +15,8 @@ use strm_types::{Answer, Caller, Entry, Event, QueueName, Turn};
 pub struct Packed {
     made: Made,
     told: Told,
-    digits: u8,
     band: u8,
+    digits: u8,
     group: u32,
     first: u32,
     second: u32,
