@@ -9,6 +9,7 @@ use crate::asking::asked;
 use crate::asks::Ask;
 use crate::numbers::{NO_QUEUE, queue_number, went};
 use crate::replies::{Reply, Went};
+use strm_journal::Packed;
 use strm_types::{Entry, Event};
 
 /// How many entries of a journal were taken, and how many of their bytes.
@@ -48,8 +49,8 @@ fn brought(event: &Event<u32>) -> usize
     }
 }
 
-/// The numbers of an entry.
-pub(crate) fn numbers_of(entry: &Entry<u32>) -> Entered
+// The numbers of an entry.
+fn numbers_told(entry: &Entry<u32>) -> Entered
     ensures bytes { result.brings + result.reply.bytes ≡ entry_len entry.now }
     ensures told { Enters result entry.now }
 {
@@ -75,4 +76,12 @@ pub(crate) fn numbers_of(entry: &Entry<u32>) -> Entered
             went: went(*turn),
         },
     }
+}
+
+/// The numbers of a packed entry.
+pub(crate) fn numbers_of(packed: &Packed) -> Entered
+    ensures bytes { result.brings + result.reply.bytes ≡ entry_len packed.now }
+    ensures told { Enters result packed.now }
+{
+    numbers_told(&packed.entry())
 }

@@ -8,9 +8,10 @@ use crate::entries::{Cursor, Entered, numbers_of};
 use crate::handle::Handle;
 use crate::kept::{give, refused};
 use std::alloc::Global;
+use strm_journal::Packed;
 use strm_pair::Pair;
 use strm_raw::RawStore;
-use strm_types::{Entry, Refusal};
+use strm_types::Refusal;
 
 // Where the bytes of an entry end that begin at a place, of so many. None: they aren't all there.
 fn end_of(entry: &Entered, from: usize, kept: usize) -> Option<usize>
@@ -32,7 +33,7 @@ fn end_of(entry: &Entered, from: usize, kept: usize) -> Option<usize>
 
 /// Takes the entry at a cursor of a journal: its entries, and their bytes in order.
 pub(crate) fn take_entry(
-    entries: &[Entry<u32>],
+    entries: &[Packed],
     bytes: &[u8],
     at: &mut Cursor,
     told: &mut Entered,

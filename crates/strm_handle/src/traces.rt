@@ -8,11 +8,11 @@ use strm_image::Trace;
 use strm_pair::Recorded;
 use strm_types::NoMemory;
 
-// A copy of items.
-fn copy_of<T: Copy>(alloc: Global, items: &[T]) -> Result<Vec<T>, NoMemory>
-    ensures { IfOk result (λ v. v.items ≡ items.now) }
+// A copy of bytes.
+fn copy_of(alloc: Global, bytes: &[u8]) -> Result<Vec<u8>, NoMemory>
+    ensures { IfOk result (λ v. v.items ≡ bytes.now) }
 {
-    let Ok(copy) = Vec::from_slice(alloc, items) else {
+    let Ok(copy) = Vec::from_slice(alloc, bytes) else {
         return Err(NoMemory);
     };
     Ok(copy)
@@ -22,7 +22,7 @@ fn copy_of<T: Copy>(alloc: Global, items: &[T]) -> Result<Vec<T>, NoMemory>
 pub(crate) fn copied(alloc: Global, recorded: Recorded<'_>) -> Result<Trace, NoMemory>
     ensures { IfOk result (λ t. Copies recorded.entry t) }
 {
-    let entries = copy_of(alloc, recorded.entries)?;
+    let entries = strm_journal::copied(alloc, recorded.entries)?;
     let base = copy_of(alloc, recorded.base)?;
     let Ok(bytes) = copy_of(alloc, recorded.bytes) else {
         give_back(base);

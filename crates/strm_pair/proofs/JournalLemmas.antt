@@ -2,7 +2,15 @@
 use Rattle.strm_pair.proofs.Prelude.{ℕ, ◌≡◌, ◌≤◌, ◌<◌, ◌+◌, Bool, true, false, List, length, refl, sym, ap, ◌∙◌, arith, sum_by, ◌&&◌, nat_lt, nat_le}
 use Rattle.strm_pair.proofs.Prelude.{nat_tests, length-entries_in, room_used-stored}
 use Rattle.strm_pair.specs.Prelude.{Entry, Config, has_room, PlainEntry, entry_len, entries_in, room_used}
+use Rattle.strm_journal.specs.Replies.{HasShortParts}
+use Rattle.strm_pair.specs.Prelude.{Answer, Msg, READ_MAX}
+use Rattle.strm_pair.specs.Parts.{longest_part}
 use Rattle.strm_pair.specs.Journals.{has_room_for}
+
+-- what calls give can be packed
+pub short-parts : (answer : Answer ℕ) → longest_part answer ≤ READ_MAX → HasShortParts answer
+short-parts (Msg prio control body more_control more_data) few = (omega (arith, few), omega (arith, few))
+short-parts _ few = tt
 
 both : (a b : Bool) → (a && b) ≡ true → (a ≡ true) × (b ≡ true)
 both true true h = (refl, refl)

@@ -1,21 +1,24 @@
 //! The journal of a pair.
 
-ghost use Rattle.std.specs.Prelude.{◌≡◌, ◌+◌, ◌≤◌, ◌<◌, ◌^◌, [], ◌∷◌, ◌++◌, length, vec_capacity, true, IfOk};
+ghost use Rattle.std.specs.Prelude.{◌≡◌, ◌+◌, ◌≤◌, ◌<◌, ◌^◌, [], ◌∷◌, ◌++◌, length, option_map, vec_capacity, true, IfOk};
 ghost use Rattle.strm_types.specs.declared.entries.Entry.TheVariants.{Called, Turned};
 ghost use Rattle.strm_types.specs.Events.{request, payload_of};
+ghost use Rattle.strm_types.specs.Message.{part};
 ghost use Rattle.strm_types.specs.Journal.{entry_in, entry_len, answer_len, reply_in, room_used};
 ghost use Rattle.strm_laws.specs.Restorable.{IsWithinCall};
 ghost use Rattle.strm_types.specs.declared.limits.TheConstants.{BANDS};
+ghost use Rattle.strm_journal.specs.Replies.{HasShortParts};
 ghost use Rattle.strm_pair.specs.Journals.{IsStored, has_room_for};
 
-use crate::zeros::{forget_all, give_back, shorten};
+use crate::zeros::{give_back, shorten};
 use std::alloc::{AllocError, Global};
-use strm_types::{Answer, Caller, Entry, Event, Prio, QueueName, Turn};
+use strm_journal::{Packed, forget_all};
+use strm_types::{Answer, Caller, Event, Prio, QueueName, Turn};
 
 /// All that was carried out on a pair, in order: the entries, and their bytes in a buffer. Both have their room from
 /// the beginning. What it lets go is written over first.
 pub(crate) struct Journal {
-    pub entries: Vec<Entry<u32>>,
+    pub entries: Vec<Packed>,
     pub bytes: Vec<u8>,
     pub most_entries: usize,
     pub most_bytes: usize,
@@ -69,6 +72,17 @@ fn is_within(event: &Event<&[u8]>)
     }
 }
 
+// The bytes of a part, none where it is absent.
+#[inline(always)]
+fn part_bytes<'a>(lent: Option<&'a [u8]>) -> &'a [u8]
+    ensures { result.now ≡ part (option_map (λ bytes. bytes.now) lent.entry) }
+{
+    match lent {
+        Some(bytes) => bytes,
+        None => &[],
+    }
+}
+
 // The bytes of a call, in two parts. Inlined, so that where its kind is known nothing asks for it again.
 #[inline(always)]
 fn parts_of<'a>(event: &Event<&'a [u8]>) -> (&'a [u8], &'a [u8])
@@ -76,9 +90,9 @@ fn parts_of<'a>(event: &Event<&'a [u8]>) -> (&'a [u8], &'a [u8])
 {
     match event {
         Event::Write { bytes } => (bytes, &[]),
-        Event::Read { .. } | Event::Get { .. } => (&[], &[]),
+        Event::Put { control, body, .. } => (part_bytes(*control), part_bytes(*body)),
         Event::Ioctl { body, .. } => (body, &[]),
-        _ => event.payload(),
+        _ => (&[], &[]),
     }
 }
 
@@ -133,7 +147,7 @@ impl Journal {
     // Adds an entry with its bytes: those of its call, in two parts, and those of its answer. Inlined, so that an entry is
     // written once, where it stays.
     #[inline(always)]
-    fn add(&mut self, entry: Entry<u32>, first: &[u8], second: &[u8], content: &[u8])
+    fn add(&mut self, entry: Packed, first: &[u8], second: &[u8], content: &[u8])
         requires lengths { entry_len entry ≡ length first.now + length second.now + length content.now }
         requires room_entries { length self.old.entries.items < self.old.most_entries }
         requires room_bytes { length self.old.bytes.items + (length first.now + length second.now + length content.now)
@@ -160,6 +174,7 @@ impl Journal {
     )
         requires filled { answer_len answer ≡ length content.now }
         requires small { length (payload_of (request event.now)) < 2 ^ 32 }
+        requires short { HasShortParts answer }
         requires room { has_room_for (journal_of self.old) self.old.most_entries self.old.most_bytes
             (length (payload_of (request event.now)) + length content.now) ≡ true }
         ensures added { journal_of self.new
@@ -169,11 +184,7 @@ impl Journal {
         ensures most_bytes { self.new.most_bytes ≡ self.old.most_bytes }
     {
         is_within(event);
-        let entry = Entry::Called {
-            caller,
-            event: event.shape(),
-            answer,
-        };
+        let entry = Packed::called(caller, event, &answer);
         let (first, second) = parts_of(event);
         self.add(entry, first, second, content);
     }
@@ -185,6 +196,6 @@ impl Journal {
         ensures most_entries { self.new.most_entries ≡ self.old.most_entries }
         ensures most_bytes { self.new.most_bytes ≡ self.old.most_bytes }
     {
-        self.add(Entry::Turned { queue, turn }, &[], &[], &[]);
+        self.add(Packed::turned(&queue, turn), &[], &[], &[]);
     }
 }

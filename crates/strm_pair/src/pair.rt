@@ -43,10 +43,11 @@ use std::alloc::Global;
 use std::marker::{Model, PhantomData};
 use strm_blocks::{Blocks, Reserve};
 use strm_image::{IMAGE_BLOCK, IMAGE_FIXED};
+use strm_journal::Packed;
 use strm_own::{NoModule, OwnModule};
 use strm_types::{
-    Answer, Band, Caller, Config, Content, Dir, Entry, Event, Fates, LISTS, Ledger, NoMemory,
-    Place, QueueName, ReadBytes, Refusal, Side, Turn, Verdict, turn_blocks, unless,
+    Answer, Band, Caller, Config, Content, Dir, Event, Fates, LISTS, Ledger, NoMemory, Place,
+    QueueName, ReadBytes, Refusal, Side, Turn, Verdict, turn_blocks, unless,
 };
 
 /// A pair of a master and a slave, whose messages stand in a store of its own. Contracts see it as its plain state, its
@@ -67,7 +68,7 @@ pub struct Pair<B: Blocks + Drop, M: OwnModule = NoModule> {
 #[derive(Clone, Copy)]
 pub struct Recorded<'a> {
     pub base: &'a [u8],
-    pub entries: &'a [Entry<u32>],
+    pub entries: &'a [Packed],
     pub bytes: &'a [u8],
 }
 

@@ -9,6 +9,7 @@ use std::alloc::Global;
 use std::process::Abort;
 use std::sync::Wait;
 use strm_image::Trace;
+use strm_journal::Packed;
 use strm_locks::{Object, PairEnd, System};
 use strm_minors::Opener;
 use strm_types::Config;
@@ -117,9 +118,14 @@ fn writes_and_is_cut<P: Object, R: Wait + Abort>(
     traces
 }
 
+// Whether the entries of two traces tell the same.
+fn tell_alike(one: &[Packed], two: &[Packed]) -> bool {
+    one.len() == two.len() && one.iter().zip(two).all(|(a, b)| a.entry() == b.entry())
+}
+
 fn same(one: &Trace, two: &Trace) -> bool {
     one.base.as_slice() == two.base.as_slice()
-        && one.entries.as_slice() == two.entries.as_slice()
+        && tell_alike(one.entries.as_slice(), two.entries.as_slice())
         && one.bytes.as_slice() == two.bytes.as_slice()
 }
 

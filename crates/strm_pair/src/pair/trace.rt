@@ -15,14 +15,15 @@ use crate::pair::Pair;
 use std::alloc::Global;
 use strm_blocks::Blocks;
 use strm_image::Trace;
+use strm_journal::copied;
 use strm_own::OwnModule;
 use strm_types::NoMemory;
 
-// A copy of items.
-fn copied<T: Copy>(alloc: Global, items: &[T]) -> Result<Vec<T>, NoMemory>
-    ensures { IfOk result (λ v. v.items ≡ items.now) }
+// A copy of bytes.
+fn copy_of(alloc: Global, bytes: &[u8]) -> Result<Vec<u8>, NoMemory>
+    ensures { IfOk result (λ v. v.items ≡ bytes.now) }
 {
-    let Ok(copy) = Vec::from_slice(alloc, items) else {
+    let Ok(copy) = Vec::from_slice(alloc, bytes) else {
         return Err(NoMemory);
     };
     Ok(copy)
@@ -77,9 +78,9 @@ impl<B: Blocks + Drop, M: OwnModule> Pair<B, M> {
         ensures { IfOk result (λ t. IsTrace self.now t) }
     {
         Ok(Trace {
-            base: copied(alloc, self.base.text.as_slice())?,
+            base: copy_of(alloc, self.base.text.as_slice())?,
             entries: copied(alloc, self.journal.entries.as_slice())?,
-            bytes: copied(alloc, self.journal.bytes.as_slice())?,
+            bytes: copy_of(alloc, self.journal.bytes.as_slice())?,
         })
     }
 

@@ -40,23 +40,23 @@ fn cut<B: Blocks + Drop>(alloc: Global, pair: &mut Pair<B>) -> Result<Trace, All
 fn makes_again<B: Blocks + Drop>(pair: &mut Pair<B>, trace: &Trace) -> bool {
     let mut rest = trace.bytes.as_slice();
     let mut out = Content::new();
-    for entry in trace.entries.as_slice() {
-        let is_same = match entry {
-            Entry::Turned { queue, turn } => pair.turn(*queue) == Ok(*turn),
+    for packed in trace.entries.as_slice() {
+        let is_same = match packed.entry() {
+            Entry::Turned { queue, turn } => pair.turn(queue) == Ok(turn),
             Entry::Called {
                 caller,
                 event,
                 answer,
             } => {
                 let asked = event.map(|n| rest.get(..*n as usize).unwrap_or(&[]));
-                let came = pair.call(*caller, &asked, &mut out);
+                let came = pair.call(caller, &asked, &mut out);
                 let (first, second) = asked.payload();
                 let taken = first
                     .len()
                     .saturating_add(second.len())
                     .saturating_add(out.len());
                 rest = rest.get(taken..).unwrap_or(&[]);
-                came == Ok(*answer)
+                came == Ok(answer)
             }
         };
         if !is_same {

@@ -1,8 +1,9 @@
 -- The room that is asked for is room in the buffers, and the stored entry reads back as the call and its answer.
-use Rattle.std.proofs.Common.{◌++◌, ◌∷◌, [], ap, ◌∙◌, arith, length, length-append}
+use Rattle.std.proofs.Common.{ℕ, ◌≡◌, ◌+◌, List, ◌++◌, ◌∷◌, [], ap, ◌∙◌, arith, length, length-append}
+use Rattle.strm_types.specs.declared.entries.Entry.{Entry}
 use Rattle.strm_types.specs.declared.entries.Entry.TheVariants.{Called}
 use Rattle.strm_types.specs.Events.{map_event, request}
-use Rattle.strm_types.specs.Journal.{entry_in, event_len}
+use Rattle.strm_types.specs.Journal.{answer_len, entry_in, entry_len, event_len}
 use Rattle.strm_laws.proofs.StoredCalls.{entry-back, request-size}
 use Rattle.strm_pair.specs.Pairs.{journal_of}
 use Rattle.strm_pair.proofs.JournalLemmas.{room-means}
@@ -23,8 +24,9 @@ add-requires-clause-room_bytes c =
 
 pub add-requires-clause-lengths : goal.add-requires-clause-lengths
 add-requires-clause-lengths c =
-    let len = ap event_len (c.shape.ensures c.requires.small) ∙ request-size (request c.args.event.now) in
-    omega (arith, len, c.requires.filled, ap length c.parts_of.ensures, length-append c.parts_of.result.0.now c.parts_of.result.1.now)
+    let asked = request c.args.event.now in
+    let told : entry_len c.called-entry.result ≡ event_len (map_event (λ (bytes : List ℕ). length bytes) asked) + answer_len c.args.answer = ap entry_len c.called-entry.ensures in
+    omega (arith, told, request-size asked, c.requires.filled, ap length c.parts_of.ensures, length-append c.parts_of.result.0.now c.parts_of.result.1.now)
 
 pub returns-clause-added : goal.returns-clause-added
 returns-clause-added c =
@@ -32,6 +34,6 @@ returns-clause-added c =
     let content = c.args.content.now in
     let old = journal_of c.args.self.now in
     c.add.ensures.added
-    ∙ ap (λ e. old ++ entry_in (Called c.args.caller e c.args.answer) ((c.parts_of.result.0.now ++ c.parts_of.result.1.now) ++ content) ∷ []) (c.shape.ensures c.requires.small)
+    ∙ ap (λ (e : Entry ℕ). old ++ entry_in e ((c.parts_of.result.0.now ++ c.parts_of.result.1.now) ++ content) ∷ []) c.called-entry.ensures
     ∙ ap (λ b. old ++ entry_in (Called c.args.caller (map_event (λ bytes. length bytes) asked) c.args.answer) (b ++ content) ∷ []) c.parts_of.ensures
     ∙ ap (λ e. old ++ e ∷ []) (entry-back c.args.caller asked c.args.answer content)

@@ -13,7 +13,7 @@ use Rattle.strm_pair.specs.BaseTexts.{start_in}
 use Rattle.strm_pair.specs.Pairs.{state_in, journal_of, free_in}
 use Rattle.strm_pair.specs.PairViews.{pair_of}
 use Rattle.strm_pair.specs.Effects.{Leads}
-use Rattle.strm_pair.proofs.JournalLemmas.{room-less}
+use Rattle.strm_pair.proofs.JournalLemmas.{room-less, short-parts}
 use Rattle.strm_pair.proofs.FewBytes.{few-kept}
 use Rattle.strm_pair.proofs.Refusing.{as-performed, asked-free, free-fits, judged-allowed}
 use Rattle.strm_pair.proofs.Steps.{kept-step, led-rests, step-shown}
@@ -131,6 +131,9 @@ as_slice-requires g c = search rules steps 30000
 
 pub add_call-requires-clause-filled : goal.add_call-requires-clause-filled
 add_call-requires-clause-filled g c = c.carry_out-answer.ensures.filled ∙ ap length (sym c.as_slice.ensures.value)
+
+pub add_call-requires-clause-short : goal.add_call-requires-clause-short
+add_call-requires-clause-short g c = short-parts c.carry_out-answer.result c.carry_out-answer.ensures.parts
 
 pub add_call-requires-clause-small : goal.add_call-requires-clause-small
 add_call-requires-clause-small g c =

@@ -9,7 +9,7 @@ unfolding journal_of
 returns g c =
     let j = c.self.inside.journal in
     record {
-      base = c.in_ok-copied.ensures ∙ c.as_slice.ensures.value ∙ c.self.invariant.written.text ∙ ap (λ (v : PairState). image.text (Second, imaged v.base v.base_fates)) c.self.view_is;
-      entries = ap (λ es. entries_in es c.in_ok-copied-3.field-0.items) (c.in_ok-copied-2.ensures ∙ c.as_slice-2.ensures.value)
-          ∙ ap (λ b. entries_in j.entries.items b) (c.in_ok-copied-3.ensures ∙ c.as_slice-3.ensures.value) ∙ ap (λ (v : PairState). v.journal) c.self.view_is;
+      base = c.in_ok-copy_of.ensures ∙ c.as_slice.ensures.value ∙ c.self.invariant.written.text ∙ ap (λ (v : PairState). image.text (Second, imaged v.base v.base_fates)) c.self.view_is;
+      entries = ap (λ es. entries_in es c.in_ok-copy_of-2.field-0.items) (c.in_ok-copied.ensures ∙ c.as_slice-2.ensures.value)
+          ∙ ap (λ b. entries_in j.entries.items b) (c.in_ok-copy_of-2.ensures ∙ c.as_slice-3.ensures.value) ∙ ap (λ (v : PairState). v.journal) c.self.view_is;
     }

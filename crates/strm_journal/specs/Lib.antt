@@ -1,0 +1,5 @@
+pub mod Numbers
+pub mod Calls
+pub mod Replies
+pub mod Turns
+pub mod Packed
