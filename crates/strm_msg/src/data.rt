@@ -13,9 +13,7 @@ pub(crate) fn copy_into(buffer: &mut [u8], from: usize, bytes: &[u8]) -> usize
     ensures copied { buffer.new ≡ (take from buffer.old ++ take result bytes.now) ++ drop (from + result) buffer.old }
 {
     let count = (buffer.len() - from).min(bytes.len());
-    for i in 0..count {
-        buffer[from + i] = bytes[i];
-    }
+    buffer[from..from + count].copy_from_slice(&bytes[..count]);
     count
 }
 
