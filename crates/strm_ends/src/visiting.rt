@@ -171,7 +171,7 @@ pub fn ready(alloc: Global, handle: &mut Handle, pair: u32, side: u32, told: &mu
     number(outcome)
 }
 
-/// What was told of a pair in all so far, and its ledgers.
+/// All that was told of a pair, and its ledgers.
 pub fn audit(alloc: Global, handle: &mut Handle, pair: u32, told: &mut Account) -> u32
     ensures { AtMember (told.new ≡ told.old) (Audits pair told.old told.new) handle.old.held.kept handle.new.held.kept result }
 {
