@@ -1,7 +1,7 @@
 //! The calls on a pair.
 
 ghost use Rattle.std.specs.Fn.{FnReturnsAt};
-ghost use Rattle.std.specs.Prelude.{◌≡◌, ◌<◌, ◌^◌, ◌++◌, length, option_map};
+ghost use Rattle.std.specs.Prelude.{◌≡◌, ◌++◌, option_map};
 ghost use Rattle.strm_types.specs.Events.{CallsAlike, PartsAlike, map_event, payload_of, request};
 ghost use Rattle.strm_types.specs.JobControl.{caller_of};
 ghost use Rattle.strm_types.specs.Message.{part};
@@ -188,14 +188,6 @@ impl<T> Event<T> {
     }
 }
 
-/// A length in 32 bits. Those of what has stood in blocks fit, as no store has more than 16 MiB.
-#[inline(always)]
-pub(crate) fn short(len: usize) -> u32
-    ensures { len < 2 ^ 32 → result ≡ len }
-{
-    u32::try_from(len).unwrap_or(u32::MAX)
-}
-
 impl<'a> Event<&'a [u8]> {
     /// The bytes of a call: those that are written, those of a control part and then those of a data part, or what an ioctl
     /// sends.
@@ -208,15 +200,6 @@ impl<'a> Event<&'a [u8]> {
             Event::Ioctl { body, .. } => (body, &[]),
             _ => (&[], &[]),
         }
-    }
-
-    /// The call without its bytes, as a journal keeps it: how many they are, in 32 bits.
-    #[inline(always)]
-    pub fn shape(&self) -> Event<u32>
-        ensures { length (payload_of (request self.now)) < 2 ^ 32 →
-            result ≡ map_event (λ bytes. length bytes) (request self.now) }
-    {
-        self.map(|bytes| short(bytes.len()))
     }
 }
 
