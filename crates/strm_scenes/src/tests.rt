@@ -1,6 +1,5 @@
 //! Scripts run from memory to memory: tables of titled scenes, and readers, writers and lines that no scene can show.
 
-mod books;
 mod by_line;
 mod echo;
 mod faults;
@@ -9,7 +8,6 @@ mod job_control;
 mod keys;
 mod ledgers;
 mod messages;
-mod no_memory;
 mod outputs;
 mod pckt;
 mod pools;

@@ -1,17 +1,20 @@
 //! Calls and turns on a pair, with answers worked out by hand.
 
+mod books;
 mod cuts;
 mod imaging;
 mod ioctls;
 mod messages;
+mod no_memory;
+mod refused;
 mod restarts;
 mod restoring;
 mod running;
-pub mod steps;
-pub mod texts;
+mod steps;
+mod texts;
 
-use crate::trials::steps::*;
-use crate::trials::texts::buffer;
+use crate::tests::steps::*;
+use crate::tests::texts::buffer;
 use std::alloc::{AllocError, Global};
 use std::process::Abort;
 use std::test::Fail;

@@ -1,8 +1,8 @@
 //! A pair of an image whose book of what the master writes is full: writes are refused in both directions, and reads go on.
 
 use super::no_memory::{SIZES, first_wrong};
-use crate::trials::steps::{AGAIN, MASTER, SLAVE, Step, follow, new_pair, restored};
-use crate::trials::texts::image_of;
+use crate::tests::steps::{AGAIN, MASTER, SLAVE, Step, follow, new_pair, restored};
+use crate::tests::texts::image_of;
 use std::alloc::{AllocError, Global};
 use std::process::Abort;
 use std::test::Fail;
