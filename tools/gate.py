@@ -1,10 +1,11 @@
 #!/usr/bin/env python3
-"""Runs the gate, `rt ci` and behind it tools/wrong, and says what each part of it costs: the table of docs/GATE.md.
+"""Runs the gate, `rt ci` and tools/wrong, and says what each part of it costs: the table of docs/GATE.md.
 
     tools/gate.py [--anew] [--write] [CRATE..]
 
 Run it at the top of the repository; ./test does. The output is that of both, then the table, and last 'N passed, M failed' of both together; the
-status is 0 where M is. It passes over what an earlier run on this machine passed: with --anew it proves and tries all. With crates it is the gate
+status is 0 where M is. The wrong bodies of a crate are tried as soon as it is proved, where `rt ci` leaves a lane idle (tools/ahead.py), and those
+that are left behind it. It passes over what an earlier run on this machine passed: with --anew it proves and tries all. With crates it is the gate
 of these and those below them, and the table has those that were at work. --write puts the table into docs/GATE.md too, for a run with nothing else
 at work on the machine. It looks twice a second at the checker's processes: what each has used of the processor counts for the proof, the tests or
 the wrong bodies of its crate.
@@ -20,6 +21,10 @@ import subprocess
 import sys
 import tempfile
 import time
+
+sys.dont_write_bytecode = True
+sys.path.insert(0, os.path.dirname(os.path.realpath(__file__)))
+from ahead import Ahead, lanes  # noqa: E402
 
 TICKS = os.sysconf("SC_CLK_TCK")
 PAGE, HEADING = "docs/GATE.md", "## What it costs"
@@ -64,6 +69,9 @@ class Process:
             pass
         self.part = "wrong" if "/wrong-" in folder else "tests" if "--test" in words else "proof"
 
+    def goes_on(self):
+        return start_of(self.number) == self.start
+
     def look(self):
         """Takes what the process and those of its children that have ended have used so far."""
         words = text_of(f"/proc/{self.number}/stat").rpartition(")")[2].split()
@@ -107,11 +115,13 @@ def look_around(gate, known, seen):
             seen.append(known[number])
 
 
-def run(words, log, known, seen):
+def run(words, log, known, seen, beside=None):
     """Runs a command to its end while it looks at its processes; its status, and its last line. Its output goes to a file too."""
     ran = subprocess.Popen(["bash", "-o", "pipefail", "-c", '"$@" 2>&1 | tee "$0"', log, *words], stdin=subprocess.DEVNULL)
     while ran.poll() is None:
-        look_around(str(ran.pid), known, seen)
+        look_around(str(os.getpid()), known, seen)
+        if beside:
+            beside.fill(text_of(log), sum(it.goes_on() for it in known.values()))
         time.sleep(0.5)
     return ran.returncode, (text_of(log).rstrip("\n").splitlines() or [""])[-1]
 
@@ -126,7 +136,7 @@ def takes_words():
 
 def run_gate(asked):
     """The checker's processes of all parts, and how many things passed and failed."""
-    known, seen, passed, failed = {}, [], 0, 0
+    known, seen = {}, []
     anew = ["--anew"] if asked.anew else []
     takes = takes_words()
     if asked.names and not takes:
@@ -137,19 +147,32 @@ def run_gate(asked):
     # (behind its run such a kit puts back the libraries that were here, and those fit none of its own)
     for library in glob.glob("crates/*/out/rlib") if not takes else []:
         shutil.rmtree(library)
+    words = ["rt", "ci", *(anew if takes else []), *asked.names]
     with tempfile.TemporaryDirectory(prefix="gate-") as room:
         # (`rt ci` with names works on a copy, and leaves no libraries here)
-        behind = [] if asked.names else [["tools/kept"], ["tools/wrong", *anew]]
-        for words in (["rt", "ci", *(anew if takes else []), *asked.names], *behind):
-            status, closing = run(words, f"{room}/log", known, seen)
-            counted = CLOSING.match(closing)
-            if counted:
-                passed, failed = passed + int(counted[1]), failed + int(counted[2])
-            # (nor does a part pass that tried nothing)
-            if status or (words != ["tools/kept"] and not (counted and int(counted[1]))):
-                failed = max(failed, 1)
-                break
-    return seen, passed, failed
+        if asked.names:
+            return seen, *counted(*run(words, f"{room}/log", known, seen))
+        ahead = Ahead(room, {name for name in crates() if wrong_of(name)}, lanes(), anew)
+        try:
+            passed, failed = counted(*run(words, f"{room}/log", known, seen, ahead))
+            if not failed:
+                failed += bool(run(["tools/kept"], f"{room}/log", known, seen)[0])
+            while not failed and ahead.goes_on():
+                look_around(str(os.getpid()), known, seen)
+                time.sleep(0.5)
+        finally:
+            ahead.ends()
+        results = [(passed, failed), *(counted(*it) for it in ahead.told())]
+        if not failed and ahead.left:
+            results.append(counted(*run(["tools/wrong", *anew, *sorted(ahead.left)], f"{room}/log", known, seen)))
+    return seen, *map(sum, zip(*results))
+
+
+def counted(status, closing):
+    """How many things passed and failed by a part's last line: one failed at least where it tried nothing, or ended otherwise."""
+    found = CLOSING.match(closing)
+    passed, failed = (int(found[1]), int(found[2])) if found else (0, 0)
+    return passed, max(failed, int(bool(status) or not passed))
 
 
 def rate_of(row):
@@ -193,8 +216,8 @@ def table(seen, wall, used, closing):
     yield from map(row_of, rows)
     yield ""
     share = 100 * whole[5] / max(used, 1)
-    lanes = f" in {os.environ['RT_JOBS']} lanes" if os.environ.get("RT_JOBS") else ""
-    yield f"`{closing}`: {wall / 60:.0f} minutes by the clock on {len(os.sched_getaffinity(0))} cores{lanes}, {used / 60:.0f} of the processor; " \
+    among = f" in {os.environ['RT_JOBS']} lanes" if os.environ.get("RT_JOBS") else ""
+    yield f"`{closing}`: {wall / 60:.0f} minutes by the clock on {len(os.sched_getaffinity(0))} cores{among}, {used / 60:.0f} of the processor; " \
         f"wrong bodies are {share:.0f} % of it."
 
 
