@@ -13,10 +13,8 @@ use strm_blocks::Reserve;
 use strm_locks::{Object, PairEnd, System};
 use strm_minors::Opener;
 use strm_system::{Store, host_over, system_over};
+use strm_trials::memory::all_memory;
 use strm_types::{Config, Refusal};
-
-// More blocks than a heap has that gives them as large as the machine's memory.
-const MOST_TAKEN: usize = 131072;
 
 // One of the least pairs that do anything.
 const LEAST: Config = Config {
@@ -25,29 +23,6 @@ const LEAST: Config = Config {
     journal_events: 1,
     journal_bytes: 1,
 };
-
-// Takes blocks of a size until one is refused.
-fn take_all(alloc: Global, size: usize, taken: &mut Vec<Vec<u8>>) -> Result<(), AllocError> {
-    for _ in taken.len()..MOST_TAKEN {
-        let Ok(block) = Vec::with_capacity(alloc, size) else {
-            break;
-        };
-        taken.push(block)?;
-    }
-    Ok(())
-}
-
-// Takes all memory that the process can have, the largest blocks first, and small ones by each size.
-fn all_memory(alloc: Global) -> Result<Vec<Vec<u8>>, AllocError> {
-    let mut taken = Vec::with_capacity(alloc, MOST_TAKEN)?;
-    for halved in 0..35u32 {
-        take_all(alloc, (1usize << 47) >> halved, &mut taken)?;
-    }
-    for less in 0..4096usize {
-        take_all(alloc, 4096 - less, &mut taken)?;
-    }
-    Ok(taken)
-}
 
 // Why no system is made of two of the least pairs.
 fn no_system<B: Reserve>(alloc: Global) -> Option<Refusal> {
