@@ -17,8 +17,6 @@ mod server;
 #[cfg(test)]
 mod steps;
 #[cfg(test)]
-mod storms;
-#[cfg(test)]
 mod systems;
 #[cfg(test)]
 mod threads;

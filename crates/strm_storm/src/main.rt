@@ -5,10 +5,11 @@
 mod hosting;
 mod plans;
 mod rounds;
+mod storms;
 
 use crate::hosting::serve;
 use crate::plans::{Asked, read_plan};
-use strm_system::{StormReport, storm};
+use crate::storms::{StormReport, storm};
 
 // How many calls were made, granted and refused ones.
 fn all_of(report: &StormReport) -> u64 {

@@ -2,7 +2,7 @@
 
 ghost use Rattle.std.specs.Prelude.{◌<◌, ◌≤◌, length};
 
-use strm_system::StormPlan;
+use crate::storms::StormPlan;
 use thiserror::Error;
 
 /// Why a line is no plan.

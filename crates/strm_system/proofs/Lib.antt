@@ -1,5 +1,4 @@
 pub mod Counting
-pub mod Hands
 pub mod Reading
 pub mod Taken
 pub mod Tallying

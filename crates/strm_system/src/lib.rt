@@ -4,11 +4,9 @@
 mod hosts;
 mod laws;
 mod locked;
-mod storms;
 mod systems;
 
 pub use hosts::{host, host_over};
 pub use laws::entries_are_tallied;
 pub use locked::{Locked, Store, unopened};
-pub use storms::{StormPlan, StormReport, storm};
 pub use systems::{system, system_over};

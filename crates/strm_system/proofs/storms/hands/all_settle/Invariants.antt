@@ -1,5 +1,0 @@
-use Rattle.strm_system.specs.Storms.{AreHands}
-use Rattle.strm_system.proofs.storms.hands.all_settle.Given as goal
-
-abbrev pub invariant-loop-hand : goal.invariant-loop-hand
-invariant-loop-hand g l = AreHands l.system l.hand-iterator.rest.items
