@@ -55,6 +55,14 @@ def images(f):
     return table(["Instructions of", "pair", "bytes of the image"], rows)
 
 
+def profile(f):
+    rows = []
+    for r in f["zeroing"]:
+        most = ", ".join(f"`{name}` {n:,}" for name, n in r["own"])
+        rows.append([r["what"], whole(r["total"]), most])
+    return table(["A round of", "instructions", "most of it in"], rows)
+
+
 def zeroing(f):
     rows = []
     for r in f["zeroing"]:
@@ -193,7 +201,7 @@ def python(f) -> str:
     )
 
 
-TABLES = (rounds, pairs, stores, images, zeroing, times, growth, growth_times, modes, image_times, one_thread, threads, calls, server)
+TABLES = (rounds, pairs, stores, images, profile, zeroing, times, growth, growth_times, modes, image_times, one_thread, threads, calls, server)
 SENTENCES = (readme, reserved, system, scripts, library, python)
 
 # How each is called in a document: by its name, with hyphens.

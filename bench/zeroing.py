@@ -17,12 +17,13 @@ WRITES = re.compile(r"^\w+\s+(\w+)(?:,|$)")
 
 
 class Profile:
-    """Of a profile: how often each instruction of a program was made, by its address, and what each function takes of those that it calls whose
-    names have certain letters."""
+    """Of a profile: how often each instruction of a program was made, by its address, what each function takes of those that it calls whose names
+    have certain letters, and what each takes by itself."""
 
     def __init__(self, path: str, program: str, callee: str):
         self.made: Counter[int] = collections.Counter()
         self.took: Counter[str] = collections.Counter()
+        self.own: Counter[str] = collections.Counter()
         self.names: Dict[Tuple[str, str], str] = {}
         inside, caller, called = False, "", ""
         with open(path) as lines:
@@ -37,9 +38,11 @@ class Profile:
                     cost = int(next(lines).split()[-1])
                     if inside and callee in called and callee not in caller:
                         self.took[caller] += cost
-                elif inside and line.startswith("0x"):
+                elif line.startswith("0x"):
                     at, _, cost = line.split()
-                    self.made[int(at, 16)] += int(cost)
+                    self.own[caller] += int(cost)
+                    if inside:
+                        self.made[int(at, 16)] += int(cost)
 
     def named(self, kind: str, number: str, name: str) -> str:
         """The name of a number, which is told where the number first stands; one that callgrind adds to where a function calls itself is left out."""
