@@ -22,7 +22,7 @@ const FRONT: &[u8] = b"STPI\x02\x00\x00\x01\x00\x00\x00\x01\
 const NO_LEDGERS: &[u8] = &[0; 368];
 
 fn is_new(text: &[u8]) -> bool {
-    text.len() == FRONT.len() + 368 && text.starts_with(FRONT) && text.ends_with(NO_LEDGERS)
+    text.len() == 421 && text.starts_with(FRONT) && text.ends_with(NO_LEDGERS)
 }
 
 const BEHIND: &[u8] = &[7; 91];

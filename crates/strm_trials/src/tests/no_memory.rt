@@ -202,7 +202,11 @@ fn look<B: Blocks + Drop>(alloc: Global, pair: &mut Pair<B>) -> Seen {
 }
 
 fn has_memory(alloc: Global) -> bool {
-    Vec::<u8>::with_capacity(alloc, 1).is_ok()
+    let Ok(one) = Vec::<u8>::with_capacity(alloc, 1) else {
+        return false;
+    };
+    drop(one);
+    true
 }
 
 // Makes the calls on a pair where all memory is taken.

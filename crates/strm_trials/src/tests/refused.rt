@@ -154,18 +154,27 @@ fn refuses_pair<B: Reserve>(rt: &impl Abort, alloc: Global) -> Result<(), AllocE
     Ok(())
 }
 
-// Makes an image where all memory is taken, and once more where it was given back.
-fn refuses_image<B: Reserve>(rt: &impl Abort, alloc: Global) -> Result<(), AllocError> {
-    let pair: Pair<B> = opened_pair(rt, alloc)?;
+// Makes the image of a pair where all memory is taken, and once more where it was given back.
+fn is_short_of_an_image<B: Reserve>(
+    rt: &impl Abort,
+    alloc: Global,
+    pair: &Pair<B>,
+) -> Result<(), AllocError> {
     let taken = all_memory(alloc)?;
-    if taken.len() >= MOST_TAKEN {
-        return Ok(());
-    }
+    let is_all = taken.len() < MOST_TAKEN;
     let is_refused = pair.image(alloc).is_err();
     drop(taken);
-    assert!(rt; is_refused);
-    image_of(rt, alloc, &pair);
+    assert!(rt; is_refused || !is_all);
+    drop(image_of(rt, alloc, pair));
     Ok(())
+}
+
+// The same of a pair that is opened here.
+fn refuses_image<B: Reserve>(rt: &impl Abort, alloc: Global) -> Result<(), AllocError> {
+    let pair: Pair<B> = opened_pair(rt, alloc)?;
+    let came = is_short_of_an_image(rt, alloc, &pair);
+    drop(pair);
+    came
 }
 
 // Makes each call over either store, beside a pair that takes as much of the stack as any call below. Where all addresses are taken, or

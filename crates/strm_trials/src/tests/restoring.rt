@@ -67,12 +67,23 @@ const NOTHING_GONE: &[u8] = &[0; 168];
 
 const ALL_READ: &[u8] = &[0; 160];
 
-fn joined(alloc: Global, parts: &[&[u8]]) -> Result<Vec<u8>, AllocError> {
-    let mut text = Vec::new(alloc);
+// Adds parts to a text.
+fn append(text: &mut Vec<u8>, parts: &[&[u8]]) -> Result<(), AllocError> {
     for part in parts {
         text.extend_from_slice(*part)?;
     }
-    Ok(text)
+    Ok(())
+}
+
+fn joined(alloc: Global, parts: &[&[u8]]) -> Result<Vec<u8>, AllocError> {
+    let mut text = Vec::new(alloc);
+    match append(&mut text, parts) {
+        Ok(()) => Ok(text),
+        Err(AllocError) => {
+            drop(text);
+            Err(AllocError)
+        }
+    }
 }
 
 // What is told of a pair that is made of an image: both images are said by their parts.
