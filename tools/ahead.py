@@ -36,6 +36,7 @@ class Ahead:
 
     def __init__(self, room, crates, most, words):
         self.room, self.left, self.most, self.words = room, {*crates}, most, words
+        # (of each run that has ended its status and its last line)
         self.running, self.ended = {}, []
         self.seen, self.since = ticks(), time.monotonic()
 
@@ -77,10 +78,6 @@ class Ahead:
     def goes_on(self):
         self.look()
         return bool(self.running)
-
-    def told(self):
-        """The status and the last line of each run that has ended."""
-        return [*self.ended]
 
     def ends(self):
         """Stops what still runs: its crates count as untried."""

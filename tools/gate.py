@@ -17,6 +17,7 @@ import os
 import re
 import resource
 import shutil
+import signal
 import subprocess
 import sys
 import tempfile
@@ -162,7 +163,7 @@ def run_gate(asked):
                 time.sleep(0.5)
         finally:
             ahead.ends()
-        results = [(passed, failed), *(counted(*it) for it in ahead.told())]
+        results = [(passed, failed), *(counted(*it) for it in ahead.ended)]
         if not failed and ahead.left:
             results.append(counted(*run(["tools/wrong", *anew, *sorted(ahead.left)], f"{room}/log", known, seen)))
     return seen, *map(sum, zip(*results))
@@ -234,6 +235,8 @@ def main():
     parser.add_argument("--write", action="store_true")
     parser.add_argument("names", nargs="*")
     asked = parser.parse_args()
+    # (what tools/ahead.py began is stopped on the way out, and only an exception goes there)
+    signal.signal(signal.SIGTERM, lambda *_: sys.exit(143))
     began = time.monotonic()
     seen, passed, failed = run_gate(asked)
     used = resource.getrusage(resource.RUSAGE_CHILDREN)
