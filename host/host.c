@@ -168,7 +168,7 @@ static int starts(strm_host *h, char *const words[], char **environment)
     if (h->child > 0) {
         while ((n = read(ways[0], &why, sizeof why)) < 0 && errno == EINTR) {}
         if (n > 0) {
-            waitpid(h->child, &h->status, 0);
+            while (waitpid(h->child, &h->status, 0) < 0 && errno == EINTR) {}
             h->reaped = true;
         }
     }
@@ -230,7 +230,8 @@ int strm_host_kill(strm_host *h, int signal)
 
 int strm_host_wait(strm_host *h, int *status)
 {
-    if (!h->reaped && waitpid(h->child, &h->status, WNOHANG) == h->child) h->reaped = true;
+    /* It has ended too where its status isn't to be had: the caller ignores SIGCHLD, or waits for any child elsewhere. */
+    if (!h->reaped) h->reaped = waitpid(h->child, &h->status, WNOHANG) != 0;
     if (!h->reaped) return EAGAIN;
     *status = h->status;
     return 0;

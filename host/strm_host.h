@@ -123,7 +123,7 @@ pid_t strm_host_group(const strm_host *h);
 /* Sends a signal (of signal.h) to the foreground process group. ESRCH: there is none. EINVAL, EPERM as kill(2). */
 int strm_host_kill(strm_host *h, int signal);
 
-/* The status of the program's end. EAGAIN: it runs. */
+/* The status of the program's end, 0 where the caller ignores SIGCHLD or somebody else waited for the process. EAGAIN: it runs. */
 int strm_host_wait(strm_host *h, int *status);
 
 /* The window has another size: SIGWINCH comes to the foreground. EAGAIN: an ioctl is under way; ENOSPC: the journal is full. */

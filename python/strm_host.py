@@ -95,6 +95,16 @@ class HostLibrary:
         return cls.known
 
 
+def readable(descriptors, seconds):
+    """Those of some descriptors that are readable within so long."""
+    if max(descriptors) < 1024:  # (poll takes no part of a millisecond, and select no descriptor above)
+        return select.select(descriptors, [], [], seconds)[0]
+    poll = select.poll()
+    for one in descriptors:
+        poll.register(one, select.POLLIN)
+    return [one for one, _ in poll.poll(1000 * seconds)]
+
+
 def _texts(words):
     return (ctypes.c_char_p * (len(words) + 1))(*map(os.fsencode, words), None)
 
@@ -207,7 +217,7 @@ class Bridge:
             left = end - time.monotonic()
             if left <= 0 or (self.waits() if looks_at else self.ended):
                 return False
-            select.select([self.fileno()], [], [], min(left, LOOK_SECONDS[min(looks, len(LOOK_SECONDS) - 1)]))
+            readable([self.fileno()], min(left, LOOK_SECONDS[min(looks, len(LOOK_SECONDS) - 1)]))
             looks += 1
         return True
 
@@ -230,7 +240,7 @@ class Bridge:
             if not self.pump() and data:
                 if time.monotonic() > end or self.ended:
                     raise TimeoutError(f"the program doesn't read, and these keys weren't taken: {data[:80]!r}")
-                select.select([self.fileno()], [], [], 0.01)
+                readable([self.fileno()], 0.01)
 
     def take(self):
         shown, self.shown = self.shown, b""

@@ -1,7 +1,6 @@
 """What strm_expect.spawn has beside expect, by pexpect's names: reading, the terminal, signals, and the program's end."""
 import os
 import re
-import select
 import signal
 import sys
 import termios
@@ -9,6 +8,7 @@ import time
 import tty
 
 from strm import MASTER, SLAVE, Refused
+from strm_host import readable
 
 # System V's numbers, where the host has others.
 OF_HOST = {int(signal.SIGWINCH): 20, int(signal.SIGTSTP): 24, int(signal.SIGTTIN): 26, int(signal.SIGTTOU): 27}
@@ -180,9 +180,8 @@ class Child:
 
     def _passes(self, typed, leaves, filters):
         """What is typed goes to the program. Whether it goes on."""
-        own = [self.session] if hasattr(self.session, "fileno") else []
-        ready, _, _ = select.select([typed, *own], [], [], 0.05)
-        if typed not in ready:
+        own = [self.session.fileno()] if hasattr(self.session, "fileno") else []
+        if typed not in readable([typed, *own], 0.05):
             return True
         data = os.read(typed, 1024)
         data = filters(data) if filters else data

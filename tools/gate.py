@@ -6,12 +6,12 @@
 Run it at the top of the repository; ./test does. The output is that of both, then the table, and last 'N passed, M failed' of both together; the
 status is 0 where M is. The wrong bodies of a crate are tried as soon as it is proved, where `rt ci` leaves a lane idle (tools/ahead.py), and those
 that are left behind it. It passes over what an earlier run on this machine passed: with --anew it proves and tries all. With crates it is the gate
-of these and those below them, and the table has those that were at work. --write puts the table into docs/GATE.md too, for a run with nothing else
-at work on the machine. It looks twice a second at the checker's processes: what each has used of the processor counts for the proof, the tests or
-the wrong bodies of its crate.
+of these and those below them, and the table has those that were at work. --write keeps the figures (tools/costs.json) and puts the table of all
+into docs/GATE.md, for a run with nothing else at work on the machine: the parts of each crate that the run was at are told anew, and what is said
+of the whole where the run was of all, from nothing. It looks twice a second at the checker's processes: what each has used of the processor counts
+for the proof, the tests or the wrong bodies of its crate.
 """
 import argparse
-import collections
 import glob
 import os
 import re
@@ -25,35 +25,12 @@ import time
 
 sys.dont_write_bytecode = True
 sys.path.insert(0, os.path.dirname(os.path.realpath(__file__)))
+import costs  # noqa: E402
 from ahead import Ahead, lanes  # noqa: E402
+from costs import crates, text_of, wrong_of  # noqa: E402
 
 TICKS = os.sysconf("SC_CLK_TCK")
-PAGE, HEADING = "docs/GATE.md", "## What it costs"
 CLOSING = re.compile(r"^(\d+) passed, (\d+) failed\b")
-# What the proofs and tests of 1000 lines may take, in CPU minutes, in crates of so many lines: smaller ones take what they load.
-RATE_MOST, LINES_LEAST = 3, 300
-
-
-def text_of(path):
-    try:
-        with open(path, "rb") as file:
-            return file.read().decode(errors="replace")
-    except OSError:
-        return ""
-
-
-def crates():
-    lines = (line.split("#")[0].split(":")[0].split() for line in text_of("crates.txt").splitlines())
-    return [words[0] for words in lines if words]
-
-
-def lines_of(crate):
-    """How many lines its source has, with its tests."""
-    return sum(text_of(path).count("\n") for path in glob.glob(f"crates/{crate}/src/**/*.rt", recursive=True))
-
-
-def wrong_of(crate):
-    return len(glob.glob(f"crates/{crate}/wrong/*.edit"))
 
 
 class Process:
@@ -176,59 +153,6 @@ def counted(status, closing):
     return passed, max(failed, int(bool(status) or not passed))
 
 
-def rate_of(row):
-    """What the proofs and tests of 1000 lines take, in CPU minutes."""
-    return (row[2] + row[3]) / 60 / max(row[1], 1) * 1000
-
-
-def is_dear(row):
-    return row[1] >= LINES_LEAST and rate_of(row) > RATE_MOST
-
-
-def row_of(row):
-    name, lines, proof, tests, count, wrong = row
-    return f"| {name} | {lines} | {proof:.0f} | {tests:.0f} | {rate_of(row):.1f} | {count} | {wrong:.0f} |"
-
-
-def together(name, rows):
-    return (name, *(sum(row[at] for row in rows) for at in range(1, 6)))
-
-
-def cost_of(row):
-    return row[2] + row[3] + row[5]
-
-
-def table(seen, wall, used, closing):
-    """A row for each crate that takes a twenty-fifth of the whole, or more than its lines may, one for all others, and one for all."""
-    parts = collections.defaultdict(float)
-    for process in seen:
-        parts[process.crate, process.part] += process.seconds
-    rows = []
-    for crate in crates():
-        proof, tests, wrong = (parts[crate, part] for part in ("proof", "tests", "wrong"))
-        if proof or tests or wrong:
-            rows.append((crate, lines_of(crate), proof, tests, wrong_of(crate), wrong))
-    whole = together("all", rows)
-    dear = [row for row in rows if cost_of(row) >= cost_of(whole) / 25 or is_dear(row)]
-    rest = [row for row in rows if row not in dear]
-    rows = [*dear, *([together(f"{len(rest)} others", rest)] if rest else []), whole]
-    yield "| Crate | Lines, with tests | Proof, CPU s | Tests, CPU s | 1000 lines, CPU min | Wrong bodies | CPU s |"
-    yield "|---|---|---|---|---|---|---|"
-    yield from map(row_of, rows)
-    yield ""
-    share = 100 * whole[5] / max(used, 1)
-    among = f" in {os.environ['RT_JOBS']} lanes" if os.environ.get("RT_JOBS") else ""
-    yield f"`{closing}`: {wall / 60:.0f} minutes by the clock on {len(os.sched_getaffinity(0))} cores{among}, {used / 60:.0f} of the processor; " \
-        f"wrong bodies are {share:.0f} % of it."
-
-
-def write_table(lines):
-    """Puts the table into docs/GATE.md, whose last section it is."""
-    head = text_of(PAGE).partition(HEADING)[0]
-    with open(PAGE, "w", encoding="utf-8") as out:
-        out.write("\n".join([head + HEADING, "", *lines, ""]))
-
-
 def main():
     parser = argparse.ArgumentParser(description=__doc__, formatter_class=argparse.RawDescriptionHelpFormatter)
     parser.add_argument("--anew", action="store_true")
@@ -240,11 +164,13 @@ def main():
     began = time.monotonic()
     seen, passed, failed = run_gate(asked)
     used = resource.getrusage(resource.RUSAGE_CHILDREN)
-    closing = f"{passed} passed, {failed} failed"
-    lines = [*table(seen, time.monotonic() - began, used.ru_utime + used.ru_stime, closing)]
+    closing, wall = f"{passed} passed, {failed} failed", time.monotonic() - began
+    parts = costs.parts_of(seen)
+    whole = costs.whole_of(wall, used.ru_utime + used.ru_stime, closing, parts)
+    lines = costs.table({"crates": parts, "whole": whole})
     print("\n".join(["", *lines, "", closing]), flush=True)
     if asked.write:
-        write_table(lines)
+        costs.write(costs.joined(costs.kept(), parts, whole if asked.anew and not asked.names else {}))
     sys.exit(failed > 0)
 
 

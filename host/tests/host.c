@@ -403,6 +403,22 @@ static void ends_are_hard(void)
     ends(&s);
 }
 
+static void children_that_nobody_waits_for(void)
+{
+    static session s;
+    int status = -1;
+    double end = now() + LATE;
+    signal(SIGCHLD, SIG_IGN);
+    starts(&s, "lines", "0");
+    rests(&s, LATE);
+    types(&s, "\004");
+    while (!strm_host_ended(s.host) && now() < end) rests(&s, 1);
+    is("an end is seen where SIGCHLD is ignored", strm_host_ended(s.host) && !strm_host_wait(s.host, &status) && status == 0, &s);
+    signal(SIGCHLD, SIG_DFL);
+    strm_host_close(s.host);
+    strm_free(&s.pair);
+}
+
 int main(int n, char **words)
 {
     if (n < 2) return 2;
@@ -424,6 +440,7 @@ int main(int n, char **words)
     who_outlives_the_program();
     an_idle_host_enters_nothing();
     ends_are_hard();
+    children_that_nobody_waits_for();
     printf("%d passed, %d failed, %d skipped\n", passed, failed, skipped);
     return failed > 0;
 }

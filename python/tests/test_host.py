@@ -3,6 +3,7 @@ import io
 import json
 import os
 import pathlib
+import resource
 import shutil
 import signal
 import subprocess
@@ -54,6 +55,19 @@ class Programs(unittest.TestCase):
         child.sendline("exit 3")
         child.expect(EOF)
         self.assertEqual((child.exitstatus, child.signalstatus, child.isalive()), (3, None, False))
+
+    def test_a_server_with_many_descriptors(self):
+        before = resource.getrlimit(resource.RLIMIT_NOFILE)
+        if before[1] != resource.RLIM_INFINITY and before[1] < 2048:
+            self.skipTest("a process may have few descriptors here")
+        resource.setrlimit(resource.RLIMIT_NOFILE, (2048, before[1]))
+        self.addCleanup(resource.setrlimit, resource.RLIMIT_NOFILE, before)
+        for _ in range(1024):
+            self.addCleanup(os.close, os.open(os.devnull, os.O_RDONLY))
+        with spawn("cat", timeout=LIMIT) as child:
+            self.assertGreater(child.fileno(), 1023)
+            child.sendline("hi")
+            child.expect_exact("hi\r\nhi\r\n")
 
     def test_three_false_rests(self):
         self.assertLess(self.found("sleep 1; echo hi", "hi"), LATE)
