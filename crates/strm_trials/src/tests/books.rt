@@ -44,15 +44,29 @@ const REFUSED: [Step<'static>; 3] = [
     Step::Call(SLAVE, Event::Read { n: 1 }, AGAIN),
 ];
 
-// Makes calls on a pair of that image.
-fn refuses_writes<B: Reserve>(rt: &impl Abort, alloc: Global) -> Result<(), AllocError> {
+// The image of a pair whose book is full.
+fn image_of_full<B: Reserve>(rt: &impl Abort, alloc: Global) -> Result<Vec<u8>, AllocError> {
     let mut pair: Pair<B> = new_pair(alloc, SIZES)?;
-    let image = full_image(rt, alloc, &mut pair)?;
-    let Some(mut full) = restored::<B>(alloc, SIZES, image.as_slice())? else {
+    let image = full_image(rt, alloc, &mut pair);
+    drop(pair);
+    image
+}
+
+// Makes calls on the pair of that image.
+fn refuses_by<B: Reserve>(rt: &impl Abort, alloc: Global, image: &[u8]) -> Result<(), AllocError> {
+    let Some(mut full) = restored::<B>(alloc, SIZES, image)? else {
         panic!(rt; "an image is refused")
     };
     follow(rt, &mut full, "a full book", &REFUSED);
+    drop(full);
     Ok(())
+}
+
+fn refuses_writes<B: Reserve>(rt: &impl Abort, alloc: Global) -> Result<(), AllocError> {
+    let image = image_of_full::<B>(rt, alloc)?;
+    let came = refuses_by::<B>(rt, alloc, image.as_slice());
+    drop(image);
+    came
 }
 
 #[test]

@@ -173,13 +173,34 @@ fn begins_anew<B: Blocks + Drop>(
 }
 
 // All three on pairs as new.
+fn are_cut_beside<B: Blocks + Drop>(
+    rt: &impl Abort,
+    alloc: Global,
+    pair: &mut Pair<B>,
+    twin: &mut Pair<B>,
+) -> Result<(), AllocError> {
+    begins_anew(rt, alloc, pair)?;
+    is_led_by_cuts(rt, alloc, pair, twin)?;
+    reset(pair);
+    is_cut_thrice(rt, alloc, pair)
+}
+
+fn is_cut_beside_another<B: Reserve>(
+    rt: &impl Abort,
+    alloc: Global,
+    pair: &mut Pair<B>,
+) -> Result<(), AllocError> {
+    let mut twin: Pair<B> = new_pair(alloc, SIZES)?;
+    let came = are_cut_beside(rt, alloc, pair, &mut twin);
+    drop(twin);
+    came
+}
+
 fn are_cut<B: Reserve>(rt: &impl Abort, alloc: Global) -> Result<(), AllocError> {
     let mut pair: Pair<B> = new_pair(alloc, SIZES)?;
-    let mut twin: Pair<B> = new_pair(alloc, SIZES)?;
-    begins_anew(rt, alloc, &mut pair)?;
-    is_led_by_cuts(rt, alloc, &mut pair, &mut twin)?;
-    reset(&mut pair);
-    is_cut_thrice(rt, alloc, &mut pair)
+    let came = is_cut_beside_another(rt, alloc, &mut pair);
+    drop(pair);
+    came
 }
 
 #[test]
