@@ -89,10 +89,11 @@ def together(name, rows):
 
 
 def said(whole):
-    """The line below the table."""
+    """The line below the table; what went on beside the run stands in the figures by hand."""
     among = f" in {whole['lanes']} lanes" if whole["lanes"] else ""
-    return f"`{whole['closing']}`: {whole['minutes']} minutes by the clock on {whole['cores']} cores{among}, {whole['processor']} of the processor; " \
-        f"wrong bodies are {whole['wrong']} % of it."
+    beside = f", beside {whole['beside']}" if "beside" in whole else ""
+    clock = f"{whole['minutes']} minutes by the clock on {whole['cores']} cores{among}"
+    return f"`{whole['closing']}`: {clock}, {whole['processor']} of the processor; wrong bodies are {whole['wrong']} % of it{beside}."
 
 
 def table(figures):
