@@ -22,7 +22,6 @@ use strm_types::{BLOCK_SIZE, Band, LISTS, MsgKind};
 
 /// A store of message blocks and data blocks in linked lists and tables. All of its memory is reserved when it is made:
 /// its blocks and messages are nodes, which move from list to list.
-#[derive(Drop)]
 pub struct TableStore {
     lists: [LinkedList<Message>; LISTS],
     hand: LinkedList<Message>,
@@ -30,6 +29,20 @@ pub struct TableStore {
     spare: LinkedList<MessageBlock>,
     data: DataBlocks,
     mblks: usize,
+}
+
+// Of its own, so that who owns one doesn't take it apart at each way out.
+impl Drop for TableStore {
+    fn drop(self) {
+        let TableStore {
+            lists: _,
+            hand: _,
+            idle: _,
+            spare: _,
+            data: _,
+            mblks: _,
+        } = self;
+    }
 }
 
 impl Model for TableStore {

@@ -11,12 +11,23 @@ use strm_types::Content;
 ///
 /// An opener and an end are of that host. A minor in hand, and that of an end in hand, is one that the opener holds; an end without an opener has no
 /// minor.
-#[derive(Drop)]
 pub(crate) struct Member {
     pub(crate) host: Arc<Host<Object>, Global>,
     pub(crate) opener: Option<HostOpener>,
     pub(crate) hold: Hold,
     pub(crate) answer: Content,
+}
+
+// Of its own, so that who owns one doesn't take it apart at each way out.
+impl Drop for Member {
+    fn drop(self) {
+        let Member {
+            host: _,
+            opener: _,
+            hold: _,
+            answer: _,
+        } = self;
+    }
 }
 
 impl Model for Member {

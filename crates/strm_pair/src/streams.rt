@@ -40,13 +40,25 @@ use strm_types::{
 
 /// The streams of a pair, whether its slave is locked, the queues that are enabled, the number that the next ioctl gets,
 /// and what was booked of each direction.
-#[derive(Drop)]
 pub(crate) struct Streams {
     pub ends: Both<StreamEnd>,
     pub locked: bool,
     pub enabled: Enabled,
     pub next_ioctl: u32,
     pub books: Both<Book>,
+}
+
+// Of its own, so that who owns one doesn't take it apart at each way out.
+impl Drop for Streams {
+    fn drop(self) {
+        let Streams {
+            ends: _,
+            locked: _,
+            enabled: _,
+            next_ioctl: _,
+            books: _,
+        } = self;
+    }
 }
 
 /// The tables of the queues at both ends of a side's stream.

@@ -20,7 +20,6 @@ use strm_types::LISTS;
 /// of its message by `b_cont` and to its data block, and a data block keeps `db_ref`, each link being a raw pointer. Blocks
 /// that were freed are linked too, the one freed last first; where none is, the next node is made that was never used. A
 /// message in hand is named by the number of its first block's node.
-#[derive(Drop)]
 pub struct RawStore {
     pub(crate) memory: Memory,
     pub(crate) ends: [KeptEnds; LISTS],
@@ -29,6 +28,21 @@ pub struct RawStore {
     pub(crate) spare_m: usize,
     pub(crate) spare_d: usize,
     pub(crate) ledger: Ledger,
+}
+
+// Of its own, so that who owns one doesn't take it apart at each way out.
+impl Drop for RawStore {
+    fn drop(self) {
+        let RawStore {
+            memory: _,
+            ends: _,
+            free_msg: _,
+            free_data: _,
+            spare_m: _,
+            spare_d: _,
+            ledger: _,
+        } = self;
+    }
 }
 
 impl Model for RawStore {

@@ -27,7 +27,6 @@ pub enum Stop {
 }
 
 /// A script on its way: its pair and who makes the calls on it, the line that is read, and the answers that aren't written yet.
-#[derive(Drop)]
 pub struct Engine<B: Reserve> {
     /// The pair, once there was an `open`.
     pub pair: Option<Pair<B>>,
@@ -43,6 +42,21 @@ pub struct Engine<B: Reserve> {
     pub answers: Vec<u8>,
     /// The bytes that the last call gave.
     pub out: Content,
+}
+
+// Of its own, so that who owns one doesn't take it apart at each way out.
+impl<B: Reserve> Drop for Engine<B> {
+    fn drop(self) {
+        let Engine {
+            pair: _,
+            callers: _,
+            lines: _,
+            line: _,
+            short: _,
+            answers: _,
+            out: _,
+        } = self;
+    }
 }
 
 /// Puts an answer line behind the others. Want of memory changes nothing.
