@@ -22,9 +22,15 @@ pub const MOST_PAIRS: u32 = 65536;
 /// its system, which the host lends (`at`): its contracts are theirs.
 ///
 /// Contracts see the systems, by number.
-#[derive(Drop)]
 pub struct Host<P: Object> {
     systems: Vec<System<P>>,
+}
+
+// Of its own, so that who owns one doesn't take it apart at each way out.
+impl<P: Object> Drop for Host<P> {
+    fn drop(self) {
+        let Host { systems: _ } = self;
+    }
 }
 
 impl<P: Object> Model for Host<P> {

@@ -22,13 +22,24 @@ use strm_types::{
 /// pair was opened, as the history the calls since, of which those of the journal are the last, and the parts that no end has.
 ///
 /// The book can't differ from what the pair did: its numbers of bytes and its history are the pair's own.
-#[derive(Drop)]
 pub struct Held<P: Object> {
     pair: P,
     calls: u64,
     left: u64,
     // A line of the cache that nothing uses: what lies behind on the heap is another thread's, as the next pair of a system.
     apart: [u64; 8],
+}
+
+// Of its own, so that who owns one doesn't take it apart at each way out.
+impl<P: Object> Drop for Held<P> {
+    fn drop(self) {
+        let Held {
+            pair: _,
+            calls: _,
+            left: _,
+            apart: _,
+        } = self;
+    }
 }
 
 /// What the ends of a pair were told in all, and the pair's ledgers, when it was settled: that of what the master wrote (`ms`), and that of

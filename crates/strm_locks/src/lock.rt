@@ -35,11 +35,20 @@ const PAUSES: u32 = 6;
 /// from such.
 ///
 /// Contracts see which lock it is, and the sizes of its pair, which stay.
-#[derive(Drop)]
 pub struct Lock<P: Object> {
     pub(crate) table: Board<P>,
     // How many threads park, or are about to. No contract speaks of it: it saves the system call where none does.
     waiting: AtomicU64,
+}
+
+// Of its own, so that who owns one doesn't take it apart at each way out.
+impl<P: Object> Drop for Lock<P> {
+    fn drop(self) {
+        let Lock {
+            table: _,
+            waiting: _,
+        } = self;
+    }
 }
 
 impl<P: Object> Model for Lock<P> {

@@ -27,10 +27,19 @@ use strm_types::{Answer, Content, Event, Refusal};
 /// different pairs don't wait for each other, and numbers are claimed without a lock.
 ///
 /// Contracts see the lock of each pair, by its number, and the minors.
-#[derive(Drop)]
 pub struct System<P: Object> {
     locks: Vec<Lock<P>>,
     minors: Minors,
+}
+
+// Of its own, so that who owns one doesn't take it apart at each way out.
+impl<P: Object> Drop for System<P> {
+    fn drop(self) {
+        let System {
+            locks: _,
+            minors: _,
+        } = self;
+    }
 }
 
 impl<P: Object> Model for System<P> {

@@ -30,10 +30,16 @@ impl<P: Object> Model for Post<P> {
 /// and reads nothing, and nor does who begins the journal anew or cuts it.
 ///
 /// Contracts see which lock it had, the pair as it found it and as it left it, and the turn. No program reads the two pairs.
-#[derive(Drop)]
 pub struct Visit<P: Object> {
     pub(crate) seat: Place<P>,
     pub(crate) made: Option<Made>,
+}
+
+// Of its own, so that who owns one doesn't take it apart at each way out.
+impl<P: Object> Drop for Visit<P> {
+    fn drop(self) {
+        let Visit { seat: _, made: _ } = self;
+    }
 }
 
 impl<P: Object> Model for Visit<P> {

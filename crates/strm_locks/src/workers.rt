@@ -108,9 +108,15 @@ struct Hand<P: Object> {
 ///
 /// Contracts see, for each worker and each pair, which lock it is, and the pairs that the worker met there: each as it found it, and as it left
 /// it.
-#[derive(Drop)]
 pub struct Crew<P: Object> {
     hands: Vec<Hand<P>>,
+}
+
+// Of its own, so that who owns one doesn't take it apart at each way out.
+impl<P: Object> Drop for Crew<P> {
+    fn drop(self) {
+        let Crew { hands: _ } = self;
+    }
 }
 
 impl<P: Object> Model for Crew<P> {

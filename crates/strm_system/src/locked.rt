@@ -21,9 +21,15 @@ use strm_types::{
 pub type Store = RawStore;
 
 /// A pair over a store. It stands in a type of this crate, as the pair and what a lock asks for are of two others.
-#[derive(Drop)]
 pub struct Locked<B: Blocks + Drop> {
     pub pair: Pair<B>,
+}
+
+// Of its own, so that who owns one doesn't take it apart at each way out.
+impl<B: Blocks + Drop> Drop for Locked<B> {
+    fn drop(self) {
+        let Locked { pair: _ } = self;
+    }
 }
 
 // The first of the counts by rule, of which there is one at least. It is of 64 bits.

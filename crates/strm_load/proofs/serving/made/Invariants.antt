@@ -2,4 +2,4 @@ use Rattle.strm_minors.specs.Openers.{IsOf}
 use Rattle.strm_load.proofs.serving.made.Given as goal
 
 abbrev pub invariant-loop : goal.invariant-loop
-invariant-loop l = IsOf l.system-inside.minors l.opener
+invariant-loop l = IsOf l.system.minors l.opener
