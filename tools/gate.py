@@ -7,9 +7,9 @@ Run it at the top of the repository; ./test does. The output is that of both, th
 status is 0 where M is. The wrong bodies of a crate are tried as soon as it is proved, where `rt ci` leaves a lane idle (tools/ahead.py), and those
 that are left behind it. It passes over what an earlier run on this machine passed: with --anew it proves and tries all. With crates it is the gate
 of these and those below them, and the table has those that were at work. --write keeps the figures (tools/costs.json) and puts the table of all
-into docs/GATE.md, for a run with nothing else at work on the machine: the parts of each crate that the run was at are told anew, and what is said
-of the whole where the run was of all, from nothing. It looks twice a second at the checker's processes: what each has used of the processor counts
-for the proof, the tests or the wrong bodies of its crate.
+into docs/GATE.md, where nothing failed, for a run with nothing else at work on the machine: the parts of each crate that the run was at are told
+anew, and what is said of the whole where the run was of all, from nothing. It looks twice a second at the checker's processes: what each has used of
+the processor counts for the proof, the tests or the wrong bodies of its crate.
 """
 import argparse
 import glob
@@ -169,7 +169,7 @@ def main():
     whole = costs.whole_of(wall, used.ru_utime + used.ru_stime, closing, parts)
     lines = costs.table({"crates": parts, "whole": whole})
     print("\n".join(["", *lines, "", closing]), flush=True)
-    if asked.write:
+    if asked.write and not failed:
         costs.write(costs.joined(costs.kept(), parts, whole if asked.anew and not asked.names else {}))
     sys.exit(failed > 0)
 
