@@ -6,8 +6,6 @@ mod minor;
 mod minors;
 mod opener;
 mod rule;
-#[cfg(test)]
-mod tests;
 mod view;
 
 pub use minor::{Minor, NoMinor};

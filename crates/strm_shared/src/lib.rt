@@ -1,5 +1,5 @@
-//! Tests of `strm_locks` and `strm_system`, by what they export: pairs that threads share. What one does is said for any system, by steps of which
-//! it has to know little; of real pairs one function owns a system. The library is empty.
+//! Tests of `strm_minors`, `strm_locks` and `strm_system`, by what they export: pairs that threads share. What one does is said for any system, by
+//! steps of which it has to know little; of real pairs one function owns a system. The library is empty.
 #![tactic(auto)]
 
 #[cfg(test)]

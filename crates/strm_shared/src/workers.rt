@@ -8,16 +8,19 @@ use std::process::Abort;
 use std::sync::Wait;
 use std::thread::Threads;
 use strm_locks::{Crew, End, Lock, NoGate, Object, PairEnd, System};
-use strm_minors::Opener;
+use strm_minors::{Minor, Minors, Opener};
 use strm_system::{Locked, Store};
 
 fn may_be_sent<T: Send>() {}
 
 fn may_be_shared<T: Sync>() {}
 
-// Threads share locks and systems, and have ends of their own.
+// Threads share locks, systems and the word of minors, and have ends and openers of their own.
 #[test]
 fn ends_may_be_sent_and_locks_shared() {
+    may_be_sent::<Minor>();
+    may_be_sent::<Opener>();
+    may_be_shared::<Minors>();
     may_be_sent::<End<Locked<Store>>>();
     may_be_sent::<PairEnd<Locked<Store>>>();
     may_be_sent::<Crew<Locked<Store>>>();
