@@ -1,5 +1,5 @@
 //! What a system of pairs is compared with: a `Mutex` round each pseudoterminal of `plain`, or round a plain queue of bytes. It makes the
-//! plans of `strm_load`, which stand on its standard input, a line each, and answers as that does.
+//! loads of `strm_storm`, which stand on its standard input, a line each, and answers as that does.
 //!
 //!     threads pair|queue
 #[allow(dead_code)] // the rounds of a byte use a part of it

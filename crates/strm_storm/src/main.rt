@@ -1,13 +1,16 @@
-//! Storms of calls: threads that call at random on the pairs of a system, while workers make the turns; and rounds at the pairs of a host. Each
-//! line of standard input is a plan, and is answered by a line. The first that is none ends the program with status 1.
+//! Storms of calls: threads that call at random on the pairs of a system, while workers make the turns; rounds at the pairs of a host; and rounds
+//! at those of a system, to be timed. Each line of standard input is a plan, and is answered by a line. The first that is none ends the program with
+//! status 1.
 #![tactic(auto)]
 
 mod hosting;
+mod load;
 mod plans;
 mod rounds;
 mod storms;
 
 use crate::hosting::serve;
+use crate::load::make_load;
 use crate::plans::{Asked, read_plan};
 use crate::storms::{StormReport, storm};
 
@@ -32,6 +35,13 @@ fn main(rt: HostRuntime) -> anyhow::Result<()> {
                     "{} pairs settled, {} refused",
                     report.settled, report.refused
                 )?;
+                continue;
+            }
+            Asked::Load(plan) => {
+                match make_load(&rt, rt.alloc(), &plan) {
+                    Some(told) => println!(rt; "{} {} {}", told.calls, told.written, told.read)?,
+                    None => println!(rt; "refused")?,
+                }
                 continue;
             }
         };

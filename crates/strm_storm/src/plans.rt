@@ -1,19 +1,26 @@
 //! How a plan is read.
 
-ghost use Rattle.std.specs.Prelude.{◌<◌, ◌≤◌, length};
+ghost use Rattle.std.specs.Prelude.{◌≡◌, ◌<◌, ◌≤◌, length};
 
+use crate::load::LoadPlan;
 use crate::storms::StormPlan;
 use thiserror::Error;
 
 /// Why a line is no plan.
 #[derive(Clone, Copy, Debug, Error)]
 pub enum BadPlan {
-    #[error("a plan is: pairs threads calls seed, with the word report behind them or none; or host pairs threads")]
+    #[error("a plan is: pairs threads calls seed [report]; host pairs threads; or load pairs threads rounds entries warm")]
     Words,
-    #[error("pairs are 1 to 64, those of a host 1 to 65536")]
+    #[error("pairs are 1 to 64, those of a host 1 to 65536, those of a load 0 to 64")]
     Pairs,
-    #[error("threads are 2 to 16")]
+    #[error("threads are 2 to 16, those of a load at least 1")]
     Threads,
+    #[error("rounds are 0 to 4294967295")]
+    Rounds,
+    #[error("entries are 0 to 4294967295")]
+    Entries,
+    #[error("warm is 0 or 1")]
+    Warm,
     #[error("calls are 0 to 65536")]
     Calls,
     #[error("a seed is 0 to 18446744073709551615")]
@@ -29,11 +36,12 @@ pub struct HostPlan {
     pub ghost some_threads: { (2 ≤ threads) × (threads ≤ 16) },
 }
 
-/// What a line asks for: a storm, and whether its whole report; or rounds of a host.
+/// What a line asks for: a storm, and whether its whole report; rounds of a host; or rounds that are timed.
 #[derive(Clone, Copy)]
 pub enum Asked {
     Storm { plan: StormPlan, whole: bool },
     Host(HostPlan),
+    Load(LoadPlan),
 }
 
 /// The plan that a line's words say.
@@ -41,7 +49,37 @@ pub fn read_plan(words: &[&str]) -> Result<Asked, BadPlan> {
     if words.len() == 3 && words[0] == "host" {
         return read_host(words[1], words[2]);
     }
+    if words.len() == 6 && words[0] == "load" {
+        return read_load(words);
+    }
     read_storm(words)
+}
+
+// Rounds that are timed: five numbers behind the first word.
+fn read_load(words: &[&str]) -> Result<Asked, BadPlan>
+    requires { length words.now ≡ 6 }
+{
+    let pairs = number(words[1]).ok_or(BadPlan::Pairs)?;
+    let threads = number(words[2]).ok_or(BadPlan::Threads)?;
+    let rounds = number(words[3]).ok_or(BadPlan::Rounds)?;
+    let entries = number(words[4]).ok_or(BadPlan::Entries)?;
+    let warm = number(words[5]).ok_or(BadPlan::Warm)?;
+    if pairs > 64 {
+        return Err(BadPlan::Pairs);
+    }
+    if threads == 0 {
+        return Err(BadPlan::Threads);
+    }
+    if warm > 1 {
+        return Err(BadPlan::Warm);
+    }
+    Ok(Asked::Load(LoadPlan {
+        pairs,
+        threads,
+        rounds,
+        entries,
+        warm: warm == 1,
+    }))
 }
 
 // A host, by its two numbers.

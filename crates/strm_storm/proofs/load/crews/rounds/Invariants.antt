@@ -1,5 +1,5 @@
 use Rattle.strm_locks.specs.Systems.{IsOne}
-use Rattle.strm_load.proofs.rounds.rounds.Given as goal
+use Rattle.strm_storm.proofs.load.crews.rounds.Given as goal
 
 abbrev pub invariant-loop : goal.invariant-loop
 invariant-loop g l = IsOne l.system l.master × IsOne l.system l.slave

@@ -1,9 +1,13 @@
-//! How a plan is carried out.
+//! Rounds of calls and turns that threads make on the pairs of a system, for `bench/run` to time.
 
 ghost use Rattle.std.specs.Prelude.{◌<◌};
 
-use crate::plans::{Plan, Sums};
-use crate::rounds::{Crew, share};
+mod crews;
+mod plans;
+
+use crews::{Crew, share};
+pub use plans::LoadPlan;
+use plans::Sums;
 use std::alloc::Global;
 use std::sync::Wait;
 use std::thread::{Threads, map_vec};
@@ -15,7 +19,7 @@ use strm_types::{Config, Content, Event, Refusal};
 type PairSystem = System<Locked<Store>>;
 
 // A system of a plan's pairs, and the minor of each.
-fn made(alloc: Global, plan: &Plan) -> Result<(PairSystem, Vec<Minor>), Refusal> {
+fn made(alloc: Global, plan: &LoadPlan) -> Result<(PairSystem, Vec<Minor>), Refusal> {
     let sizes = Config {
         mblks: 256,
         dblks: 256,
@@ -88,7 +92,7 @@ fn at_all<P: Object + Send, R: Threads + Wait + Sync>(
 
 /// Carries out a plan: what the ends of all pairs were told. It tells nothing where memory was refused, or a pair couldn't be opened or
 /// settled.
-pub fn serve<R: Threads + Wait + Sync>(rt: &R, alloc: Global, plan: &Plan) -> Option<Sums> {
+pub fn make_load<R: Threads + Wait + Sync>(rt: &R, alloc: Global, plan: &LoadPlan) -> Option<Sums> {
     let crew = Crew {
         threads: plan.threads,
         rounds: plan.rounds,

@@ -1,5 +1,5 @@
 use Rattle.strm_minors.specs.Openers.{IsOf}
-use Rattle.strm_load.proofs.serving.made.Given as goal
+use Rattle.strm_storm.proofs.load.made.Given as goal
 
 abbrev pub invariant-loop : goal.invariant-loop
 invariant-loop l = IsOf l.system.minors l.opener

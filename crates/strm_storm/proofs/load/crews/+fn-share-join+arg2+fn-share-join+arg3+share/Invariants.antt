@@ -1,4 +1,4 @@
-use Rattle.strm_load.proofs.rounds.+fn-share-join+arg2+fn-share-join+arg3+share.Given as goal
+use Rattle.strm_storm.proofs.load.crews.+fn-share-join+arg2+fn-share-join+arg3+share.Given as goal
 
 abbrev pub decreases-join+arg2 : goal.decreases-join+arg2
 decreases-join+arg2 g l = l.half.threads
