@@ -61,9 +61,9 @@ def kept():
 
 
 def joined(before, parts, whole):
-    """The kept figures with those of a run in their place: the parts of the crates that it was at, and the whole where it was one."""
-    named = set(crates())
-    both = {crate: {**before["crates"].get(crate, {}), **parts.get(crate, {})} for crate in sorted({*before["crates"], *parts} & named)}
+    """The kept figures with those of a run in their place: the parts of the crates that it was at, or all and the whole where it was a whole one."""
+    named, kept_parts = set(crates()), {} if whole else before["crates"]
+    both = {crate: {**kept_parts.get(crate, {}), **parts.get(crate, {})} for crate in sorted({*kept_parts, *parts} & named)}
     return {"crates": both, "whole": whole or before["whole"]}
 
 

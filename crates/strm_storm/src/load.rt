@@ -90,6 +90,21 @@ fn at_all<P: Object + Send, R: Threads + Wait + Sync>(
     Some((sums, minors))
 }
 
+// The same twice, each pair opened again.
+fn twice_at_all<P: Object + Send, R: Threads + Wait + Sync>(
+    rt: &R,
+    alloc: Global,
+    system: &System<P>,
+    minors: Vec<Minor>,
+    crew: Crew,
+) -> Option<Sums>
+    requires { 0 < crew.threads }
+{
+    let (sums, minors) = at_all(rt, alloc, system, minors, crew)?;
+    let (more, _minors) = at_all(rt, alloc, system, minors, crew)?;
+    Some(sums.plus(&more))
+}
+
 /// Carries out a plan: what the ends of all pairs were told. It tells nothing where memory was refused, or a pair couldn't be opened or
 /// settled.
 pub fn make_load<R: Threads + Wait + Sync>(rt: &R, alloc: Global, plan: &LoadPlan) -> Option<Sums> {
@@ -98,10 +113,11 @@ pub fn make_load<R: Threads + Wait + Sync>(rt: &R, alloc: Global, plan: &LoadPla
         rounds: plan.rounds,
     };
     let (system, minors) = made(alloc, plan).ok()?;
-    let (sums, minors) = at_all(rt, alloc, &system, minors, crew)?;
-    if !plan.warm {
-        return Some(sums);
-    }
-    let (more, _minors) = at_all(rt, alloc, &system, minors, crew)?;
-    Some(sums.plus(&more))
+    let sums = if plan.warm {
+        twice_at_all(rt, alloc, &system, minors, crew)
+    } else {
+        at_all(rt, alloc, &system, minors, crew).map(|(sums, _minors)| sums)
+    };
+    drop(system);
+    sums
 }

@@ -62,10 +62,7 @@ fn joined<P: Object>(
     requires second { IsOne system.now second }
     ensures { IfSome result (λ e. IsOne system.now e) }
 {
-    match system.join_ends(first, second) {
-        Ok(end) => Some(end),
-        Err(_) => None,
-    }
+    system.join_ends(first, second).ok()
 }
 
 /// The rounds of a crew at one pair, each thread with its own part of both ends. It gives back one end of all.
