@@ -3,6 +3,7 @@ import collections
 import glob
 import json
 import os
+import textwrap
 
 PAGE, HEADING, FIGURES = "docs/GATE.md", "## What it costs", "tools/costs.json"
 PARTS = ("proof", "tests", "wrong")
@@ -93,7 +94,8 @@ def said(whole):
     among = f" in {whole['lanes']} lanes" if whole["lanes"] else ""
     beside = f", beside {whole['beside']}" if "beside" in whole else ""
     clock = f"{whole['minutes']} minutes by the clock on {whole['cores']} cores{among}"
-    return f"`{whole['closing']}`: {clock}, {whole['processor']} of the processor; wrong bodies are {whole['wrong']} % of it{beside}."
+    line = f"`{whole['closing']}`: {clock}, {whole['processor']} of the processor; wrong bodies are {whole['wrong']} % of it{beside}."
+    return textwrap.fill(line, 150)
 
 
 def table(figures):
