@@ -9,7 +9,7 @@ use std::test::Fail;
 use std::thread::{Threads, join};
 use strm_minors::{Minor, Minors, NoMinor, Opener};
 
-// TwoOpeners a minor and releases it, a thousand times: how often one was had.
+// Claims a minor and releases it, a thousand times: how often one was had.
 fn claims(minors: &Minors, opener: Opener) -> (Opener, u64)
     requires { IsOf minors.now opener }
     ensures { IsOf minors.now result.0 }
