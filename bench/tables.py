@@ -152,6 +152,10 @@ def costs(told):
 # ---------------------------------------------------------------------------------------------------- sentences with figures in them
 
 
+# What a Linux pty takes on another machine (docs/PERFORMANCE.md, *From C and from Python*), in µs: a keystroke, and 4096 bytes of output.
+OTHER_PTY = (2.3, 14.6)
+
+
 def readme(f) -> str:
     rows, calls_of = ({row[key]: row for row in rows} for key, rows in (("what", f["instructions"]["rounds"]), (0, f["library"]["calls"])))
     byte, key = rows["1 byte, no modules"], rows["a keystroke, and its echo read"]
@@ -161,8 +165,8 @@ def readme(f) -> str:
         f"A round of a byte (write, turn, read) takes {byte['pair']:,} instructions and {nanoseconds:.0f} ns: "
         f"{ratio(byte['pair'], byte['baseline'])} times the instructions of the leanest plain program of the same behaviour, without proof, that we "
         f"could write. A keystroke with its echo read takes {typed[1] / 1000:.2f} µs from C ({ratio(key['pair'], key['baseline'])} times), where a "
-        f"Linux pty takes {typed[3] / 1000:.1f} of the processor; 4096 bytes of output {output[1] / 1000:.1f} µs, a Linux pty "
-        f"{output[3] / 1000:.1f}; an image of a terminal {f['library']['image_ns'] / 1000:.2f}."
+        f"Linux pty takes {typed[3] / 1000:.1f} of the processor, and {OTHER_PTY[0]} on another machine; 4096 bytes of output "
+        f"{output[1] / 1000:.1f} µs, a Linux pty {output[3] / 1000:.1f} and {OTHER_PTY[1]}; an image of a terminal {f['library']['image_ns'] / 1000:.2f}."
     )
 
 
