@@ -1,9 +1,6 @@
 //! A module of one's own that counts the bytes of the data parts that pass it, up and down together, and hands all on as it is.
 #![tactic(auto)]
 
-#[cfg(test)]
-mod tests;
-
 ghost use Rattle.std.specs.Prelude.{◌≡◌, get_or, length};
 ghost use Rattle.strm_blocks.specs.Blocks.{IsInHand, in_hand, token};
 ghost use Rattle.strm_msg.specs.Messages.{IsChain, message_of};

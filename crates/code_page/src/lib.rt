@@ -6,8 +6,6 @@ ghost use Rattle.std.specs.Prelude.{◌≡◌};
 
 mod asking;
 mod passing;
-#[cfg(test)]
-mod tests;
 
 use crate::asking::{answer, asked_of};
 use crate::passing::pass;

@@ -1,9 +1,6 @@
 //! A module of a user's own with queues: a line buffer. What is written waits on its write queue until a line is whole, or enough bytes stand there.
 #![tactic(auto)]
 
-#[cfg(test)]
-mod tests;
-
 ghost use Rattle.std.specs.Prelude.{◌≡◌};
 ghost use Rattle.line_buffer.specs.LineBuffer.{waits};
 

@@ -1,7 +1,8 @@
-//! Steps on a pair with the module, each with what must come of it.
+//! Steps on a pair with a module of a user's own, each with what must come of it.
 
 use crate::tests::pairs::SIZES;
-use crate::{PAGE_SIZE, SETPAGE};
+use byte_counter::{NUMBER, count};
+use code_page::{PAGE_SIZE, SETPAGE};
 use std::process::Abort;
 use strm_blocks::Blocks;
 use strm_pair::{OwnModule, Pair, Ran};
@@ -24,6 +25,18 @@ pub const SLAVE: Caller = Caller {
 /// What a call answers, where a read has how many bytes it gives.
 pub type Came = Result<Answer<u32>, Refusal>;
 
+pub const DONE: Came = Ok(Answer::Done);
+
+/// A read of all that stands there.
+pub const READ: Event<&[u8]> = Event::Read { n: 4096 };
+
+/// The steps that open both sides.
+pub const OPENING: [Step<'static>; 3] = [
+    Step::Call(MASTER, Event::OpenMaster, DONE),
+    Step::Call(MASTER, Event::Unlock, DONE),
+    Step::Call(SLAVE, Event::OpenSlave, DONE),
+];
+
 /// What a page makes of bytes.
 #[derive(Clone, Copy)]
 pub enum Page {
@@ -37,6 +50,10 @@ pub enum Page {
 pub enum Step<'a> {
     /// A call answers so.
     Call(Caller, Event<&'a [u8]>, Came),
+    /// A call answers so, and all turns are made behind it.
+    Settles(Caller, Event<&'a [u8]>, Came),
+    /// A write of bytes takes all, and all turns are made behind it.
+    Writes(Caller, &'a [u8]),
     /// An ioctl of so many bytes of a page sets it, and answers so.
     Set(Caller, Page, usize, Came),
     /// So many turns are made, and then none is left.
@@ -51,6 +68,8 @@ pub enum Step<'a> {
     Gets(Caller, &'a [u8], &'a [u8]),
     /// So many bytes were written in a direction and so many were made, and so many were read: no other has gone, and none stands there.
     Told(Dir, u64, u64, u64),
+    /// The byte counter on the slave's stream has counted so many bytes.
+    Counted(u64),
     /// All blocks are free.
     Free,
 }
@@ -106,6 +125,17 @@ fn answers<B: Blocks + Drop, M: OwnModule>(
     calls(pair, caller, event, &mut Content::new()) == came
 }
 
+fn settles<B: Blocks + Drop, M: OwnModule>(
+    pair: &mut Pair<B, M>,
+    caller: Caller,
+    event: &Event<&[u8]>,
+    came: Came,
+) -> bool {
+    let as_told = answers(pair, caller, event, came);
+    turns(pair);
+    as_told
+}
+
 fn sets<B: Blocks + Drop, M: OwnModule>(
     pair: &mut Pair<B, M>,
     caller: Caller,
@@ -132,21 +162,22 @@ fn reads<B: Blocks + Drop, M: OwnModule>(
     bytes: &[u8],
 ) -> bool {
     let mut out = Content::new();
-    let read = calls(pair, caller, &Event::Read { n: 4096 }, &mut out);
+    let read = calls(pair, caller, &READ, &mut out);
     read.is_ok() && out.as_slice() == bytes
 }
 
-// Writes for one caller, makes all turns, and says whether another one reads these bytes.
-fn carries<B: Blocks + Drop, M: OwnModule>(
+// Writes bytes, makes all turns, and says whether all bytes were taken.
+fn writes<B: Blocks + Drop, M: OwnModule>(
     pair: &mut Pair<B, M>,
-    from: Caller,
-    to: Caller,
+    caller: Caller,
     bytes: &[u8],
-    read: &[u8],
 ) -> bool {
-    let wrote = calls(pair, from, &Event::Write { bytes }, &mut Content::new());
+    let wrote = calls(pair, caller, &Event::Write { bytes }, &mut Content::new());
     turns(pair);
-    wrote.is_ok() && reads(pair, to, read)
+    match wrote {
+        Ok(Answer::Count(count)) => count as usize == bytes.len(),
+        _ => false,
+    }
 }
 
 const ANY: Event<&[u8]> = Event::Get {
@@ -175,16 +206,23 @@ fn tells(ledger: &Ledger, written: u64, made: u64, read: u64) -> bool {
         && ledger.fates[Rule::Read.number()] == read
 }
 
+fn counted<B: Blocks + Drop, M: OwnModule>(pair: &Pair<B, M>) -> Option<u64> {
+    pair.settings(Side::Slave, NUMBER).map(count)
+}
+
 fn goes<B: Blocks + Drop, M: OwnModule>(pair: &mut Pair<B, M>, step: &Step<'_>) -> bool {
     match step {
         Step::Call(caller, event, came) => answers(pair, *caller, event, *came),
+        Step::Settles(caller, event, came) => settles(pair, *caller, event, *came),
         Step::Set(caller, page, count, came) => sets(pair, *caller, *page, *count, *came),
         Step::Runs(count) => runs(pair, *count),
-        Step::Types(bytes, read) => carries(pair, MASTER, SLAVE, bytes, read),
-        Step::Shows(bytes, read) => carries(pair, SLAVE, MASTER, bytes, read),
+        Step::Writes(caller, bytes) => writes(pair, *caller, bytes),
+        Step::Types(bytes, read) => writes(pair, MASTER, bytes) && reads(pair, SLAVE, read),
+        Step::Shows(bytes, read) => writes(pair, SLAVE, bytes) && reads(pair, MASTER, read),
         Step::Reads(caller, bytes) => reads(pair, *caller, bytes),
         Step::Gets(caller, control, body) => gets(pair, *caller, control, body),
         Step::Told(dir, written, made, read) => tells(&ledger(pair, *dir), *written, *made, *read),
+        Step::Counted(bytes) => counted(pair) == Some(*bytes),
         Step::Free => pair.free_blocks() == (SIZES.mblks, SIZES.dblks),
     }
 }

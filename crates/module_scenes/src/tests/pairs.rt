@@ -1,13 +1,12 @@
-//! Pairs on which the module may stand.
+//! Pairs on which a module of a user's own may stand, or none.
 
-ghost use Rattle.std.specs.Prelude.{◌≡◌, [], true, IfOk, replicate};
+ghost use Rattle.std.specs.Prelude.{◌≡◌, [], IfOk, replicate};
 ghost use Rattle.strm_types.specs.declared.limits.TheConstants.{LISTS};
 ghost use Rattle.strm_frame.specs.Hands.{IsWide};
 
-use crate::CodePage;
 use std::alloc::{AllocError, Global};
 use strm_blocks::{Blocks, Reserve};
-use strm_pair::Pair;
+use strm_pair::{NoModule, OwnModule, Pair};
 use strm_types::{Config, Refusal};
 
 /// The sizes of all pairs.
@@ -18,18 +17,18 @@ pub const SIZES: Config = Config {
     journal_bytes: 65536,
 };
 
-// A store that holds nothing, with as many data blocks as message blocks.
-fn store_of<B: Reserve>(alloc: Global) -> Result<B, AllocError>
+// A store that holds nothing, with as many data blocks as message blocks, as a module may want it.
+fn store_for<B: Reserve, M: OwnModule>(alloc: Global) -> Result<B, AllocError>
     ensures lists { IfOk result (λ store. (B.value store).lists ≡ replicate LISTS []) }
     ensures hand { IfOk result (λ store. (B.value store).hand ≡ []) }
-    ensures wide { IfOk result (λ store. IsWide true (B.value store)) }
+    ensures wide { IfOk result (λ store. IsWide M.wide (B.value store)) }
 {
     B::reserve(alloc, SIZES.mblks, SIZES.dblks)
 }
 
 /// A pair that nobody opened.
-pub fn new_pair<B: Reserve>(alloc: Global) -> Result<Pair<B, CodePage>, AllocError> {
-    let store: B = store_of(alloc)?;
+pub fn new_pair<B: Reserve, M: OwnModule>(alloc: Global) -> Result<Pair<B, M>, AllocError> {
+    let store = store_for::<B, M>(alloc)?;
     let Ok(pair) = Pair::new(alloc, SIZES, store) else {
         return Err(AllocError);
     };
@@ -37,11 +36,11 @@ pub fn new_pair<B: Reserve>(alloc: Global) -> Result<Pair<B, CodePage>, AllocErr
 }
 
 /// A pair that is made of an image, unless that is refused.
-pub fn restored<B: Reserve>(
+pub fn restored<B: Reserve, M: OwnModule>(
     alloc: Global,
     image: &[u8],
-) -> Result<Option<Pair<B, CodePage>>, AllocError> {
-    let store: B = store_of(alloc)?;
+) -> Result<Option<Pair<B, M>>, AllocError> {
+    let store = store_for::<B, M>(alloc)?;
     Ok(Pair::restore(alloc, SIZES, image, store).ok())
 }
 
@@ -50,7 +49,7 @@ pub fn refused_without<B: Reserve>(
     alloc: Global,
     image: &[u8],
 ) -> Result<Option<Refusal>, AllocError> {
-    let store: B = store_of(alloc)?;
+    let store = store_for::<B, NoModule>(alloc)?;
     match Pair::<B>::restore(alloc, SIZES, image, store) {
         Ok(_) => Ok(None),
         Err((why, _store)) => Ok(Some(why)),
@@ -58,9 +57,9 @@ pub fn refused_without<B: Reserve>(
 }
 
 /// The image of a pair.
-pub fn image_of<B: Blocks + Drop>(
+pub fn image_of<B: Blocks + Drop, M: OwnModule>(
     alloc: Global,
-    pair: &Pair<B, CodePage>,
+    pair: &Pair<B, M>,
 ) -> Result<Vec<u8>, AllocError> {
     let Ok(image) = pair.image(alloc) else {
         return Err(AllocError);

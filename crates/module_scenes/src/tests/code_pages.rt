@@ -1,17 +1,9 @@
-//! What the module does with the bytes that pass it, with its ioctl and beside ldterm (streamio(7I): I_PUSH, I_LOOK, I_POP, I_STR).
+//! What a code page does with the bytes that pass it, with its ioctl and beside ldterm (streamio(7I): I_PUSH, I_LOOK, I_POP, I_STR).
 
-use crate::tests::steps::{Came, MASTER, Page, SLAVE, Step};
-use crate::{CODE_PAGE, PAGE_SIZE, SETPAGE};
+use crate::tests::Scene;
+use crate::tests::steps::{Came, DONE, MASTER, Page, SLAVE, Step};
+use code_page::{CODE_PAGE, PAGE_SIZE, SETPAGE};
 use strm_types::{Answer, Band, Dir, Event, ModuleName, Prio, Refusal};
-
-/// Steps on a new pair whose sides are open, those on one that is made of its image, and what they show.
-pub struct Scene<'a> {
-    pub title: &'a str,
-    pub first: &'a [Step<'a>],
-    pub then: &'a [Step<'a>],
-}
-
-const DONE: Came = Ok(Answer::Done);
 
 const INVALID: Came = Err(Refusal::Einval);
 
@@ -21,13 +13,6 @@ const OBEYED: Came = Ok(Answer::Bytes(0));
 const REFUSED: Came = Ok(Answer::Nak(Refusal::Einval));
 
 const NAME: ModuleName = ModuleName::Own(CODE_PAGE);
-
-/// The steps that open both sides.
-pub const OPENING: [Step<'static>; 3] = [
-    Step::Call(MASTER, Event::OpenMaster, DONE),
-    Step::Call(MASTER, Event::Unlock, DONE),
-    Step::Call(SLAVE, Event::OpenSlave, DONE),
-];
 
 const PUSH: Step<'static> = Step::Call(SLAVE, Event::Push { name: Some(NAME) }, DONE);
 
