@@ -35,6 +35,12 @@ def wrong_of(crate):
     return len(glob.glob(f"crates/{crate}/wrong/*.edit"))
 
 
+def lanes():
+    """In how many lanes a run goes: as many as RT_JOBS says, or as there are cores."""
+    asked = os.environ.get("RT_JOBS", "")
+    return int(asked) if asked.isdigit() else len(os.sched_getaffinity(0))
+
+
 def parts_of(seen):
     """What a run's processes have used of the processor, by crate and part, in seconds."""
     parts = collections.defaultdict(dict)
@@ -51,21 +57,28 @@ def whole_of(wall, used, closing, parts):
         "closing": closing,
         "minutes": round(wall / 60),
         "cores": len(os.sched_getaffinity(0)),
-        "lanes": os.environ.get("RT_JOBS", ""),
+        "lanes": lanes(),
         "processor": round(used / 60),
         "wrong": round(100 * wrong / max(used, 1)),
     }
 
 
 def kept():
-    return json.loads(text_of(FIGURES) or '{"crates": {}, "whole": {}}')
+    return json.loads(text_of(FIGURES) or '{"crates": {}, "wholes": []}')
 
 
 def joined(before, parts, whole):
-    """The kept figures with those of a run in their place: the parts of the crates that it was at, or all and the whole where it was a whole one."""
-    named, kept_parts = set(crates()), {} if whole else before["crates"]
+    """The kept figures with those of a run in their place: the parts of the crates that it was at; or, of a whole run, its line, and all parts where no
+    whole run in fewer lanes is kept, as what stands in more of them takes longer."""
+    others = [one for one in before["wholes"] if whole and one["lanes"] != whole["lanes"]]
+    if any(one["lanes"] < whole["lanes"] for one in others):
+        parts, kept_parts = {}, before["crates"]
+    else:
+        kept_parts = {} if whole else before["crates"]
+    named = set(crates())
     both = {crate: {**kept_parts.get(crate, {}), **parts.get(crate, {})} for crate in sorted({*kept_parts, *parts} & named)}
-    return {"crates": both, "whole": whole or before["whole"]}
+    wholes = sorted([*others, whole], key=lambda one: one["lanes"]) if whole else before["wholes"]
+    return {"crates": both, "wholes": wholes}
 
 
 def rate_of(row):
@@ -90,10 +103,9 @@ def together(name, rows):
 
 
 def said(whole):
-    """The line below the table; what went on beside the run stands in the figures by hand."""
-    among = f" in {whole['lanes']} lanes" if whole["lanes"] else ""
+    """A line below the table; what went on beside the run stands in the figures by hand."""
     beside = f", beside {whole['beside']}" if "beside" in whole else ""
-    clock = f"{whole['minutes']} minutes by the clock on {whole['cores']} cores{among}"
+    clock = f"{whole['minutes']} minutes by the clock on {whole['cores']} cores in {whole['lanes']} lanes"
     line = f"`{whole['closing']}`: {clock}, {whole['processor']} of the processor; wrong bodies are {whole['wrong']} % of it{beside}."
     return textwrap.fill(line, 150)
 
@@ -111,9 +123,9 @@ def table(figures):
     yield "| Crate | Lines, with tests | Proof, CPU s | Tests, CPU s | 1000 lines, CPU min | Wrong bodies | CPU s |"
     yield "|---|---|---|---|---|---|---|"
     yield from map(row_of, [*dear, *([together(f"{len(rest)} others", rest)] if rest else []), whole])
-    if figures["whole"]:
+    for whole in figures["wholes"]:
         yield ""
-        yield said(figures["whole"])
+        yield said(whole)
 
 
 def write(figures):

@@ -167,7 +167,7 @@ def main():
     closing, wall = f"{passed} passed, {failed} failed", time.monotonic() - began
     parts = costs.parts_of(seen)
     whole = costs.whole_of(wall, used.ru_utime + used.ru_stime, closing, parts)
-    lines = costs.table({"crates": parts, "whole": whole})
+    lines = costs.table({"crates": parts, "wholes": [whole]})
     print("\n".join(["", *lines, "", closing]), flush=True)
     if asked.write and not failed:
         costs.write(costs.joined(costs.kept(), parts, whole if asked.anew and not asked.names else {}))
