@@ -141,6 +141,28 @@ const SIZES: Config = Config {
     journal_bytes: 64,
 };
 
+// Has the threads of a plan make a round at each pair of a host.
+fn serve_on<P: Object + Send, R: Threads + Wait + Sync>(
+    rt: &R,
+    alloc: Global,
+    host: &Host<P>,
+    opener: HostOpener,
+    plan: HostPlan,
+) -> Result<HostReport, AllocError>
+    requires { AreOf host.now opener }
+    ensures { IfOk result (λ r. r.settled + r.refused ≡ plan.pairs) }
+{
+    let share = Share {
+        rounds: plan.pairs,
+        threads: plan.threads,
+    };
+    let rounds = all_rounds(rt, alloc, host, opener, share)?;
+    Ok(HostReport {
+        settled: rounds.made.len() as u32,
+        refused: rounds.refused,
+    })
+}
+
 /// Makes a host of so many pairs over 40 blocks of each kind, and has so many threads make a round at each: a thread claims a minor, opens the
 /// pair and its slave, writes three bytes, makes a turn, reads them, and settles the pair. It is refused where the host can't be had, and where
 /// memory for what the threads give back can't.
@@ -152,13 +174,5 @@ pub fn serve<R: Threads + Wait + Sync>(
     ensures { IfOk result (λ r. r.settled + r.refused ≡ plan.pairs) }
 {
     let (host, opener) = host(alloc, plan.pairs, SIZES)?;
-    let share = Share {
-        rounds: plan.pairs,
-        threads: plan.threads,
-    };
-    let rounds = all_rounds(rt, alloc, &host, opener, share)?;
-    Ok(HostReport {
-        settled: rounds.made.len() as u32,
-        refused: rounds.refused,
-    })
+    Ok(serve_on(rt, alloc, &host, opener, plan)?)
 }

@@ -1,6 +1,7 @@
 //! Rounds of calls and turns that threads make on the pairs of a system, for `bench/run` to time.
 
 ghost use Rattle.std.specs.Prelude.{◌<◌};
+ghost use Rattle.strm_minors.specs.Openers.{IsOf};
 
 mod crews;
 mod plans;
@@ -12,31 +13,38 @@ use std::alloc::Global;
 use std::sync::Wait;
 use std::thread::{Threads, map_vec};
 use strm_locks::{Object, System};
-use strm_minors::Minor;
-use strm_system::{Locked, Store, system};
-use strm_types::{Config, Content, Event, Refusal};
+use strm_minors::{Minor, Opener};
+use strm_system::system;
+use strm_types::{Config, Content, Event};
 
-type PairSystem = System<Locked<Store>>;
-
-// A system of a plan's pairs, and the minor of each.
-fn made(alloc: Global, plan: &LoadPlan) -> Result<(PairSystem, Vec<Minor>), Refusal> {
-    let sizes = Config {
+// What each pair of a plan has.
+fn sizes_of(plan: &LoadPlan) -> Config {
+    Config {
         mblks: 256,
         dblks: 256,
         journal_events: plan.entries as usize,
         journal_bytes: plan.entries as usize * 8,
-    };
-    let (system, mut opener) = system(alloc, plan.pairs, sizes)?;
+    }
+}
+
+// As many minors as a plan has pairs, or all that are free.
+fn claimed<P: Object>(
+    alloc: Global,
+    system: &System<P>,
+    opener: Opener,
+    plan: &LoadPlan,
+) -> Option<Vec<Minor>>
+    requires { IsOf system.now.minors opener }
+{
+    let mut opener = opener;
     let mut minors = Vec::new(alloc);
     for _ in 0..plan.pairs {
         let Ok(minor) = system.claim(&mut opener) else {
             break;
         };
-        if minors.push(minor).is_err() {
-            return Err(Refusal::NoMemory);
-        }
+        minors.push(minor).ok()?;
     }
-    Ok((system, minors))
+    Some(minors)
 }
 
 // Opens a pair, has a crew make its rounds there, and settles it: what was told, and the minor.
@@ -90,17 +98,25 @@ fn at_all<P: Object + Send, R: Threads + Wait + Sync>(
     Some((sums, minors))
 }
 
-// The same twice, each pair opened again.
-fn twice_at_all<P: Object + Send, R: Threads + Wait + Sync>(
+// Carries out a plan at a system of its pairs, none of them opened.
+fn load_on<P: Object + Send, R: Threads + Wait + Sync>(
     rt: &R,
     alloc: Global,
     system: &System<P>,
-    minors: Vec<Minor>,
-    crew: Crew,
+    opener: Opener,
+    plan: &LoadPlan,
 ) -> Option<Sums>
-    requires { 0 < crew.threads }
+    requires { IsOf system.now.minors opener }
 {
+    let crew = Crew {
+        threads: plan.threads,
+        rounds: plan.rounds,
+    };
+    let minors = claimed(alloc, system, opener, plan)?;
     let (sums, minors) = at_all(rt, alloc, system, minors, crew)?;
+    if !plan.warm {
+        return Some(sums);
+    }
     let (more, _minors) = at_all(rt, alloc, system, minors, crew)?;
     Some(sums.plus(&more))
 }
@@ -108,16 +124,8 @@ fn twice_at_all<P: Object + Send, R: Threads + Wait + Sync>(
 /// Carries out a plan: what the ends of all pairs were told. It tells nothing where memory was refused, or a pair couldn't be opened or
 /// settled.
 pub fn make_load<R: Threads + Wait + Sync>(rt: &R, alloc: Global, plan: &LoadPlan) -> Option<Sums> {
-    let crew = Crew {
-        threads: plan.threads,
-        rounds: plan.rounds,
-    };
-    let (system, minors) = made(alloc, plan).ok()?;
-    let sums = if plan.warm {
-        twice_at_all(rt, alloc, &system, minors, crew)
-    } else {
-        at_all(rt, alloc, &system, minors, crew).map(|(sums, _minors)| sums)
-    };
-    drop(system);
-    sums
+    match system(alloc, plan.pairs, sizes_of(plan)) {
+        Ok((system, opener)) => load_on(rt, alloc, &system, opener, plan),
+        Err(_) => None,
+    }
 }
