@@ -5,7 +5,7 @@ ghost use Rattle.strm_ends.specs.Cutting.{CutsBy, CutsEnd, WithTrace};
 ghost use Rattle.strm_ends.specs.Members.{HasEnd};
 
 use crate::handle::Handle;
-use crate::hold::{Hold, Object};
+use crate::hold::{Hold, HostPair};
 use crate::member::Member;
 use crate::numbers::{NotDone, Outcome, not_done, number};
 use std::alloc::Global;
@@ -19,7 +19,7 @@ impl Member {
         &self,
         alloc: Global,
         system: u32,
-        end: &PairEnd<Object>,
+        end: &PairEnd<HostPair>,
         trace: &mut TraceHandle,
     ) -> Outcome
         requires end { HasEnd self.now.host self.now.opener system end.now }

@@ -10,7 +10,7 @@ ghost use Rattle.strm_ends.specs.Members.{HasInHand, seated};
 ghost use Rattle.strm_ends.specs.Outcomes.{WithMade};
 
 use crate::handle::Handle;
-use crate::hold::{Hold, Object};
+use crate::hold::{Hold, HostPair};
 use crate::member::Member;
 use crate::numbers::{Outcome, not_done, number};
 use std::alloc::Global;
@@ -71,7 +71,10 @@ pub fn sizes(blocks: usize, entries: usize, bytes: usize) -> Config
 }
 
 /// A further member of a host, without an opener and with nothing in hand. None where memory is refused.
-pub(crate) fn beside(alloc: Global, host: &Arc<Host<Object>, Global>) -> Option<Box<Member, Global>>
+pub(crate) fn beside(
+    alloc: Global,
+    host: &Arc<Host<HostPair>, Global>,
+) -> Option<Box<Member, Global>>
     ensures { IfSome result (λ b. b.value ≡ seated (arc_value host.now) None Nothing) }
 {
     let _ = host.systems();

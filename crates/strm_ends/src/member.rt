@@ -1,6 +1,6 @@
 //! A member of a host: what one thread has of it.
 
-use crate::hold::{Hold, Object};
+use crate::hold::{Hold, HostPair};
 use std::alloc::Global;
 use std::marker::Model;
 use std::sync::Arc;
@@ -12,7 +12,7 @@ use strm_types::Content;
 /// An opener and an end are of that host. A minor in hand, and that of an end in hand, is one that the opener holds; an end without an opener has no
 /// minor.
 pub(crate) struct Member {
-    pub(crate) host: Arc<Host<Object>, Global>,
+    pub(crate) host: Arc<Host<HostPair>, Global>,
     pub(crate) opener: Option<HostOpener>,
     pub(crate) hold: Hold,
     pub(crate) answer: Content,

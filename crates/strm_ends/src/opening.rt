@@ -7,7 +7,7 @@ ghost use Rattle.strm_ends.specs.Opening.{Opens, OpensMinor, OpensSlave, OpensSl
 ghost use Rattle.strm_ends.specs.Outcomes.{AtMember, WithMade};
 
 use crate::handle::Handle;
-use crate::hold::{Hold, Object};
+use crate::hold::{Hold, HostPair};
 use crate::making::beside;
 use crate::member::Member;
 use crate::numbers::{NotDone, Outcome, not_done, number};
@@ -28,15 +28,15 @@ impl Member {
         let HostMinor { system, minor } = minor;
         match self.host.at(system).try_open(&NoBell, minor) {
             Err((Busy, minor)) => {
-                self.hold = Hold::Minor(HostMinor { system, minor });
+                self.have(Hold::Minor(HostMinor { system, minor }));
                 Err(NotDone::Busy)
             }
             Ok(Err((not, minor))) => {
-                self.hold = Hold::Minor(HostMinor { system, minor });
+                self.have(Hold::Minor(HostMinor { system, minor }));
                 not_done(not.refusal)
             }
             Ok(Ok(end)) => {
-                self.hold = Hold::End { system, end };
+                self.have(Hold::End { system, end });
                 Ok(())
             }
         }
@@ -49,7 +49,7 @@ impl Member {
         match replace(&mut self.hold, Hold::Nothing) {
             Hold::Minor(minor) => self.open_minor(minor),
             other => {
-                self.hold = other;
+                self.have(other);
                 not_done(Refusal::Einval)
             }
         }
@@ -60,7 +60,7 @@ impl Member {
         &mut self,
         alloc: Global,
         system: u32,
-        mut end: PairEnd<Object>,
+        mut end: PairEnd<HostPair>,
         made: &mut Handle,
     ) -> Outcome
         requires end { HasEnd self.old.host self.old.opener system end }

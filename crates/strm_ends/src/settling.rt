@@ -11,7 +11,7 @@ ghost use Rattle.strm_ends.specs.Settling.{Restarts, Settles, SettlesBy, account
 
 use crate::accounts::Account;
 use crate::handle::Handle;
-use crate::hold::{Hold, Object};
+use crate::hold::{Hold, HostPair};
 use crate::member::Member;
 use crate::numbers::{NotDone, Outcome, not_done, number};
 use crate::sharing::sums;
@@ -48,25 +48,25 @@ pub(crate) fn account(told: &Told, ms: &Ledger, sm: &Ledger) -> Account
 
 impl Member {
     // Settles the pair of an end, as nothing is in hand; its minor is in hand then, or the end.
-    fn settle_by(&mut self, system: u32, end: PairEnd<Object>, told: &mut Account) -> Outcome
+    fn settle_by(&mut self, system: u32, end: PairEnd<HostPair>, told: &mut Account) -> Outcome
         requires end { HasEnd self.old.host self.old.opener system end }
         requires empty { self.old.hold ≡ Nothing }
         ensures { SettlesBy self.old system end told.old told.new result self.new }
     {
         match self.host.at(system).try_settle(&NoBell, end) {
             Err((Busy, end)) => {
-                self.hold = Hold::End { system, end };
+                self.have(Hold::End { system, end });
                 Err(NotDone::Busy)
             }
             Ok(Err((_shared, end))) => {
-                self.hold = Hold::End { system, end };
+                self.have(Hold::End { system, end });
                 not_done(Refusal::StillShared)
             }
             Ok(Ok((closed, minor))) => {
                 let Closed { settled, visit } = closed;
                 drop(visit);
                 *told = account(&settled.told, &settled.ms, &settled.sm);
-                self.hold = Hold::Minor(HostMinor { system, minor });
+                self.have(Hold::Minor(HostMinor { system, minor }));
                 Ok(())
             }
         }
@@ -79,7 +79,7 @@ impl Member {
         match replace(&mut self.hold, Hold::Nothing) {
             Hold::End { system, end } => self.settle_by(system, end, told),
             other => {
-                self.hold = other;
+                self.have(other);
                 not_done(Refusal::Einval)
             }
         }

@@ -9,7 +9,7 @@ ghost use Rattle.strm_ends.specs.Sharing.{AreTogether, Joins, JoinsMember, Shows
 
 use crate::accounts::{Share, Sides, Sums};
 use crate::handle::Handle;
-use crate::hold::{Hold, Object};
+use crate::hold::{Hold, HostPair};
 use crate::making::beside;
 use crate::member::Member;
 use crate::numbers::{Outcome, not_done, number, pair_number};
@@ -17,7 +17,7 @@ use std::alloc::Global;
 use std::mem::replace;
 use strm_handle::{refused, side_number};
 use strm_hosts::{Host, HostOpener};
-use strm_locks::{Each, PairEnd, Told};
+use strm_locks::{Each, Object, PairEnd, Told};
 use strm_types::Refusal;
 
 // Bytes by side, as a C program is told them.
@@ -43,16 +43,16 @@ pub(crate) fn sums(told: &Told) -> Sums
 }
 
 // An end, as a C program is told it.
-fn shown(system: u32, end: &PairEnd<Object>) -> Share
+fn shown<P: Object>(system: u32, end: &PairEnd<P>) -> Share
     requires system { system < 1024 }
     requires pair { end.now.pair < 64 }
     ensures { Shows result system end.now }
 {
-    let told = end.end().told();
-    let caller = end.end().caller();
+    let part = end.end();
+    let caller = part.caller();
     Share {
-        told: sums(&told),
-        parts: end.end().parts(),
+        told: sums(&part.told()),
+        parts: part.parts(),
         pair: pair_number(system, end.pair()),
         side: side_number(caller.side),
         group: caller.group,
@@ -63,7 +63,7 @@ fn shown(system: u32, end: &PairEnd<Object>) -> Share
 
 // Joins what two members of a host have in hand, where both are ends of one pair.
 fn join_holds(
-    host: &Host<Object>,
+    host: &Host<HostPair>,
     opener: &Option<HostOpener>,
     first: Hold,
     second: Hold,
@@ -117,12 +117,12 @@ impl Member {
         let second = replace(&mut other.hold, Hold::Nothing);
         match join_holds(&self.host, &self.opener, first, second) {
             Ok(hold) => {
-                self.hold = hold;
+                self.have(hold);
                 true
             }
             Err((first, second)) => {
-                self.hold = first;
-                other.hold = second;
+                self.have(first);
+                other.have(second);
                 false
             }
         }
@@ -150,7 +150,7 @@ impl Member {
         &mut self,
         alloc: Global,
         system: u32,
-        end: PairEnd<Object>,
+        end: PairEnd<HostPair>,
         made: &mut Handle,
     ) -> Outcome
         requires end { HasEnd self.old.host self.old.opener system end }
@@ -159,19 +159,19 @@ impl Member {
         ensures { SplitsBy self.old system end made.new.held.kept result self.new }
     {
         let Some(mut second) = beside(alloc, &self.host) else {
-            self.hold = Hold::End { system, end };
+            self.have(Hold::End { system, end });
             return not_done(Refusal::NoMemory);
         };
         match self.host.at(system).split_end(end) {
             Ok((end, other)) => {
-                self.hold = Hold::End { system, end };
+                self.have(Hold::End { system, end });
                 second.as_mut().have(Hold::End { system, end: other });
                 made.put(second);
                 Ok(())
             }
             Err(end) => {
                 drop(second);
-                self.hold = Hold::End { system, end };
+                self.have(Hold::End { system, end });
                 not_done(Refusal::Erange)
             }
         }
@@ -185,7 +185,7 @@ impl Member {
         match replace(&mut self.hold, Hold::Nothing) {
             Hold::End { system, end } => self.split_by(alloc, system, end, made),
             other => {
-                self.hold = other;
+                self.have(other);
                 not_done(Refusal::Einval)
             }
         }

@@ -13,7 +13,7 @@ ghost use Rattle.strm_ends.specs.Visiting.{Audits, Looks, TellsVisit, TurnsFirst
 
 use crate::accounts::{Account, Prospect, Visit};
 use crate::handle::Handle;
-use crate::hold::Object;
+use crate::hold::HostPair;
 use crate::member::Member;
 use crate::numbers::{NotDone, Outcome, not_done, number};
 use crate::settling::account;
@@ -54,7 +54,7 @@ fn visit(made: Option<Made>) -> Visit
 }
 
 // What a side of a pair is ready for.
-fn prospect(object: &Object, side: Side) -> Prospect
+fn prospect(object: &HostPair, side: Side) -> Prospect
     ensures bits { result.bits ≡ bits_of (readiness no_own side object.now.pair.state) (enough 36 object.now.pair.free) }
     ensures queue { queue_at result.queue ≡ slice_get object.now.pair.state.enabled 0 }
     ensures few { result.queue ≤ 12 }
@@ -69,7 +69,7 @@ fn prospect(object: &Object, side: Side) -> Prospect
 
 // A pair of a host: its system, and its number there.
 struct Found<'a> {
-    system: &'a System<Object>,
+    system: &'a System<HostPair>,
     pair: u32,
 }
 
@@ -119,7 +119,7 @@ impl Member {
         let Some(Found { system, pair }) = self.found(pair) else {
             return not_done(Refusal::Einval);
         };
-        let look = |object: &Object| prospect(object, side);
+        let look = |object: &HostPair| prospect(object, side);
         match system.try_look(&NoBell, pair, look) {
             Ok((visit, seen)) => {
                 drop(visit);
