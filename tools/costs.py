@@ -35,12 +35,6 @@ def wrong_of(crate):
     return len(glob.glob(f"crates/{crate}/wrong/*.edit"))
 
 
-def lanes():
-    """In how many lanes a run goes: as many as RT_JOBS says, or as there are cores."""
-    asked = os.environ.get("RT_JOBS", "")
-    return int(asked) if asked.isdigit() else len(os.sched_getaffinity(0))
-
-
 def parts_of(seen):
     """What a run's processes have used of the processor, by crate and part, in seconds."""
     parts = collections.defaultdict(dict)
@@ -50,14 +44,14 @@ def parts_of(seen):
     return parts
 
 
-def whole_of(wall, used, closing, parts):
+def whole_of(wall, used, lanes, closing, parts):
     """What is told of a run from nothing as a whole."""
     wrong = sum(own.get("wrong", 0) for own in parts.values())
     return {
         "closing": closing,
         "minutes": round(wall / 60),
         "cores": len(os.sched_getaffinity(0)),
-        "lanes": lanes(),
+        "lanes": lanes,
         "processor": round(used / 60),
         "wrong": round(100 * wrong / max(used, 1)),
     }

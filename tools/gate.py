@@ -161,12 +161,12 @@ def main():
     asked = parser.parse_args()
     # (what tools/ahead.py began is stopped on the way out, and only an exception goes there)
     signal.signal(signal.SIGTERM, lambda *_: sys.exit(143))
-    began = time.monotonic()
+    began, many = time.monotonic(), lanes()
     seen, passed, failed = run_gate(asked)
     used = resource.getrusage(resource.RUSAGE_CHILDREN)
     closing, wall = f"{passed} passed, {failed} failed", time.monotonic() - began
     parts = costs.parts_of(seen)
-    whole = costs.whole_of(wall, used.ru_utime + used.ru_stime, closing, parts)
+    whole = costs.whole_of(wall, used.ru_utime + used.ru_stime, many, closing, parts)
     lines = costs.table({"crates": parts, "wholes": [whole]})
     print("\n".join(["", *lines, "", closing]), flush=True)
     if asked.write and not failed:
