@@ -62,8 +62,8 @@ def kept():
 
 
 def joined(before, parts, whole):
-    """The kept figures with those of a run in their place: the parts of the crates that it was at; or, of a whole run, its line, and all parts where no
-    whole run in fewer lanes is kept, as what stands in more of them takes longer."""
+    """The kept figures with those of a run in their place: the parts of the crates that it was at; or, of a whole run, its line, and all parts where
+    no whole run in fewer lanes is kept, as what stands in more of them takes longer."""
     others = [one for one in before["wholes"] if whole and one["lanes"] != whole["lanes"]]
     if any(one["lanes"] < whole["lanes"] for one in others):
         parts, kept_parts = {}, before["crates"]
