@@ -6,11 +6,11 @@ import os
 import textwrap
 
 PAGE, HEADING, FIGURES = "docs/GATE.md", "## What it costs", "tools/costs.json"
-PARTS = ("proof", "tests", "wrong")
+PARTS = ("proof", "tests", "built", "wrong")
 # What the proofs and tests of 1000 lines may take, in CPU minutes, in crates of so many lines: smaller ones take what they load.
 RATE_MOST, LINES_LEAST = 3, 300
 
-Row = collections.namedtuple("Row", "crate lines proof tests edits wrong")
+Row = collections.namedtuple("Row", "crate lines proof tests built edits wrong")
 
 
 def text_of(path):
@@ -85,11 +85,12 @@ def is_dear(row):
 
 
 def cost_of(row):
-    return row.proof + row.tests + row.wrong
+    return row.proof + row.tests + row.built + row.wrong
 
 
 def row_of(row):
-    return f"| {row.crate} | {row.lines} | {row.proof:.0f} | {row.tests:.0f} | {rate_of(row):.1f} | {row.edits} | {row.wrong:.0f} |"
+    rate, built = f"{rate_of(row):.1f}", f"{row.built:.0f}"
+    return f"| {row.crate} | {row.lines} | {row.proof:.0f} | {row.tests:.0f} | {rate} | {built} | {row.edits} | {row.wrong:.0f} |"
 
 
 def together(name, rows):
@@ -108,14 +109,14 @@ def table(figures):
     """A row for each crate that takes a twenty-fifth of the whole, or more than its lines may, one for all others, and one for all."""
     rows = []
     for crate in crates():
-        proof, tests, wrong = (figures["crates"].get(crate, {}).get(part, 0) for part in PARTS)
-        if proof or tests or wrong:
-            rows.append(Row(crate, lines_of(crate), proof, tests, wrong_of(crate), wrong))
+        proof, tests, built, wrong = (figures["crates"].get(crate, {}).get(part, 0) for part in PARTS)
+        if proof or tests or built or wrong:
+            rows.append(Row(crate, lines_of(crate), proof, tests, built, wrong_of(crate), wrong))
     whole = together("all", rows)
     dear = [row for row in rows if cost_of(row) >= cost_of(whole) / 25 or is_dear(row)]
     rest = [row for row in rows if row not in dear]
-    yield "| Crate | Lines, with tests | Proof, CPU s | Tests, CPU s | 1000 lines, CPU min | Wrong bodies | CPU s |"
-    yield "|---|---|---|---|---|---|---|"
+    yield "| Crate | Lines, with tests | Proof, CPU s | Tests, CPU s | 1000 lines, CPU min | Program, CPU s | Wrong bodies | CPU s |"
+    yield "|---|---|---|---|---|---|---|---|"
     yield from map(row_of, [*dear, *([together(f"{len(rest)} others", rest)] if rest else []), whole])
     for whole in figures["wholes"]:
         yield ""

@@ -9,7 +9,7 @@ that are left behind it. It passes over what an earlier run on this machine pass
 of these and those below them, and the table has those that were at work. --write keeps the figures (tools/costs.json) and puts the table of all
 into docs/GATE.md, where nothing failed, for a run with nothing else at work on the machine: the parts of each crate that the run was at are told
 anew, and what is said of the whole where the run was of all, from nothing. It looks twice a second at the checker's processes: what each has used of
-the processor counts for the proof, the tests or the wrong bodies of its crate.
+the processor counts for the proof, the tests or the wrong bodies of its crate, or for its program, which is compiled behind the proof.
 """
 import argparse
 import glob
@@ -45,7 +45,9 @@ class Process:
             folder = os.readlink(f"/proc/{number}/cwd")
         except OSError:
             pass
-        self.part = "wrong" if "/wrong-" in folder else "tests" if "--test" in words else "proof"
+        # (a program, once it is proved, is compiled by two compilers)
+        is_built = "--crate-checked" in words
+        self.part = "wrong" if "/wrong-" in folder else "built" if is_built else "tests" if "--test" in words else "proof"
 
     def goes_on(self):
         return start_of(self.number) == self.start

@@ -33,11 +33,10 @@ use Rattle.strm_locks.specs.Ends.{Calls, Share}
 use Rattle.strm_locks.specs.Systems.{Numbered, Plan, numbered}
 use Rattle.strm_handle.specs.declared.asks.Ask.{Ask}
 use Rattle.strm_handle.specs.Calls.{answer_in, brought, event_at}
-use Rattle.strm_ends.specs.declared.hold.Hold.{Hold}
 use Rattle.strm_ends.specs.declared.hold.Hold.TheVariants.{End}
 use Rattle.strm_ends.specs.Calling.{CallsEnd, CallsOf, IsAnswered, KeepsFew, Told, TellsAnswer, asked_by}
 use Rattle.strm_ends.specs.Calling as calling
-use Rattle.strm_ends.specs.Members.{Seated, seated}
+use Rattle.strm_ends.specs.Members.{InHand, Seated, seated}
 
 part-bytes : (o : Option (List ℕ)) → length (part (option_map (bytes_of plain) o)) ≡ length (part o)
 part-bytes None = refl
@@ -135,7 +134,7 @@ same-end : (e f : Numbered) → f.pair ≡ e.pair → f.minor ≡ e.minor → f 
 same-end e f pair minor = ap (λ (n : ℕ). numbered n f.minor f.end) pair ∙ ap (λ (m : Option ℕ). numbered e.pair m f.end) minor
 
 -- a call that is answered, at the member whose end made it
-pub called-by : (ask : Ask) (brings : List ℕ) (t : Told) (host : List Plan) (opener : Option (List Holding)) (hold : Hold) (a : Seated)
+pub called-by : (ask : Ask) (brings : List ℕ) (t : Told) (host : List Plan) (opener : Option (List Holding)) (hold : InHand) (a : Seated)
     (system : ℕ) (e f : Numbered) (asked : Request) (answer : Answer ℕ) (content : List ℕ)
     → seated host opener hold ≡ a → hold ≡ End system e → asked_by ask brings (length t.before) ≡ Some asked
     → f.pair ≡ e.pair → f.minor ≡ e.minor → Calls e.end asked [] content (Ok answer) f.end
@@ -157,5 +156,5 @@ called-by ask brings t host opener hold a system e f asked answer content view i
       others = others;
     } in
     subst (λ (x : Seated). CallsEnd ask brings t x (Ok tt) b) view
-    (subst (λ (h : Hold). CallsEnd ask brings t (seated host opener h) (Ok tt) b) (sym is)
+    (subst (λ (h : InHand). CallsEnd ask brings t (seated host opener h) (Ok tt) b) (sym is)
     (subst (λ (o : Option Request). CallsOf o (seated host opener (End system e)) system e t (Ok tt) b) (sym asks) done))

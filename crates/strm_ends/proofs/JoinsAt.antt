@@ -1,11 +1,10 @@
 -- Two members that aren't joined stay, at their handles.
 use Rattle.std.proofs.Common.{ℕ, ◌≡◌, false, sym, subst}
 use Rattle.std.specs.Prelude.{Option, None, Some}
-use Rattle.strm_ends.specs.declared.hold.Hold.{Hold}
-use Rattle.strm_ends.specs.Members.{Seated}
+use Rattle.strm_ends.specs.Members.{InHand, Seated}
 use Rattle.strm_ends.specs.Sharing.{Joins, JoinsMember, joined_by, joins_as}
 
-stays-apart : (o : Option Hold) (a c x y : Seated) (last other : Option Seated) (n : ℕ)
+stays-apart : (o : Option InHand) (a c x y : Seated) (last other : Option Seated) (n : ℕ)
     → JoinsMember o a c false x y → last ≡ Some x → other ≡ Some y → n ≡ 1 → joins_as o a c last other n
 stays-apart None a c x y last other n made behind beside told = (told, (cc), (cc))
 stays-apart (Some hold) a c x y last other n made behind beside told = absurd (cc)

@@ -13,11 +13,10 @@ use Rattle.strm_handle.specs.declared.asks.Ask.{Ask}
 use Rattle.strm_handle.specs.declared.replies.Reply.{Reply}
 use Rattle.strm_handle.specs.Calls.{answer_in, brought, event_at}
 use Rattle.strm_handle.specs.Outcomes.{Stay}
-use Rattle.strm_ends.specs.declared.hold.Hold.{Hold}
 use Rattle.strm_ends.specs.declared.hold.Hold.TheVariants.{Nothing, Minor, End}
 use Rattle.strm_ends.specs.declared.numbers.NotDone.{NotDone}
 use Rattle.strm_ends.specs.declared.numbers.NotDone.TheVariants.{Busy, Refused}
-use Rattle.strm_ends.specs.Members.{Seated}
+use Rattle.strm_ends.specs.Members.{InHand, Seated}
 use Rattle.strm_ends.specs.Opening.{with_hold, with_share}
 use Rattle.strm_ends.specs.Outcomes.{Outcome, Refuses}
 
@@ -82,7 +81,7 @@ abbrev pub CallsOf : Option Request → Seated → ℕ → Numbered → Told →
 CallsOf None a system e t r b = Refuses Einval (Stay t.before t.out t.was t.reply) a r b
 CallsOf (Some asked) a system e t r b = CallsBy a system e asked t r b
 
-abbrev calls_where : Hold → Ask → List ℕ → Seated → Told → Outcome → Seated → Type 0
+abbrev calls_where : InHand → Ask → List ℕ → Seated → Told → Outcome → Seated → Type 0
 calls_where Nothing ask bytes a t r b = Refuses Einval (Stay t.before t.out t.was t.reply) a r b
 calls_where (Minor m) ask bytes a t r b = Refuses Einval (Stay t.before t.out t.was t.reply) a r b
 calls_where (End system e) ask bytes a t r b = CallsOf (asked_by ask bytes (length t.before)) a system e t r b

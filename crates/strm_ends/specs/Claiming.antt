@@ -2,12 +2,11 @@
 use Rattle.std.specs.Prelude.{ℕ, ◌≡◌, ◌+◌, ◌*◌, List, Option, None, Some, Ok, MatchResult, length}
 use Rattle.strm_types.specs.declared.refusals.Refusal.TheVariants.{Einval, NoMinor}
 use Rattle.strm_minors.specs.Openers.{Holding}
-use Rattle.strm_hosts.specs.declared.opener.HostMinor.{HostMinor}
-use Rattle.strm_hosts.specs.Hosts.{Claims, Passes, Releases}
-use Rattle.strm_ends.specs.declared.hold.Hold.{Hold}
+use Rattle.strm_system.specs.declared.opener.HostMinor.{HostMinor}
+use Rattle.strm_system.specs.Hosts.{Claims, Passes, Releases}
 use Rattle.strm_ends.specs.declared.hold.Hold.TheVariants.{Nothing, Minor, End}
 use Rattle.strm_ends.specs.declared.numbers.NotDone.TheVariants.{Refused}
-use Rattle.strm_ends.specs.Members.{Seated, seated}
+use Rattle.strm_ends.specs.Members.{InHand, Seated, seated}
 use Rattle.strm_ends.specs.Outcomes.{Outcome, Refuses}
 
 -- The opener claims the first minor that it finds free: it is in hand, and the number of its pair is told.
@@ -28,7 +27,7 @@ abbrev pub ClaimsBy : Seated → List Holding → (was told : ℕ) → Outcome �
 ClaimsBy a opener was told r b = MatchResult r (λ _. IsClaimed a opener told b) (λ why. (why ≡ Refused NoMinor) × (told ≡ was) × IsPassed a opener b)
 
 -- EINVAL where something is in hand, and where there is no opener.
-abbrev claims_where : Option (List Holding) → Hold → Seated → (was told : ℕ) → Outcome → Seated → Type 0
+abbrev claims_where : Option (List Holding) → InHand → Seated → (was told : ℕ) → Outcome → Seated → Type 0
 claims_where None hold a was told r b = Refuses Einval (told ≡ was) a r b
 claims_where (Some opener) Nothing a was told r b = ClaimsBy a opener was told r b
 claims_where (Some opener) (Minor minor) a was told r b = Refuses Einval (told ≡ was) a r b
@@ -43,7 +42,7 @@ pub record IsReleased (a : Seated) (opener : List Holding) (minor : HostMinor) (
   pub released : Releases opener minor.system minor.minor behind
   pub left : b ≡ seated a.host (Some behind) Nothing
 
-abbrev releases_where : Option (List Holding) → Hold → Seated → Outcome → Seated → Type 0
+abbrev releases_where : Option (List Holding) → InHand → Seated → Outcome → Seated → Type 0
 releases_where None hold a r b = Refuses Einval (Unit {0}) a r b
 releases_where (Some opener) Nothing a r b = Refuses Einval (Unit {0}) a r b
 releases_where (Some opener) (End system end) a r b = Refuses Einval (Unit {0}) a r b

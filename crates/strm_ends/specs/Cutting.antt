@@ -4,11 +4,10 @@ use Rattle.strm_types.specs.declared.refusals.Refusal.TheVariants.{Einval, NoMem
 use Rattle.strm_image.specs.declared.trace.Trace.{Trace}
 use Rattle.strm_locks.specs.Systems.{Numbered}
 use Rattle.strm_locks.specs.Turns.{IsCut, Visited}
-use Rattle.strm_ends.specs.declared.hold.Hold.{Hold}
 use Rattle.strm_ends.specs.declared.hold.Hold.TheVariants.{Nothing, Minor, End}
 use Rattle.strm_ends.specs.declared.numbers.NotDone.{NotDone}
 use Rattle.strm_ends.specs.declared.numbers.NotDone.TheVariants.{Busy, Refused}
-use Rattle.strm_ends.specs.Members.{Seated}
+use Rattle.strm_ends.specs.Members.{InHand, Seated}
 use Rattle.strm_ends.specs.Outcomes.{AtMember, Outcome, Refuses}
 
 -- The end's pair was cut, by a visit of its own, and this is the trace.
@@ -24,7 +23,7 @@ abbrev pub CutsBy : Seated → Numbered → Option Trace → Outcome → Seated 
 CutsBy a e given r b = (b ≡ a) × MatchResult r (λ _. GivesTrace e given) (λ why. GivesNone given why)
 
 -- EINVAL where no end is in hand.
-abbrev cuts_where : Hold → Seated → Option Trace → Outcome → Seated → Type 0
+abbrev cuts_where : InHand → Seated → Option Trace → Outcome → Seated → Type 0
 cuts_where Nothing a given r b = Refuses Einval (given ≡ None) a r b
 cuts_where (Minor m) a given r b = Refuses Einval (given ≡ None) a r b
 cuts_where (End system e) a given r b = CutsBy a e given r b

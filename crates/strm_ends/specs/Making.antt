@@ -5,7 +5,7 @@ use Rattle.strm_types.specs.declared.refusals.Refusal.{Refusal}
 use Rattle.strm_types.specs.declared.refusals.Refusal.TheVariants.{Einval, NoMemory}
 use Rattle.strm_types.specs.Numbers.{number_of}
 use Rattle.strm_minors.specs.Openers.{Holding}
-use Rattle.strm_hosts.specs.Hosts.{all_opening}
+use Rattle.strm_system.specs.Hosts.{all_opening}
 use Rattle.strm_system.specs.Sizes.{AreSizes, IsCount, IsLaid, NotHosted}
 use Rattle.strm_ends.specs.declared.hold.Hold.TheVariants.{Nothing}
 use Rattle.strm_ends.specs.declared.numbers.NotDone.TheVariants.{Refused}

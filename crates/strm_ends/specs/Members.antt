@@ -1,20 +1,24 @@
 -- What a member has of a host, and what holds of it between any two calls.
-use Rattle.std.specs.Prelude.{ℕ, ◌≡◌, ◌≤◌, ◌/◌, ◌%◌, List, [], length, Option, None, Some, IfSome, IsSome, option_and_then, slice_get}
-use Rattle.strm_hosts.specs.declared.opener.HostMinor.{HostMinor}
-use Rattle.strm_hosts.specs.Hosts.{AreOf, HoldsAt}
+use Rattle.std.specs.Prelude.{ℕ, ◌≡◌, ◌≤◌, ◌/◌, ◌%◌, Bool, true, false, List, [], length, Option, None, Some, IfSome, IsSome, option_and_then, slice_get}
+use Rattle.strm_system.specs.declared.opener.HostMinor.{HostMinor}
+use Rattle.strm_system.specs.Hosts.{AreOf, HoldsAt}
 use Rattle.strm_minors.specs.Openers.{Holding}
 use Rattle.strm_locks.specs.Books.{LockId}
 use Rattle.strm_locks.specs.Systems.{Numbered, Plan}
 use Rattle.strm_ends.specs.declared.hold.Hold.{Hold}
 use Rattle.strm_ends.specs.declared.hold.Hold.TheVariants.{Nothing, Minor, End}
 
+-- nothing, a minor, or an end of a pair of this system
+abbrev pub InHand : Type 0
+InHand = Hold Numbered
+
 -- a member: its host, by the systems of it, its opener of minors, and what it has in hand
 pub record Seated : Type 0 where
   pub host : List Plan
   pub opener : Option (List Holding)
-  pub hold : Hold
+  pub hold : InHand
 
-abbrev pub seated : List Plan → Option (List Holding) → Hold → Seated
+abbrev pub seated : List Plan → Option (List Holding) → InHand → Seated
 seated host opener hold = record { host = host; opener = opener; hold = hold }
 
 -- the lock of a pair, by the number of its system and its own there
@@ -39,10 +43,16 @@ HasMinor _ system _ = ⊥
 abbrev pub HasEnd : List Plan → Option (List Holding) → ℕ → Numbered → Type 0
 HasEnd host opener system e = (lock_in host system e.pair ≡ Some e.end.lock) × HasMinor opener system e.minor
 
-abbrev pub HasInHand : List Plan → Option (List Holding) → Hold → Type 0
+abbrev pub HasInHand : List Plan → Option (List Holding) → InHand → Type 0
 HasInHand host opener Nothing = Unit {0}
 HasInHand host opener (Minor m) = HoldsMinor host opener m
 HasInHand host opener (End system e) = HasEnd host opener system e
+
+-- an end is in hand
+abbrev pub is_end : InHand → Bool
+is_end Nothing = false
+is_end (Minor m) = false
+is_end (End system e) = true
 
 -- what holds of a member and of its room for an answer
 pub record IsMember (m : Seated) (answer : List ℕ) : Type 0 where

@@ -1,19 +1,18 @@
 -- Pairs that are opened by a member: the master by the minor in hand, the slave by a call of the end in hand.
 use Rattle.std.specs.Prelude.{ℕ, ◌≡◌, ◌⊎◌, Option, None, Some, Ok, Err, MatchResult}
 use Rattle.strm_types.specs.declared.refusals.Refusal.TheVariants.{Einval, NoMemory}
-use Rattle.strm_hosts.specs.declared.opener.HostMinor.{HostMinor}
+use Rattle.strm_system.specs.declared.opener.HostMinor.{HostMinor}
 use Rattle.strm_locks.specs.Ends.{CallsSlave, IsOpened, Share}
 use Rattle.strm_locks.specs.Systems.{Numbered, numbered}
 use Rattle.strm_locks.specs.Turns.{IsRefusedOpen, Visited}
-use Rattle.strm_ends.specs.declared.hold.Hold.{Hold}
 use Rattle.strm_ends.specs.declared.hold.Hold.TheVariants.{Nothing, Minor, End}
 use Rattle.strm_ends.specs.declared.numbers.NotDone.{NotDone}
 use Rattle.strm_ends.specs.declared.numbers.NotDone.TheVariants.{Busy, Refused}
-use Rattle.strm_ends.specs.Members.{Seated, lock_in, seated}
+use Rattle.strm_ends.specs.Members.{InHand, Seated, lock_in, seated}
 use Rattle.strm_ends.specs.Outcomes.{Outcome, Refuses}
 
 -- the member with something else in hand
-abbrev pub with_hold : Hold → Seated → Seated
+abbrev pub with_hold : InHand → Seated → Seated
 with_hold hold a = seated a.host a.opener hold
 
 -- The master of the minor's pair is opened: an end of this pair, with the minor, is in hand.
@@ -34,7 +33,7 @@ abbrev pub OpensMinor : Seated → HostMinor → Outcome → Seated → Type 0
 OpensMinor a m r b = MatchResult r (λ _. IsOpenedBy a m b) (λ why. (b ≡ with_hold (Minor m) a) × NotOpened a m why)
 
 -- EINVAL where no minor is in hand.
-abbrev opens_where : Hold → Seated → Outcome → Seated → Type 0
+abbrev opens_where : InHand → Seated → Outcome → Seated → Type 0
 opens_where Nothing a r b = Refuses Einval (Unit {0}) a r b
 opens_where (End system end) a r b = Refuses Einval (Unit {0}) a r b
 opens_where (Minor m) a r b = OpensMinor a m r b
@@ -64,7 +63,7 @@ abbrev pub OpensSlaveBy : Seated → ℕ → Numbered → Option Seated → Outc
 OpensSlaveBy a system e given r b = MatchResult r (λ _. IsSlaveOpened a system e given b) (λ why. (given ≡ None) × NoSlave a system e why b)
 
 -- EINVAL where no end is in hand.
-abbrev opens_slave_where : Hold → Seated → Option Seated → Outcome → Seated → Type 0
+abbrev opens_slave_where : InHand → Seated → Option Seated → Outcome → Seated → Type 0
 opens_slave_where Nothing a given r b = Refuses Einval (given ≡ None) a r b
 opens_slave_where (Minor m) a given r b = Refuses Einval (given ≡ None) a r b
 opens_slave_where (End system e) a given r b = OpensSlaveBy a system e given r b

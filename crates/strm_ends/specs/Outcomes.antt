@@ -15,6 +15,11 @@ number_told (Ok _) = 0
 number_told (Err Busy) = 12
 number_told (Err (Refused refusal)) = number_of refusal
 
+-- the second member that a step gives, where it is done
+abbrev pub made_where : Outcome → Seated → Option Seated
+made_where (Ok _) second = Some second
+made_where (Err _) second = None
+
 -- It is refused by this name: the member stays, and what the caller's pointers lead to.
 abbrev pub Refuses : Refusal → Type 0 → Seated → Outcome → Seated → Type 0
 Refuses refusal stays a r b = (r ≡ Err (Refused refusal)) × (b ≡ a) × stays

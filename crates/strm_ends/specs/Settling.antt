@@ -1,7 +1,7 @@
 -- A pair that is settled by the end in hand, and one whose journal begins anew.
 use Rattle.std.specs.Prelude.{ℕ, ◌≡◌, ◌≢◌, ◌⊎◌, None, Some, MatchResult}
 use Rattle.strm_types.specs.declared.refusals.Refusal.TheVariants.{Einval, StillShared}
-use Rattle.strm_hosts.specs.declared.opener.HostMinor.{HostMinor}
+use Rattle.strm_system.specs.declared.opener.HostMinor.{HostMinor}
 use Rattle.strm_locks.specs.declared.end.TheConstants.{ALL_PARTS}
 use Rattle.strm_locks.specs.declared.held.Settled.{Settled}
 use Rattle.strm_locks.specs.Settles.{IsSettled}
@@ -9,11 +9,10 @@ use Rattle.strm_locks.specs.Systems.{Numbered}
 use Rattle.strm_locks.specs.Turns.{IsRestart, Visited}
 use Rattle.strm_handle.specs.Outcomes.{books_told}
 use Rattle.strm_ends.specs.declared.accounts.Account.{Account}
-use Rattle.strm_ends.specs.declared.hold.Hold.{Hold}
 use Rattle.strm_ends.specs.declared.hold.Hold.TheVariants.{Nothing, Minor, End}
 use Rattle.strm_ends.specs.declared.numbers.NotDone.{NotDone}
 use Rattle.strm_ends.specs.declared.numbers.NotDone.TheVariants.{Busy, Refused}
-use Rattle.strm_ends.specs.Members.{Seated, lock_in}
+use Rattle.strm_ends.specs.Members.{InHand, Seated, lock_in}
 use Rattle.strm_ends.specs.Opening.{with_hold}
 use Rattle.strm_ends.specs.Outcomes.{Outcome, Refuses}
 use Rattle.strm_ends.specs.Sharing.{sums_told}
@@ -45,7 +44,7 @@ SettlesBy a system e was account r b =
     MatchResult r (λ _. IsSettledBy a system e account b) (λ why. (account ≡ was) × (b ≡ with_hold (End system e) a) × NotSettled e why)
 
 -- EINVAL where no end is in hand.
-abbrev settles_where : Hold → Seated → (was account : Account) → Outcome → Seated → Type 0
+abbrev settles_where : InHand → Seated → (was account : Account) → Outcome → Seated → Type 0
 settles_where Nothing a was account r b = Refuses Einval (account ≡ was) a r b
 settles_where (Minor m) a was account r b = Refuses Einval (account ≡ was) a r b
 settles_where (End system e) a was account r b = SettlesBy a system e was account r b
@@ -57,7 +56,7 @@ Settles was account a r b = settles_where a.hold a was account r b
 abbrev pub RestartsBy : Seated → Numbered → Outcome → Seated → Type 0
 RestartsBy a e r b = (b ≡ a) × MatchResult r (λ _. (v : Visited) × IsRestart e.end.lock v) (λ why. why ≡ Busy)
 
-abbrev restarts_where : Hold → Seated → Outcome → Seated → Type 0
+abbrev restarts_where : InHand → Seated → Outcome → Seated → Type 0
 restarts_where Nothing a r b = Refuses Einval (Unit {0}) a r b
 restarts_where (Minor m) a r b = Refuses Einval (Unit {0}) a r b
 restarts_where (End system e) a r b = RestartsBy a e r b

@@ -9,11 +9,10 @@ use Rattle.strm_locks.specs.Systems.{Numbered, joined_ends, numbered}
 use Rattle.strm_handle.specs.Numbers.{side_at}
 use Rattle.strm_ends.specs.declared.accounts.Share.{Share}
 use Rattle.strm_ends.specs.declared.accounts.Sums.{Sums}
-use Rattle.strm_ends.specs.declared.hold.Hold.{Hold}
 use Rattle.strm_ends.specs.declared.hold.Hold.TheVariants.{Nothing, Minor, End}
 use Rattle.strm_ends.specs.declared.numbers.NotDone.{NotDone}
 use Rattle.strm_ends.specs.declared.numbers.NotDone.TheVariants.{Refused}
-use Rattle.strm_ends.specs.Members.{Seated, seated}
+use Rattle.strm_ends.specs.Members.{InHand, Seated, seated}
 use Rattle.strm_ends.specs.Opening.{with_hold, with_share}
 use Rattle.strm_ends.specs.Outcomes.{Outcome, Refuses}
 
@@ -32,7 +31,7 @@ pub record Shows (share : Share) (system : ℕ) (e : Numbered) : Type 0 where
   pub orphaned : share.orphaned ≡ e.end.caller.orphaned
 
 -- EINVAL where no end is in hand; the member stays.
-abbrev shows_where : Hold → Seated → (was share : Share) → Outcome → Seated → Type 0
+abbrev shows_where : InHand → Seated → (was share : Share) → Outcome → Seated → Type 0
 shows_where Nothing a was share r b = Refuses Einval (share ≡ was) a r b
 shows_where (Minor m) a was share r b = Refuses Einval (share ≡ was) a r b
 shows_where (End system e) a was share r b = (r ≡ Ok tt) × (b ≡ a) × Shows share system e
@@ -41,7 +40,7 @@ abbrev pub ShowsEnd : (was share : Share) → Seated → Outcome → Seated → 
 ShowsEnd was share a r b = shows_where a.hold a was share r b
 
 -- A process of another group makes the end's later calls.
-abbrev groups_where : Hold → (group : ℕ) (ignores orphaned : Bool) → Seated → Outcome → Seated → Type 0
+abbrev groups_where : InHand → (group : ℕ) (ignores orphaned : Bool) → Seated → Outcome → Seated → Type 0
 groups_where Nothing group ignores orphaned a r b = Refuses Einval (Unit {0}) a r b
 groups_where (Minor m) group ignores orphaned a r b = Refuses Einval (Unit {0}) a r b
 groups_where (End system e) group ignores orphaned a r b =
@@ -65,7 +64,7 @@ abbrev pub SplitsBy : Seated → ℕ → Numbered → Option Seated → Outcome 
 SplitsBy a system e given r b =
     MatchResult r (λ _. IsCut a system e given b) (λ why. (given ≡ None) × (b ≡ with_hold (End system e) a) × NotCut e why)
 
-abbrev splits_where : Hold → Seated → Option Seated → Outcome → Seated → Type 0
+abbrev splits_where : InHand → Seated → Option Seated → Outcome → Seated → Type 0
 splits_where Nothing a given r b = Refuses Einval (given ≡ None) a r b
 splits_where (Minor m) a given r b = Refuses Einval (given ≡ None) a r b
 splits_where (End system e) a given r b = SplitsBy a system e given r b
@@ -84,7 +83,7 @@ abbrev pub StayApart : (first second last other : Option Seated) → ℕ → Typ
 StayApart first second last other n = (n ≡ 1) × (last ≡ first) × (other ≡ second)
 
 -- Two ends of one pair are one. Ends of two pairs aren't joined, nor is what is no end.
-abbrev pub joined_holds : Hold → Hold → Option Hold
+abbrev pub joined_holds : InHand → InHand → Option InHand
 joined_holds (End system e) (End there f) = if system == there && e.pair == f.pair then Some (End system (joined_ends e f)) else None
 joined_holds (End system e) Nothing = None
 joined_holds (End system e) (Minor m) = None
@@ -92,11 +91,11 @@ joined_holds Nothing hold = None
 joined_holds (Minor m) hold = None
 
 -- What is joined is in hand of the first member, and the second is closed; else both stay, by EINVAL. So they do where the second has an opener.
-abbrev pub joins_as : Option Hold → Seated → Seated → (last other : Option Seated) → ℕ → Type 0
+abbrev pub joins_as : Option InHand → Seated → Seated → (last other : Option Seated) → ℕ → Type 0
 joins_as None a c last other n = StayApart (Some a) (Some c) last other n
 joins_as (Some hold) a c last other n = (n ≡ 0) × (last ≡ Some (with_hold hold a)) × (other ≡ None)
 
-abbrev pub joined_by : Option (List Holding) → Hold → Hold → Option Hold
+abbrev pub joined_by : Option (List Holding) → InHand → InHand → Option InHand
 joined_by None first second = joined_holds first second
 joined_by (Some opener) first second = None
 
@@ -106,6 +105,6 @@ Joins (Some a) None last other n = StayApart (Some a) None last other n
 Joins (Some a) (Some c) last other n = joins_as (joined_by c.opener a.hold c.hold) a c last other n
 
 -- the same of the two members, where the second has nothing in hand then; it is told whether they are joined
-abbrev pub JoinsMember : Option Hold → Seated → Seated → Bool → (last other : Seated) → Type 0
+abbrev pub JoinsMember : Option InHand → Seated → Seated → Bool → (last other : Seated) → Type 0
 JoinsMember None a c joined last other = (joined ≡ false) × (last ≡ a) × (other ≡ c)
 JoinsMember (Some hold) a c joined last other = (joined ≡ true) × (last ≡ with_hold hold a) × (other ≡ with_hold Nothing c)

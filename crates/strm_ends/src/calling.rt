@@ -11,11 +11,11 @@ ghost use Rattle.strm_ends.specs.Sharing.{Groups};
 
 use crate::handle::Handle;
 use crate::hold::Hold;
-use crate::member::Member;
 use crate::numbers::{NotDone, Outcome, not_done, number};
+use crate::seats::Seat;
 use std::alloc::Global;
 use strm_handle::{Ask, Reply, brought, event_of, give, refused, replied};
-use strm_locks::{Busy, NoBell};
+use strm_locks::{Busy, NoBell, Object};
 use strm_types::{Answer, Event, Refusal};
 
 // The call that an end makes by these numbers, where the buffer has room for its greatest answer.
@@ -48,7 +48,7 @@ fn tell(answer: &Answer<u32>, content: &[u8], out: &mut [u8]) -> Reply
     }
 }
 
-impl Member {
+impl<P: Object> Seat<P> {
     // Makes a call by the end in hand.
     fn call(&mut self, ask: &Ask, bytes: &[u8], out: &mut [u8], reply: &mut Reply) -> Outcome
         ensures { CallsEnd ask.now bytes.now (told_of out.old out.new reply.old reply.new) self.old result self.new }
@@ -100,7 +100,7 @@ pub fn call(
     let Some(mut member) = handle.take(alloc) else {
         return refused(Refusal::Einval);
     };
-    let outcome = member.as_mut().call(ask, bytes, out, reply);
+    let outcome = member.as_mut().seat.call(ask, bytes, out, reply);
     handle.put(member);
     number(outcome)
 }
@@ -119,7 +119,7 @@ pub fn set_group(
     let Some(mut member) = handle.take(alloc) else {
         return refused(Refusal::Einval);
     };
-    let outcome = member.as_mut().set_group(group, ignores, orphaned);
+    let outcome = member.as_mut().seat.set_group(group, ignores, orphaned);
     handle.put(member);
     number(outcome)
 }

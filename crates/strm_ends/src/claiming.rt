@@ -6,15 +6,16 @@ ghost use Rattle.strm_ends.specs.Outcomes.{AtMember};
 
 use crate::handle::Handle;
 use crate::hold::Hold;
-use crate::member::Member;
 use crate::numbers::{Outcome, not_done, number, pair_number};
+use crate::seats::Seat;
 use std::alloc::Global;
 use std::mem::replace;
 use strm_handle::refused;
-use strm_hosts::HostMinor;
+use strm_locks::Object;
+use strm_system::HostMinor;
 use strm_types::Refusal;
 
-impl Member {
+impl<P: Object> Seat<P> {
     // Claims a minor, as nothing is in hand.
     fn claim(&mut self, pair: &mut u32) -> Outcome
         ensures { ClaimsMinor pair.old pair.new self.old result self.new }
@@ -62,7 +63,7 @@ pub fn claim(alloc: Global, handle: &mut Handle, pair: &mut u32) -> u32
     let Some(mut member) = handle.take(alloc) else {
         return refused(Refusal::Einval);
     };
-    let outcome = member.as_mut().claim(pair);
+    let outcome = member.as_mut().seat.claim(pair);
     handle.put(member);
     number(outcome)
 }
@@ -74,7 +75,7 @@ pub fn release(alloc: Global, handle: &mut Handle) -> u32
     let Some(mut member) = handle.take(alloc) else {
         return refused(Refusal::Einval);
     };
-    let outcome = member.as_mut().release();
+    let outcome = member.as_mut().seat.release();
     handle.put(member);
     number(outcome)
 }

@@ -5,21 +5,21 @@ ghost use Rattle.strm_ends.specs.Cutting.{CutsBy, CutsEnd, WithTrace};
 ghost use Rattle.strm_ends.specs.Members.{HasEnd};
 
 use crate::handle::Handle;
-use crate::hold::{Hold, HostPair};
-use crate::member::Member;
+use crate::hold::Hold;
 use crate::numbers::{NotDone, Outcome, not_done, number};
+use crate::seats::Seat;
 use std::alloc::Global;
 use strm_handle::{TraceHandle, TraceRoom, refused};
-use strm_locks::{Cut, NoBell, PairEnd};
+use strm_locks::{Cut, NoBell, Object, PairEnd};
 use strm_types::{NoMemory, Refusal};
 
-impl Member {
+impl<P: Object> Seat<P> {
     // Cuts the pair of an end. The memory of the handle's trace is taken before its lock.
     fn cut_by(
         &self,
         alloc: Global,
         system: u32,
-        end: &PairEnd<HostPair>,
+        end: &PairEnd<P>,
         trace: &mut TraceHandle,
     ) -> Outcome
         requires end { HasEnd self.now.host self.now.opener system end.now }
@@ -73,7 +73,7 @@ pub fn cut(alloc: Global, handle: &mut Handle, trace: &mut TraceHandle) -> u32
     let Some(member) = handle.take(alloc) else {
         return refused(Refusal::Einval);
     };
-    let outcome = member.as_ref().cut(alloc, trace);
+    let outcome = member.as_ref().seat.cut(alloc, trace);
     handle.put(member);
     number(outcome)
 }

@@ -1,9 +1,11 @@
 //! The handle of a C program.
 
 ghost use Rattle.std.specs.Prelude.{◌≡◌, None, Some, is_some, option_map};
+ghost use Rattle.strm_ends.specs.Outcomes.{made_where};
 
 use crate::held::Held;
 use crate::member::Member;
+use crate::numbers::Outcome;
 use crate::parts::Parts;
 use std::alloc::Global;
 use std::marker::Send;
@@ -40,6 +42,17 @@ impl Handle {
             held: Held::of_parts(Parts::of(member)),
             is_open: true,
         });
+    }
+
+    /// Puts a second member into a closed handle, where the step that made it is done, and drops it else.
+    pub(crate) fn put_made(&mut self, second: Box<Member, Global>, outcome: &Outcome)
+        requires { self.old.held.kept ≡ None }
+        ensures { self.new.held.kept ≡ made_where outcome.now second.value }
+    {
+        match outcome {
+            Ok(()) => self.put(second),
+            Err(_) => drop(second),
+        }
     }
 
     /// Takes the member out of a handle, which is closed then.

@@ -1,16 +1,11 @@
 //! What a member has in hand.
 
-use strm_hosts::HostMinor;
-use strm_locks::PairEnd;
-use strm_system::{Locked, Store};
-
-/// A pair of a host.
-pub(crate) type HostPair = Locked<Store>;
+use strm_system::HostMinor;
 
 /// Nothing, a minor that it claimed, or an end of a pair of this system.
 #[derive(Drop)]
-pub(crate) enum Hold {
+pub(crate) enum Hold<E> {
     Nothing,
     Minor(HostMinor),
-    End { system: u32, end: PairEnd<HostPair> },
+    End { system: u32, end: E },
 }

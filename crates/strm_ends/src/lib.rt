@@ -14,6 +14,7 @@ mod member;
 mod numbers;
 mod opening;
 mod parts;
+mod seats;
 mod settling;
 mod sharing;
 mod visiting;

@@ -1,42 +1,34 @@
 //! Making hosts and members, and freeing them.
 
-ghost use Rattle.std.specs.Arc.{arc_value};
-ghost use Rattle.std.specs.Prelude.{◌≡◌, ◌≤◌, None, Some, IfSome, MatchResult, length};
-ghost use Rattle.strm_hosts.specs.Hosts.{AreOf};
+ghost use Rattle.std.specs.Prelude.{◌≡◌, ◌≤◌, None, Some, IfSome, MatchResult, is_some, length};
+ghost use Rattle.strm_system.specs.Hosts.{AreOf};
 ghost use Rattle.strm_system.specs.Sizes.{NotHosted};
 ghost use Rattle.strm_ends.specs.declared.hold.Hold.TheVariants.{Nothing};
 ghost use Rattle.strm_ends.specs.Making.{IsFirst, Makes, Seats, sizes_of};
-ghost use Rattle.strm_ends.specs.Members.{HasInHand, seated};
-ghost use Rattle.strm_ends.specs.Outcomes.{WithMade};
+ghost use Rattle.strm_ends.specs.Members.{HasInHand, is_end, seated};
+ghost use Rattle.strm_ends.specs.Outcomes.{WithMade, made_where};
 
 use crate::handle::Handle;
-use crate::hold::{Hold, HostPair};
-use crate::member::Member;
+use crate::hold::Hold;
+use crate::member::{HostPair, Member};
 use crate::numbers::{Outcome, not_done, number};
+use crate::seats::Seat;
 use std::alloc::Global;
 use std::sync::Arc;
 use strm_handle::refused;
-use strm_hosts::{Host, HostOpener};
-use strm_system::host;
+use strm_locks::{Object, PairEnd};
+use strm_system::{Host, HostOpener, host};
 use strm_types::{Config, Content, Refusal};
 
 // The first member of a new host.
 fn first(alloc: Global, pairs: u32, sizes: Config) -> Result<Box<Member, Global>, Refusal>
     ensures { MatchResult result (λ b. IsFirst pairs sizes b.value) (NotHosted pairs sizes) }
 {
-    let (host, opener) = host(alloc, pairs, sizes)?;
-    let _ = host.systems();
-    let Ok(host) = Arc::new(alloc, host) else {
-        drop(opener);
+    let (host, opener) = host::<HostPair>(alloc, pairs, sizes)?;
+    let Some(seat) = Seat::first(alloc, host, opener) else {
         return Err(Refusal::NoMemory);
     };
-    let member = Member {
-        host,
-        opener: Some(opener),
-        hold: Hold::Nothing,
-        answer: Content::new(),
-    };
-    match Box::new(alloc, member) {
+    match Box::new(alloc, Member { seat }) {
         Ok(member) => Ok(member),
         Err(_) => Err(Refusal::NoMemory),
     }
@@ -70,27 +62,56 @@ pub fn sizes(blocks: usize, entries: usize, bytes: usize) -> Config
     }
 }
 
-/// A further member of a host, without an opener and with nothing in hand. None where memory is refused.
-pub(crate) fn beside(
-    alloc: Global,
-    host: &Arc<Host<HostPair>, Global>,
-) -> Option<Box<Member, Global>>
-    ensures { IfSome result (λ b. b.value ≡ seated (arc_value host.now) None Nothing) }
-{
-    let _ = host.systems();
-    let Ok(host) = Arc::try_clone(host) else {
-        return None;
-    };
-    let member = Member {
-        host,
-        opener: None,
-        hold: Hold::Nothing,
-        answer: Content::new(),
-    };
-    Box::new(alloc, member).ok()
-}
+impl<P: Object> Seat<P> {
+    // The first seat at a host, with this opener. None where memory is refused.
+    fn first(alloc: Global, host: Host<P>, opener: HostOpener) -> Option<Seat<P>>
+        requires { AreOf host opener }
+        ensures { IfSome result (λ s. s ≡ seated host (Some opener) Nothing) }
+    {
+        let _ = host.systems();
+        let Ok(host) = Arc::new(alloc, host) else {
+            return None;
+        };
+        Some(Seat {
+            host,
+            opener: Some(opener),
+            hold: Hold::Nothing,
+            answer: Content::new(),
+        })
+    }
 
-impl Member {
+    // A further seat at the host, without an opener and with nothing in hand. None where memory is refused.
+    fn beside(&self) -> Option<Seat<P>>
+        ensures { IfSome result (λ s. s ≡ seated self.now.host None Nothing) }
+    {
+        let Ok(host) = Arc::try_clone(&self.host) else {
+            return None;
+        };
+        Some(Seat {
+            host,
+            opener: None,
+            hold: Hold::Nothing,
+            answer: Content::new(),
+        })
+    }
+
+    /// Whether an end is in hand.
+    pub(crate) fn has_end(&self) -> bool
+        ensures { result ≡ is_end self.now.hold }
+    {
+        match &self.hold {
+            Hold::End { .. } => true,
+            _ => false,
+        }
+    }
+
+    // Whether it has an opener.
+    fn has_opener(&self) -> bool
+        ensures { result ≡ is_some self.now.opener }
+    {
+        self.opener.is_some()
+    }
+
     // Has an opener, as it has none and nothing in hand.
     fn have_opener(&mut self, opener: HostOpener)
         requires own { AreOf self.old.host opener }
@@ -101,11 +122,42 @@ impl Member {
     }
 
     /// Has something else in hand.
-    pub(crate) fn have(&mut self, hold: Hold)
+    pub(crate) fn have(&mut self, hold: Hold<PairEnd<P>>)
         requires { HasInHand self.old.host self.old.opener hold }
         ensures { self.new ≡ record self.old { hold = hold } }
     {
         self.hold = hold;
+    }
+
+    // Gives a second one an opener of its own.
+    fn seat(&mut self, alloc: Global, second: &mut Seat<P>) -> Outcome
+        requires beside { second.old ≡ seated self.old.host None Nothing }
+        ensures { Seats self.old (made_where result second.new) result self.new }
+    {
+        let Some(opener) = self.opener.take() else {
+            return not_done(Refusal::Einval);
+        };
+        match self.host.split_opener(alloc, opener) {
+            Err(back) => {
+                self.opener = Some(back);
+                not_done(Refusal::NoMemory)
+            }
+            Ok((first, new)) => {
+                self.opener = Some(first);
+                second.have_opener(new);
+                Ok(())
+            }
+        }
+    }
+}
+
+impl Member {
+    /// A further member of the host, without an opener and with nothing in hand. None where memory is refused.
+    pub(crate) fn beside(&self, alloc: Global) -> Option<Box<Member, Global>>
+        ensures { IfSome result (λ b. b.value ≡ seated self.now.host None Nothing) }
+    {
+        let seat = self.seat.beside()?;
+        Box::new(alloc, Member { seat }).ok()
     }
 
     // Makes a further member, with an opener of its own.
@@ -113,26 +165,15 @@ impl Member {
         requires { made.old.held.kept ≡ None }
         ensures { Seats self.old made.new.held.kept result self.new }
     {
-        let Some(opener) = self.opener.take() else {
+        if !self.seat.has_opener() {
             return not_done(Refusal::Einval);
-        };
-        let Some(mut second) = beside(alloc, &self.host) else {
-            self.opener = Some(opener);
+        }
+        let Some(mut second) = self.beside(alloc) else {
             return not_done(Refusal::NoMemory);
         };
-        match self.host.split_opener(alloc, opener) {
-            Err(back) => {
-                drop(second);
-                self.opener = Some(back);
-                not_done(Refusal::NoMemory)
-            }
-            Ok((first, new)) => {
-                self.opener = Some(first);
-                second.as_mut().have_opener(new);
-                made.put(second);
-                Ok(())
-            }
-        }
+        let outcome = self.seat.seat(alloc, &mut second.as_mut().seat);
+        made.put_made(second, &outcome);
+        outcome
     }
 }
 

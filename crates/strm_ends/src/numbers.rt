@@ -4,7 +4,7 @@ ghost use Rattle.std.specs.Prelude.{◌≡◌, ◌+◌, ◌*◌, ◌<◌};
 ghost use Rattle.strm_ends.specs.Outcomes.{number_told};
 
 use strm_handle::refused;
-use strm_hosts::PAIRS;
+use strm_system::PAIRS;
 use strm_types::Refusal;
 
 /// The number that is answered where another thread has the lock of the pair, behind those of refusals.

@@ -2,23 +2,23 @@
 
 ghost use Rattle.std.specs.Prelude.{◌≡◌, None};
 ghost use Rattle.strm_ends.specs.declared.hold.Hold.TheVariants.{Nothing};
-ghost use Rattle.strm_ends.specs.Members.{HasEnd, HoldsMinor};
+ghost use Rattle.strm_ends.specs.Members.{HasEnd, HoldsMinor, seated};
 ghost use Rattle.strm_ends.specs.Opening.{Opens, OpensMinor, OpensSlave, OpensSlaveBy};
-ghost use Rattle.strm_ends.specs.Outcomes.{AtMember, WithMade};
+ghost use Rattle.strm_ends.specs.Outcomes.{AtMember, WithMade, made_where};
 
 use crate::handle::Handle;
-use crate::hold::{Hold, HostPair};
-use crate::making::beside;
+use crate::hold::Hold;
 use crate::member::Member;
 use crate::numbers::{NotDone, Outcome, not_done, number};
+use crate::seats::Seat;
 use std::alloc::Global;
 use std::mem::replace;
 use strm_handle::refused;
-use strm_hosts::HostMinor;
-use strm_locks::{Busy, NoBell, PairEnd};
+use strm_locks::{Busy, NoBell, Object, PairEnd};
+use strm_system::HostMinor;
 use strm_types::Refusal;
 
-impl Member {
+impl<P: Object> Seat<P> {
     // Opens the master of a minor's pair, as nothing is in hand.
     fn open_minor(&mut self, minor: HostMinor) -> Outcome
         requires held { HoldsMinor self.old.host self.old.opener minor }
@@ -55,54 +55,55 @@ impl Member {
         }
     }
 
-    // Opens the slave by a call of an end, as nothing is in hand; the end is in hand then.
-    fn open_slave_by(
-        &mut self,
-        alloc: Global,
-        system: u32,
-        mut end: PairEnd<HostPair>,
-        made: &mut Handle,
-    ) -> Outcome
+    // Opens the slave by a call of an end, as nothing is in hand; the end is in hand then, and the slave's of a second one.
+    fn open_slave_by(&mut self, system: u32, mut end: PairEnd<P>, second: &mut Seat<P>) -> Outcome
         requires end { HasEnd self.old.host self.old.opener system end }
         requires empty { self.old.hold ≡ Nothing }
-        requires closed { made.old.held.kept ≡ None }
-        ensures { OpensSlaveBy self.old system end made.new.held.kept result self.new }
+        requires beside { second.old ≡ seated self.old.host None Nothing }
+        ensures { OpensSlaveBy self.old system end (made_where result second.new) result self.new }
     {
-        let Some(mut second) = beside(alloc, &self.host) else {
-            self.hold = Hold::End { system, end };
-            return not_done(Refusal::NoMemory);
-        };
         let opened = self.host.at(system).try_open_slave(&NoBell, &mut end);
-        self.hold = Hold::End { system, end };
+        self.have(Hold::End { system, end });
         match opened {
-            Err(Busy) => {
-                drop(second);
-                Err(NotDone::Busy)
-            }
-            Ok(Err(why)) => {
-                drop(second);
-                not_done(why)
-            }
+            Err(Busy) => Err(NotDone::Busy),
+            Ok(Err(why)) => not_done(why),
             Ok(Ok(slave)) => {
-                second.as_mut().have(Hold::End { system, end: slave });
-                made.put(second);
+                second.have(Hold::End { system, end: slave });
                 Ok(())
             }
         }
     }
 
-    // Opens the slave by a call of the end that is in hand.
+    // Opens the slave by a call of the end in hand: its end is in hand of a second one then.
+    fn open_slave(&mut self, second: &mut Seat<P>) -> Outcome
+        requires beside { second.old ≡ seated self.old.host None Nothing }
+        ensures { OpensSlave self.old (made_where result second.new) result self.new }
+    {
+        match replace(&mut self.hold, Hold::Nothing) {
+            Hold::End { system, end } => self.open_slave_by(system, end, second),
+            other => {
+                self.have(other);
+                not_done(Refusal::Einval)
+            }
+        }
+    }
+}
+
+impl Member {
+    // Opens the slave by a call of the end in hand. The memory of the second member is taken before that.
     fn open_slave(&mut self, alloc: Global, made: &mut Handle) -> Outcome
         requires { made.old.held.kept ≡ None }
         ensures { OpensSlave self.old made.new.held.kept result self.new }
     {
-        match replace(&mut self.hold, Hold::Nothing) {
-            Hold::End { system, end } => self.open_slave_by(alloc, system, end, made),
-            other => {
-                self.hold = other;
-                not_done(Refusal::Einval)
-            }
+        if !self.seat.has_end() {
+            return not_done(Refusal::Einval);
         }
+        let Some(mut second) = self.beside(alloc) else {
+            return not_done(Refusal::NoMemory);
+        };
+        let outcome = self.seat.open_slave(&mut second.as_mut().seat);
+        made.put_made(second, &outcome);
+        outcome
     }
 }
 
@@ -114,7 +115,7 @@ pub fn open(alloc: Global, handle: &mut Handle) -> u32
     let Some(mut member) = handle.take(alloc) else {
         return refused(Refusal::Einval);
     };
-    let outcome = member.as_mut().open();
+    let outcome = member.as_mut().seat.open();
     handle.put(member);
     number(outcome)
 }

@@ -11,15 +11,15 @@ ghost use Rattle.strm_ends.specs.Settling.{Restarts, Settles, SettlesBy, account
 
 use crate::accounts::Account;
 use crate::handle::Handle;
-use crate::hold::{Hold, HostPair};
-use crate::member::Member;
+use crate::hold::Hold;
 use crate::numbers::{NotDone, Outcome, not_done, number};
+use crate::seats::Seat;
 use crate::sharing::sums;
 use std::alloc::Global;
 use std::mem::replace;
 use strm_handle::{Books, refused};
-use strm_hosts::HostMinor;
-use strm_locks::{Busy, Closed, NoBell, PairEnd, Told};
+use strm_locks::{Busy, Closed, NoBell, Object, PairEnd, Told};
+use strm_system::HostMinor;
 use strm_types::{Ledger, Refusal};
 
 // A ledger, as a C program is told it.
@@ -46,9 +46,9 @@ pub(crate) fn account(told: &Told, ms: &Ledger, sm: &Ledger) -> Account
     }
 }
 
-impl Member {
+impl<P: Object> Seat<P> {
     // Settles the pair of an end, as nothing is in hand; its minor is in hand then, or the end.
-    fn settle_by(&mut self, system: u32, end: PairEnd<HostPair>, told: &mut Account) -> Outcome
+    fn settle_by(&mut self, system: u32, end: PairEnd<P>, told: &mut Account) -> Outcome
         requires end { HasEnd self.old.host self.old.opener system end }
         requires empty { self.old.hold ≡ Nothing }
         ensures { SettlesBy self.old system end told.old told.new result self.new }
@@ -110,7 +110,7 @@ pub fn settle(alloc: Global, handle: &mut Handle, told: &mut Account) -> u32
     let Some(mut member) = handle.take(alloc) else {
         return refused(Refusal::Einval);
     };
-    let outcome = member.as_mut().settle(told);
+    let outcome = member.as_mut().seat.settle(told);
     handle.put(member);
     number(outcome)
 }
@@ -122,7 +122,7 @@ pub fn restart(alloc: Global, handle: &mut Handle) -> u32
     let Some(member) = handle.take(alloc) else {
         return refused(Refusal::Einval);
     };
-    let outcome = member.as_ref().restart();
+    let outcome = member.as_ref().seat.restart();
     handle.put(member);
     number(outcome)
 }

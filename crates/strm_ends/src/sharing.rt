@@ -3,21 +3,21 @@
 ghost use Rattle.std.specs.Prelude.{◌≡◌, ◌<◌, None, Some, IfOk, MatchResult};
 ghost use Rattle.strm_locks.specs.Systems.{Numbered};
 ghost use Rattle.strm_ends.specs.declared.hold.Hold.TheVariants.{End, Nothing};
-ghost use Rattle.strm_ends.specs.Members.{HasEnd, HasInHand};
-ghost use Rattle.strm_ends.specs.Outcomes.{AtMember, WithMade};
+ghost use Rattle.strm_ends.specs.Members.{HasEnd, HasInHand, seated};
+ghost use Rattle.strm_ends.specs.Outcomes.{AtMember, WithMade, made_where};
 ghost use Rattle.strm_ends.specs.Sharing.{AreTogether, Joins, JoinsMember, Shows, ShowsEnd, SplitsBy, SplitsEnd, joined_by, joined_holds, sums_told};
 
 use crate::accounts::{Share, Sides, Sums};
 use crate::handle::Handle;
-use crate::hold::{Hold, HostPair};
-use crate::making::beside;
+use crate::hold::Hold;
 use crate::member::Member;
 use crate::numbers::{Outcome, not_done, number, pair_number};
+use crate::seats::Seat;
 use std::alloc::Global;
 use std::mem::replace;
 use strm_handle::{refused, side_number};
-use strm_hosts::{Host, HostOpener};
 use strm_locks::{Each, Object, PairEnd, Told};
+use strm_system::{Host, HostOpener};
 use strm_types::Refusal;
 
 // Bytes by side, as a C program is told them.
@@ -62,12 +62,12 @@ fn shown<P: Object>(system: u32, end: &PairEnd<P>) -> Share
 }
 
 // Joins what two members of a host have in hand, where both are ends of one pair.
-fn join_holds(
-    host: &Host<HostPair>,
+fn join_holds<P: Object>(
+    host: &Host<P>,
     opener: &Option<HostOpener>,
-    first: Hold,
-    second: Hold,
-) -> Result<Hold, (Hold, Hold)>
+    first: Hold<PairEnd<P>>,
+    second: Hold<PairEnd<P>>,
+) -> Result<Hold<PairEnd<P>>, (Hold<PairEnd<P>>, Hold<PairEnd<P>>)>
     requires first { HasInHand host.now opener.now first }
     requires second { HasInHand host.now None second }
     ensures joined { MatchResult result
@@ -104,9 +104,9 @@ fn join_holds(
     }
 }
 
-impl Member {
+impl<P: Object> Seat<P> {
     // Joins the end in hand of another member of the host, which has nothing in hand then. False: they stay.
-    fn join(&mut self, other: &mut Member) -> bool
+    fn join(&mut self, other: &mut Seat<P>) -> bool
         requires { self.old.host ≡ other.old.host }
         ensures { JoinsMember (joined_by other.old.opener self.old.hold other.old.hold) self.old other.old result self.new other.new }
     {
@@ -145,50 +145,56 @@ impl Member {
         }
     }
 
-    // Cuts an end in two, as nothing is in hand; the first is in hand then.
-    fn split_by(
-        &mut self,
-        alloc: Global,
-        system: u32,
-        end: PairEnd<HostPair>,
-        made: &mut Handle,
-    ) -> Outcome
+    // Cuts an end in two, as nothing is in hand; the first is in hand then, and the second of a second one.
+    fn split_by(&mut self, system: u32, end: PairEnd<P>, second: &mut Seat<P>) -> Outcome
         requires end { HasEnd self.old.host self.old.opener system end }
         requires empty { self.old.hold ≡ Nothing }
-        requires closed { made.old.held.kept ≡ None }
-        ensures { SplitsBy self.old system end made.new.held.kept result self.new }
+        requires beside { second.old ≡ seated self.old.host None Nothing }
+        ensures { SplitsBy self.old system end (made_where result second.new) result self.new }
     {
-        let Some(mut second) = beside(alloc, &self.host) else {
-            self.have(Hold::End { system, end });
-            return not_done(Refusal::NoMemory);
-        };
         match self.host.at(system).split_end(end) {
             Ok((end, other)) => {
                 self.have(Hold::End { system, end });
-                second.as_mut().have(Hold::End { system, end: other });
-                made.put(second);
+                second.have(Hold::End { system, end: other });
                 Ok(())
             }
             Err(end) => {
-                drop(second);
                 self.have(Hold::End { system, end });
                 not_done(Refusal::Erange)
             }
         }
     }
 
-    // Cuts the end in hand in two.
-    fn split(&mut self, alloc: Global, made: &mut Handle) -> Outcome
-        requires { made.old.held.kept ≡ None }
-        ensures { SplitsEnd self.old made.new.held.kept result self.new }
+    // Cuts the end in hand in two: the second is in hand of a second one then.
+    fn split(&mut self, second: &mut Seat<P>) -> Outcome
+        requires beside { second.old ≡ seated self.old.host None Nothing }
+        ensures { SplitsEnd self.old (made_where result second.new) result self.new }
     {
         match replace(&mut self.hold, Hold::Nothing) {
-            Hold::End { system, end } => self.split_by(alloc, system, end, made),
+            Hold::End { system, end } => self.split_by(system, end, second),
             other => {
                 self.have(other);
                 not_done(Refusal::Einval)
             }
         }
+    }
+}
+
+impl Member {
+    // Cuts the end in hand in two. The memory of the second member is taken before that.
+    fn split(&mut self, alloc: Global, made: &mut Handle) -> Outcome
+        requires { made.old.held.kept ≡ None }
+        ensures { SplitsEnd self.old made.new.held.kept result self.new }
+    {
+        if !self.seat.has_end() {
+            return not_done(Refusal::Einval);
+        }
+        let Some(mut second) = self.beside(alloc) else {
+            return not_done(Refusal::NoMemory);
+        };
+        let outcome = self.seat.split(&mut second.as_mut().seat);
+        made.put_made(second, &outcome);
+        outcome
     }
 }
 
@@ -199,7 +205,7 @@ pub fn told(alloc: Global, handle: &mut Handle, share: &mut Share) -> u32
     let Some(member) = handle.take(alloc) else {
         return refused(Refusal::Einval);
     };
-    let outcome = member.as_ref().told(share);
+    let outcome = member.as_ref().seat.told(share);
     handle.put(member);
     number(outcome)
 }
@@ -216,7 +222,7 @@ pub fn join(alloc: Global, handle: &mut Handle, other: &mut Handle) -> u32
         handle.put(first);
         return refused(Refusal::Einval);
     };
-    let joined = first.as_mut().join(second.as_mut());
+    let joined = first.as_mut().seat.join(&mut second.as_mut().seat);
     handle.put(first);
     if joined {
         drop(second);

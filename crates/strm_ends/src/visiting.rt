@@ -13,17 +13,17 @@ ghost use Rattle.strm_ends.specs.Visiting.{Audits, Looks, TellsVisit, TurnsFirst
 
 use crate::accounts::{Account, Prospect, Visit};
 use crate::handle::Handle;
-use crate::hold::HostPair;
-use crate::member::Member;
+use crate::member::{HostPair, Member};
 use crate::numbers::{NotDone, Outcome, not_done, number};
+use crate::seats::Seat;
 use crate::settling::account;
 use std::alloc::Global;
 use strm_handle::{
     NO_QUEUE, WRITE_BLOCKS_MOST, Went, bits_of, has_blocks, number_at, queue_number, refused,
     side_of, went,
 };
-use strm_hosts::PAIRS;
-use strm_locks::{Busy, Made, NoBell, System};
+use strm_locks::{Busy, Made, NoBell, Object, System};
+use strm_system::PAIRS;
 use strm_types::{Refusal, Side};
 
 // What a visit made, as a C program is told it.
@@ -68,14 +68,14 @@ fn prospect(object: &HostPair, side: Side) -> Prospect
 }
 
 // A pair of a host: its system, and its number there.
-struct Found<'a> {
-    system: &'a System<HostPair>,
+struct Found<'a, P: Object> {
+    system: &'a System<P>,
     pair: u32,
 }
 
-impl Member {
+impl<P: Object> Seat<P> {
     // The pair of a number, if there is one.
-    fn found(&self, pair: u32) -> Option<Found<'_>>
+    fn found(&self, pair: u32) -> Option<Found<'_, P>>
         ensures there { IfSome result (λ f. lock_at self.now.host pair ≡ slice_get f.system.now.locks f.pair) }
         ensures within { IfSome result (λ f. f.pair < length f.system.now.locks) }
         ensures none { IfNone result (lock_at self.now.host pair ≡ None) }
@@ -109,27 +109,6 @@ impl Member {
         }
     }
 
-    // Looks what a side of a pair is ready for.
-    fn look(&self, pair: u32, side: u32, told: &mut Prospect) -> Outcome
-        ensures { Looks pair side told.old told.new self.now result self.now }
-    {
-        let Some(side) = side_of(side) else {
-            return not_done(Refusal::Einval);
-        };
-        let Some(Found { system, pair }) = self.found(pair) else {
-            return not_done(Refusal::Einval);
-        };
-        let look = |object: &HostPair| prospect(object, side);
-        match system.try_look(&NoBell, pair, look) {
-            Ok((visit, seen)) => {
-                drop(visit);
-                *told = seen;
-                Ok(())
-            }
-            Err(Busy) => Err(NotDone::Busy),
-        }
-    }
-
     // Audits a pair.
     fn audit(&self, pair: u32, told: &mut Account) -> Outcome
         ensures { Audits pair told.old told.new self.now result self.now }
@@ -147,6 +126,29 @@ impl Member {
     }
 }
 
+impl Member {
+    // Looks what a side of a pair is ready for.
+    fn look(&self, pair: u32, side: u32, told: &mut Prospect) -> Outcome
+        ensures { Looks pair side told.old told.new self.now result self.now }
+    {
+        let Some(side) = side_of(side) else {
+            return not_done(Refusal::Einval);
+        };
+        let Some(Found { system, pair }) = self.seat.found(pair) else {
+            return not_done(Refusal::Einval);
+        };
+        let look = |object: &HostPair| prospect(object, side);
+        match system.try_look(&NoBell, pair, look) {
+            Ok((visit, seen)) => {
+                drop(visit);
+                *told = seen;
+                Ok(())
+            }
+            Err(Busy) => Err(NotDone::Busy),
+        }
+    }
+}
+
 /// Makes the turn of the queue of a pair that was enabled first, if one is, and tells it.
 pub fn turn(alloc: Global, handle: &mut Handle, pair: u32, told: &mut Visit) -> u32
     ensures { AtMember (told.new ≡ told.old) (TurnsFirst pair told.old told.new) handle.old.held.kept handle.new.held.kept result }
@@ -154,7 +156,7 @@ pub fn turn(alloc: Global, handle: &mut Handle, pair: u32, told: &mut Visit) -> 
     let Some(member) = handle.take(alloc) else {
         return refused(Refusal::Einval);
     };
-    let outcome = member.as_ref().turn(pair, told);
+    let outcome = member.as_ref().seat.turn(pair, told);
     handle.put(member);
     number(outcome)
 }
@@ -178,7 +180,7 @@ pub fn audit(alloc: Global, handle: &mut Handle, pair: u32, told: &mut Account) 
     let Some(member) = handle.take(alloc) else {
         return refused(Refusal::Einval);
     };
-    let outcome = member.as_ref().audit(pair, told);
+    let outcome = member.as_ref().seat.audit(pair, told);
     handle.put(member);
     number(outcome)
 }

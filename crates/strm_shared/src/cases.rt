@@ -18,10 +18,10 @@ use std::process::Abort;
 use std::sync::Wait;
 use std::test::Fail;
 use std::thread::Threads;
-use strm_blocks::{Reserve, TableStore};
+use strm_blocks::TableStore;
 use strm_locks::{Object, System};
 use strm_minors::Opener;
-use strm_system::{Store, system_over};
+use strm_system::{Fresh, Locked, Store, system};
 use strm_types::Config;
 
 #[derive(Clone, Copy)]
@@ -82,7 +82,7 @@ fn play<P: Object + Send, R: Threads + Wait + Sync + Abort>(
 }
 
 // Makes a system, and plays a case there.
-fn on_pairs<B: Reserve + Send, R: Threads + Wait + Sync + Abort>(
+fn on_pairs<P: Fresh + Send, R: Threads + Wait + Sync + Abort>(
     rt: &R,
     alloc: Global,
     pairs: u32,
@@ -91,7 +91,7 @@ fn on_pairs<B: Reserve + Send, R: Threads + Wait + Sync + Abort>(
 ) -> Result<(), Fail>
     requires { pairs ≤ 64 }
 {
-    let (system, mut opener) = system_over::<B>(alloc, pairs, sizes)?;
+    let (system, mut opener) = system::<P>(alloc, pairs, sizes)?;
     let played = play(rt, alloc, &system, &mut opener, case);
     drop(opener);
     drop(system);
@@ -108,7 +108,7 @@ fn on<R: Threads + Wait + Sync + Abort>(
 ) -> Result<(), Fail>
     requires { pairs ≤ 64 }
 {
-    on_pairs::<Store, R>(rt, alloc, pairs, sizes, case)
+    on_pairs::<Locked<Store>, R>(rt, alloc, pairs, sizes, case)
 }
 
 #[test]
@@ -198,7 +198,7 @@ fn four_threads_are_told_what_the_pair_did(rt: HostRuntime) -> Result<(), Fail> 
 
 #[test]
 fn four_threads_are_told_over_tables_too(rt: HostRuntime) -> Result<(), Fail> {
-    on_pairs::<TableStore, HostRuntime>(&rt, rt.alloc(), 1, AMPLE, Case::FourTold)
+    on_pairs::<Locked<TableStore>, HostRuntime>(&rt, rt.alloc(), 1, AMPLE, Case::FourTold)
 }
 
 // `tools/refusals --tests strm_shared cut_may_be_refused` refuses each request for memory in turn.

@@ -9,10 +9,9 @@ use std::alloc::{AllocError, Global};
 use std::process::Abort;
 use std::sync::Wait;
 use std::test::Fail;
-use strm_blocks::Reserve;
 use strm_locks::{Object, PairEnd, System};
 use strm_minors::Opener;
-use strm_system::{Store, host_over, system_over};
+use strm_system::{Fresh, Locked, Store, host, system};
 use strm_trials::memory::all_memory;
 use strm_types::{Config, Refusal};
 
@@ -25,30 +24,30 @@ const LEAST: Config = Config {
 };
 
 // Why no system is made of two of the least pairs.
-fn no_system<B: Reserve>(alloc: Global) -> Option<Refusal> {
-    system_over::<B>(alloc, 2, LEAST).err()
+fn no_system<P: Fresh>(alloc: Global) -> Option<Refusal> {
+    system::<P>(alloc, 2, LEAST).err()
 }
 
 // Why no host is made of a hundred of the least pairs.
-fn no_host<B: Reserve>(alloc: Global) -> Option<Refusal> {
-    host_over::<B>(alloc, 100, LEAST).err()
+fn no_host<P: Fresh>(alloc: Global) -> Option<Refusal> {
+    host::<P>(alloc, 100, LEAST).err()
 }
 
 // Why neither is.
-fn refused<B: Reserve>(alloc: Global) -> (Option<Refusal>, Option<Refusal>) {
-    let system = no_system::<B>(alloc);
-    (system, no_host::<B>(alloc))
+fn refused<P: Fresh>(alloc: Global) -> (Option<Refusal>, Option<Refusal>) {
+    let system = no_system::<P>(alloc);
+    (system, no_host::<P>(alloc))
 }
 
 // Whether both are refused for want of memory.
 fn are_by_name(alloc: Global) -> bool {
-    let (system, host) = refused::<Store>(alloc);
+    let (system, host) = refused::<Locked<Store>>(alloc);
     system == Some(Refusal::NoMemory) && host == Some(Refusal::NoMemory)
 }
 
 // Whether neither is refused.
 fn are_made(alloc: Global) -> bool {
-    let (system, host) = refused::<Store>(alloc);
+    let (system, host) = refused::<Locked<Store>>(alloc);
     system.is_none() && host.is_none()
 }
 

@@ -17,7 +17,7 @@ use std::thread::Threads;
 use strm_image::Trace;
 use strm_locks::{ALL_PARTS, NoGate, Object, PairEnd, Settled, System, Told};
 use strm_minors::{Minor, Minors, NoMinor, Opener};
-use strm_system::{host, system};
+use strm_system::{Fresh, Locked, Store, host, system};
 use strm_types::{Answer, Config, Content, Event, Refusal, StopSignal, TIOCSPGRP};
 
 pub(crate) const SIZES: Config = Config {
@@ -132,10 +132,10 @@ pub(crate) fn strange_minor<P: Object, R: Wait + Abort>(
 }
 
 // Whether no system is made of so many pairs of these sizes.
-fn are_refused(alloc: Global, pairs: u32, sizes: Config) -> bool
+fn are_refused<P: Fresh>(alloc: Global, pairs: u32, sizes: Config) -> bool
     requires { pairs ≤ 64 }
 {
-    matches!(&system(alloc, pairs, sizes), Err(Refusal::Einval))
+    matches!(&system::<P>(alloc, pairs, sizes), Err(Refusal::Einval))
 }
 
 // No pair has a journal and no block, nor more than a store may have.
@@ -146,12 +146,12 @@ fn sizes_are_refused(rt: HostRuntime) {
             mblks: blocks,
             ..SIZES
         };
-        assert!(rt; are_refused(rt.alloc(), 1, few));
+        assert!(rt; are_refused::<Locked<Store>>(rt.alloc(), 1, few));
         let few = Config {
             dblks: blocks,
             ..SIZES
         };
-        assert!(rt; are_refused(rt.alloc(), 0, few));
+        assert!(rt; are_refused::<Locked<Store>>(rt.alloc(), 0, few));
     }
 }
 
@@ -447,16 +447,16 @@ pub(crate) fn job_reads<P: Object + Send, R: Threads + Wait + Sync + Abort>(
 }
 
 // Whether no host is made of so many pairs of these sizes.
-fn isnt_had(alloc: Global, pairs: u32, sizes: Config) -> bool {
-    matches!(&host(alloc, pairs, sizes), Err(Refusal::Einval))
+fn isnt_had<P: Fresh>(alloc: Global, pairs: u32, sizes: Config) -> bool {
+    matches!(&host::<P>(alloc, pairs, sizes), Err(Refusal::Einval))
 }
 
 // No host has no pair, nor more than 65,536.
 #[test]
 fn hosts_are_refused(rt: HostRuntime) {
     for pairs in [0, 65537] {
-        assert!(rt; isnt_had(rt.alloc(), pairs, SIZES));
+        assert!(rt; isnt_had::<Locked<Store>>(rt.alloc(), pairs, SIZES));
     }
     let few = Config { mblks: 0, ..SIZES };
-    assert!(rt; isnt_had(rt.alloc(), 65, few));
+    assert!(rt; isnt_had::<Locked<Store>>(rt.alloc(), 65, few));
 }

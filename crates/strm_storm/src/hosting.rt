@@ -2,7 +2,7 @@
 
 ghost use Rattle.std.specs.Prelude.{◌≡◌, ℕ, ◌+◌, ◌<◌, ◌≤◌, IfOk, List};
 ghost use Rattle.std.specs.Thread.{IsSync};
-ghost use Rattle.strm_hosts.specs.Hosts.{AreOf};
+ghost use Rattle.strm_system.specs.Hosts.{AreOf};
 ghost use Rattle.strm_locks.specs.Systems.{Plan};
 ghost use Rattle.strm_storm.specs.Rounds.{AreRounds};
 
@@ -11,9 +11,8 @@ use crate::rounds::{Round, next_round};
 use std::alloc::{AllocError, Global};
 use std::sync::Wait;
 use std::thread::{Threads, join};
-use strm_hosts::{Host, HostOpener};
 use strm_locks::Object;
-use strm_system::host;
+use strm_system::{Fresh, Host, HostOpener, host};
 use strm_types::Config;
 
 /// The rounds that were made of those that were asked for, and how many were refused.
@@ -166,13 +165,13 @@ fn serve_on<P: Object + Send, R: Threads + Wait + Sync>(
 /// Makes a host of so many pairs over 40 blocks of each kind, and has so many threads make a round at each: a thread claims a minor, opens the
 /// pair and its slave, writes three bytes, makes a turn, reads them, and settles the pair. It is refused where the host can't be had, and where
 /// memory for what the threads give back can't.
-pub fn serve<R: Threads + Wait + Sync>(
+pub fn serve<P: Fresh + Send, R: Threads + Wait + Sync>(
     rt: &R,
     alloc: Global,
     plan: HostPlan,
 ) -> anyhow::Result<HostReport>
     ensures { IfOk result (λ r. r.settled + r.refused ≡ plan.pairs) }
 {
-    let (host, opener) = host(alloc, plan.pairs, SIZES)?;
+    let (host, opener) = host::<P>(alloc, plan.pairs, SIZES)?;
     Ok(serve_on(rt, alloc, &host, opener, plan)?)
 }

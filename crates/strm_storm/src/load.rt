@@ -14,7 +14,7 @@ use std::sync::Wait;
 use std::thread::{Threads, map_vec};
 use strm_locks::{Object, System};
 use strm_minors::{Minor, Opener};
-use strm_system::system;
+use strm_system::{Fresh, system};
 use strm_types::{Config, Content, Event};
 
 // What each pair of a plan has.
@@ -123,8 +123,12 @@ fn load_on<P: Object + Send, R: Threads + Wait + Sync>(
 
 /// Carries out a plan: what the ends of all pairs were told. It tells nothing where memory was refused, or a pair couldn't be opened or
 /// settled.
-pub fn make_load<R: Threads + Wait + Sync>(rt: &R, alloc: Global, plan: &LoadPlan) -> Option<Sums> {
-    match system(alloc, plan.pairs, sizes_of(plan)) {
+pub fn make_load<P: Fresh + Send, R: Threads + Wait + Sync>(
+    rt: &R,
+    alloc: Global,
+    plan: &LoadPlan,
+) -> Option<Sums> {
+    match system::<P>(alloc, plan.pairs, sizes_of(plan)) {
         Ok((system, opener)) => load_on(rt, alloc, &system, opener, plan),
         Err(_) => None,
     }

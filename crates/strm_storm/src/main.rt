@@ -13,6 +13,10 @@ use crate::hosting::serve;
 use crate::load::make_load;
 use crate::plans::{Asked, read_plan};
 use crate::storms::{StormReport, storm};
+use strm_system::{Locked, Store};
+
+// What stands under each lock.
+type Pair = Locked<Store>;
 
 // How many calls were made, granted and refused ones.
 fn all_of(report: &StormReport) -> u64 {
@@ -30,7 +34,7 @@ fn main(rt: HostRuntime) -> anyhow::Result<()> {
         let (plan, whole) = match read_plan(&words)? {
             Asked::Storm { plan, whole } => (plan, whole),
             Asked::Host(plan) => {
-                let report = serve(&rt, rt.alloc(), plan)?;
+                let report = serve::<Pair, HostRuntime>(&rt, rt.alloc(), plan)?;
                 println!(rt;
                     "{} pairs settled, {} refused",
                     report.settled, report.refused
@@ -38,14 +42,14 @@ fn main(rt: HostRuntime) -> anyhow::Result<()> {
                 continue;
             }
             Asked::Load(plan) => {
-                match make_load(&rt, rt.alloc(), &plan) {
+                match make_load::<Pair, HostRuntime>(&rt, rt.alloc(), &plan) {
                     Some(told) => println!(rt; "{} {} {}", told.calls, told.written, told.read)?,
                     None => println!(rt; "refused")?,
                 }
                 continue;
             }
         };
-        let report = storm(&rt, rt.alloc(), plan);
+        let report = storm::<Pair, HostRuntime>(&rt, rt.alloc(), plan);
         let end = if report.settled {
             "settled"
         } else {

@@ -1,14 +1,14 @@
 //! A round at one pair of a host: it is claimed, opened, written, read and settled.
 
 ghost use Rattle.std.specs.Prelude.{◌≡◌, ◌<◌, IfOk, OnOk, length};
-ghost use Rattle.strm_hosts.specs.Hosts.{AreOf, Claims};
+ghost use Rattle.strm_system.specs.Hosts.{AreOf, Claims};
 ghost use Rattle.strm_locks.specs.Systems.{IsOne};
 ghost use Rattle.strm_storm.specs.Rounds.{AreOpened, Asks, IsRoundAt, IsRoundOf, Settles, reading, writing};
 
 use std::sync::Wait;
-use strm_hosts::{Host, HostMinor, HostOpener};
 use strm_locks::{Closed, Object, PairEnd, System};
 use strm_minors::Minor;
+use strm_system::{Host, HostMinor, HostOpener};
 use strm_types::{Answer, Content, Event, Refusal};
 
 /// A pair of a host that was claimed, opened, written, read and settled: its minor, and what was told in all where it settled.

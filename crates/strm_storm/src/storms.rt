@@ -21,7 +21,7 @@ use std::sync::Wait;
 use std::thread::Threads;
 use strm_locks::{Object, System};
 use strm_minors::Opener;
-use strm_system::system;
+use strm_system::{Fresh, system};
 use strm_types::{Config, Refusal};
 
 /// What the calls of a storm came to: how many were granted, and how many were refused, by the refusal's number. The calls that open the pairs
@@ -107,10 +107,14 @@ const SIZES: Config = Config {
 ///
 /// The report counts each call of each thread once. Where the system or a thread can't be had, NoMemory is counted as refused instead, and the
 /// storm isn't settled.
-pub fn storm<R: Threads + Wait + Sync>(rt: &R, alloc: Global, plan: StormPlan) -> StormReport
+pub fn storm<P: Fresh + Send, R: Threads + Wait + Sync>(
+    rt: &R,
+    alloc: Global,
+    plan: StormPlan,
+) -> StormReport
     ensures { IsStorm plan result }
 {
-    match system(alloc, plan.pairs, SIZES) {
+    match system::<P>(alloc, plan.pairs, SIZES) {
         Ok((system, opener)) => storm_on(rt, alloc, &system, opener, plan),
         Err(_) => StormReport::short_of(&Counts::none()),
     }

@@ -1,4 +1,5 @@
 pub mod Counting
+pub mod Openers
 pub mod Reading
 pub mod Taken
 pub mod Tallying

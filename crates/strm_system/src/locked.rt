@@ -1,11 +1,10 @@
 //! A pair, as a lock holds it.
 
-ghost use Rattle.std.specs.Prelude.{◌≡◌, ◌<◌, ◌^◌, ◌↔◌, IsTrue, MatchResult, length, slice_index_or};
+ghost use Rattle.std.specs.Prelude.{◌≡◌, ◌<◌, ◌^◌, length, slice_index_or};
 ghost use Rattle.strm_types.specs.Names.{direction_of, head_of};
-ghost use Rattle.strm_laws.specs.Pair.{new_pair};
 ghost use Rattle.strm_system.specs.Known.{AreCounts, Agrees};
-ghost use Rattle.strm_system.specs.Sizes.{AreSizes, IsNumber, NotMade};
 
+use crate::fresh::{Fresh, are_sizes};
 use std::alloc::Global;
 use strm_blocks::{Blocks, Reserve};
 use strm_image::Trace;
@@ -110,33 +109,17 @@ impl<B: Blocks + Drop> Object for Locked<B> {
     }
 }
 
-// Whether a store may have so many blocks of a kind.
-fn is_number(blocks: usize) -> bool
-    ensures { IsTrue result ↔ IsNumber blocks }
-{
-    0 < blocks && blocks <= 65536
-}
-
-/// Whether pairs may have these sizes.
-pub(crate) fn are_sizes(sizes: &Config) -> bool
-    ensures { IsTrue result ↔ AreSizes sizes.now }
-{
-    is_number(sizes.mblks) && is_number(sizes.dblks)
-}
-
-/// A pair that nobody opened, over a new store, with just these sizes: so many blocks of each kind, from 1 to 65536, and so many entries and
-/// bytes of a journal. It is refused by EINVAL where a number of blocks isn't one of those, and it alone; else for want of memory (NoMemory).
-pub fn unopened<B: Reserve>(alloc: Global, sizes: Config) -> Result<Locked<B>, Refusal>
-    ensures { MatchResult result (λ l. AreSizes sizes × (l.pair ≡ new_pair sizes)) (NotMade sizes) }
-{
-    if !are_sizes(&sizes) {
-        return Err(Refusal::Einval);
-    }
-    let Ok(store) = B::reserve(alloc, sizes.mblks, sizes.dblks) else {
-        return Err(Refusal::NoMemory);
-    };
-    match Pair::new(alloc, sizes, store) {
-        Ok(pair) => Ok(Locked { pair }),
-        Err(_) => Err(Refusal::NoMemory),
+impl<B: Reserve> Fresh for Locked<B> {
+    fn unopened(alloc: Global, sizes: Config) -> Result<Locked<B>, Refusal> {
+        if !are_sizes(&sizes) {
+            return Err(Refusal::Einval);
+        }
+        let Ok(store) = B::reserve(alloc, sizes.mblks, sizes.dblks) else {
+            return Err(Refusal::NoMemory);
+        };
+        match Pair::new(alloc, sizes, store) {
+            Ok(pair) => Ok(Locked { pair }),
+            Err(_) => Err(Refusal::NoMemory),
+        }
     }
 }

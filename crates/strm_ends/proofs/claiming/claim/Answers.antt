@@ -6,8 +6,8 @@ use Rattle.strm_ends.proofs.claiming.claim.Goals as goal
 
 pub returns : goal.returns
 returns c =
-    let before : c.args.handle.now.held.kept ≡ Some c.as_mut.result.now = cc (c.in-Some.ensures.taken, c.as_mut.ensures.value) in
+    let before : c.args.handle.now.held.kept ≡ Some c.behind-member.inside.seat = cc (c.in-Some.ensures.taken, c.as_mut.ensures.value, c.behind-member.view_is) in
     let behind : c.put.new.self.held.kept ≡ Some c.claim-outcome.new.self = c.put.ensures in
     at_member (c.claim-outcome.new.pair ≡ c.args.pair.now) (ClaimsMinor c.args.pair.now c.claim-outcome.new.pair) c.args.handle.now.held.kept
-    c.put.new.self.held.kept c.as_mut.result.now c.claim-outcome.new.self c.claim-outcome.result c.number.result before behind c.number.ensures
+    c.put.new.self.held.kept c.behind-member.inside.seat c.claim-outcome.new.self c.claim-outcome.result c.number.result before behind c.number.ensures
     c.claim-outcome.ensures

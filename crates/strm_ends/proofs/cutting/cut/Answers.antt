@@ -10,7 +10,7 @@ cut-outcome-requires c = closes c.args.trace.now.held.kept (sym c.is_open.ensure
 pub returns : goal.returns
 returns c =
     let none : c.args.trace.now.held.kept ≡ None = closes c.args.trace.now.held.kept (sym c.is_open.ensures ∙ c.if-is_open.false) in
-    let before : c.args.handle.now.held.kept ≡ Some c.as_ref.result.now = cc (c.in-Some.ensures.taken, c.as_ref.ensures) in
-    let behind : c.put.new.self.held.kept ≡ Some c.as_ref.result.now = cc (c.put.ensures, c.as_ref.ensures) in
+    let before : c.args.handle.now.held.kept ≡ Some c.behind-member.inside.seat = cc (c.in-Some.ensures.taken, c.as_ref.ensures, c.behind-member.view_is) in
+    let behind : c.put.new.self.held.kept ≡ Some c.behind-member.inside.seat = cc (c.put.ensures, c.as_ref.ensures, c.behind-member.view_is) in
     with_trace c.args.handle.now.held.kept c.put.new.self.held.kept c.args.trace.now.held.kept c.cut-outcome.new.trace.held.kept
-    c.as_ref.result.now c.as_ref.result.now c.cut-outcome.result c.number.result none before behind c.number.ensures c.cut-outcome.ensures
+    c.behind-member.inside.seat c.behind-member.inside.seat c.cut-outcome.result c.number.result none before behind c.number.ensures c.cut-outcome.ensures

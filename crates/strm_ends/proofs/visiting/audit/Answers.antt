@@ -6,8 +6,8 @@ use Rattle.strm_ends.proofs.visiting.audit.Goals as goal
 
 pub returns : goal.returns
 returns c =
-    let before : c.args.handle.now.held.kept ≡ Some c.as_ref.result.now = cc (c.in-Some.ensures.taken, c.as_ref.ensures) in
-    let behind : c.put.new.self.held.kept ≡ Some c.as_ref.result.now = cc (c.put.ensures, c.as_ref.ensures) in
+    let before : c.args.handle.now.held.kept ≡ Some c.behind-member.inside.seat = cc (c.in-Some.ensures.taken, c.as_ref.ensures, c.behind-member.view_is) in
+    let behind : c.put.new.self.held.kept ≡ Some c.behind-member.inside.seat = cc (c.put.ensures, c.as_ref.ensures, c.behind-member.view_is) in
     at_member (c.audit-outcome.new.told ≡ c.args.told.now) (Audits c.args.pair c.args.told.now c.audit-outcome.new.told) c.args.handle.now.held.kept
-    c.put.new.self.held.kept c.as_ref.result.now c.as_ref.result.now c.audit-outcome.result c.number.result before behind c.number.ensures
+    c.put.new.self.held.kept c.behind-member.inside.seat c.behind-member.inside.seat c.audit-outcome.result c.number.result before behind c.number.ensures
     c.audit-outcome.ensures

@@ -1,6 +1,6 @@
 use Rattle.std.proofs.Common.{◌≡◌, ◌+◌, length}
 use Rattle.std.specs.Prelude.{All}
-use Rattle.strm_hosts.specs.Hosts.{AreOf}
+use Rattle.strm_system.specs.Hosts.{AreOf}
 use Rattle.strm_storm.specs.Rounds.{IsRoundOf}
 use Rattle.strm_storm.proofs.hosting.serial_rounds.Given as goal
 
