@@ -1,7 +1,6 @@
 -- The slave that an end called for, by what the end became.
 use Rattle.std.proofs.Common.{ℕ, ◌≡◌, List, sym, ap, ◌∙◌, subst}
 use Rattle.std.specs.Prelude.{Option, None, Some, Ok, Err}
-use Rattle.strm_types.specs.declared.refusals.Refusal.{Refusal}
 use Rattle.strm_minors.specs.Openers.{Holding}
 use Rattle.strm_locks.specs.Ends.{CallsSlave}
 use Rattle.strm_locks.specs.Systems.{Numbered, Plan, numbered}

@@ -19,7 +19,7 @@ use std::sync::Wait;
 use std::test::Fail;
 use std::thread::Threads;
 use strm_blocks::TableStore;
-use strm_locks::{Object, System};
+use strm_locks::System;
 use strm_minors::Opener;
 use strm_system::{Fresh, Locked, Store, system};
 use strm_types::Config;
@@ -48,7 +48,7 @@ enum Case {
 }
 
 // What a case does at a system.
-fn play<P: Object + Send, R: Threads + Wait + Sync + Abort>(
+fn play<P: Fresh + Send, R: Threads + Wait + Sync + Abort>(
     rt: &R,
     alloc: Global,
     system: &System<P>,

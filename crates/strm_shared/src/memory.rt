@@ -11,7 +11,7 @@ use std::sync::Wait;
 use std::test::Fail;
 use strm_locks::{Object, PairEnd, System};
 use strm_minors::Opener;
-use strm_system::{Fresh, Locked, Store, host, system};
+use strm_system::{Fresh, host, system};
 use strm_trials::memory::all_memory;
 use strm_types::{Config, Refusal};
 
@@ -40,14 +40,14 @@ fn refused<P: Fresh>(alloc: Global) -> (Option<Refusal>, Option<Refusal>) {
 }
 
 // Whether both are refused for want of memory.
-fn are_by_name(alloc: Global) -> bool {
-    let (system, host) = refused::<Locked<Store>>(alloc);
+fn are_by_name<P: Fresh>(alloc: Global) -> bool {
+    let (system, host) = refused::<P>(alloc);
     system == Some(Refusal::NoMemory) && host == Some(Refusal::NoMemory)
 }
 
 // Whether neither is refused.
-fn are_made(alloc: Global) -> bool {
-    let (system, host) = refused::<Locked<Store>>(alloc);
+fn are_made<P: Fresh>(alloc: Global) -> bool {
+    let (system, host) = refused::<P>(alloc);
     system.is_none() && host.is_none()
 }
 
@@ -56,7 +56,7 @@ fn has_crew<P: Object>(system: &System<P>, alloc: Global) -> bool {
 }
 
 // Whether a cut, workers, a system and a host are refused by name, and a write isn't.
-fn are_refused<P: Object, R: Wait>(
+fn are_refused<P: Fresh, R: Wait>(
     rt: &R,
     alloc: Global,
     system: &System<P>,
@@ -67,13 +67,13 @@ fn are_refused<P: Object, R: Wait>(
 {
     let was_cut = cut(rt, alloc, system, master).is_some();
     let has_crew = has_crew(system, alloc);
-    let by_name = are_by_name(alloc);
+    let by_name = are_by_name::<P>(alloc);
     let wrote = writes(rt, system, master, b"abc");
     wrote && !was_cut && !has_crew && by_name
 }
 
 // Whether none of them is.
-fn are_had<P: Object, R: Wait>(
+fn are_had<P: Fresh, R: Wait>(
     rt: &R,
     alloc: Global,
     system: &System<P>,
@@ -82,12 +82,12 @@ fn are_had<P: Object, R: Wait>(
     requires { IsOne system.now master.now }
 {
     let was_cut = cut(rt, alloc, system, master).is_some();
-    let are_made = are_made(alloc);
+    let are_made = are_made::<P>(alloc);
     was_cut && has_crew(system, alloc) && are_made
 }
 
 // Where all memory is taken nothing is made that asks for it, and a write goes well; once it was given back, all is.
-fn is_short_for<P: Object, R: Wait + Abort>(
+fn is_short_for<P: Fresh, R: Wait + Abort>(
     rt: &R,
     alloc: Global,
     system: &System<P>,
@@ -107,7 +107,7 @@ fn is_short_for<P: Object, R: Wait + Abort>(
 }
 
 // The same of a pair that is opened here, whose ends are told four calls.
-pub(crate) fn is_short<P: Object, R: Wait + Abort>(
+pub(crate) fn is_short<P: Fresh, R: Wait + Abort>(
     rt: &R,
     alloc: Global,
     system: &System<P>,

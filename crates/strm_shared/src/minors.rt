@@ -45,14 +45,21 @@ fn both_claim<R: Threads + Sync>(rt: &R, minors: &Minors, opener: Opener) -> (Op
     (minors.join_openers(one.0, two.0), one.1, two.1)
 }
 
+// Each of two threads had a minor at each claim, and both minors are free behind them.
+fn both_are_had<R: Threads + Sync + Abort>(rt: &R, minors: &Minors, opener: Opener)
+    requires { IsOf minors.now opener }
+{
+    let (mut both, one, two) = both_claim(rt, minors, opener);
+    assert!(rt; one == 1000 && two == 1000);
+    assert!(rt; minors.claim(&mut both).is_ok() && minors.claim(&mut both).is_ok());
+    assert!(rt; minors.claim(&mut both).is_err());
+}
+
 // A thread finds the first of two minors taken only while the other thread holds it, and then the second one is free.
 #[test]
 fn two_threads_claim_two_minors_at_once(rt: HostRuntime) -> Result<(), Fail> {
     let (minors, opener) = Minors::new(rt.alloc(), 2)?;
-    let (mut both, one, two) = both_claim(&rt, &minors, opener);
-    assert!(rt; one == 1000 && two == 1000);
-    assert!(rt; minors.claim(&mut both).is_ok() && minors.claim(&mut both).is_ok());
-    assert!(rt; minors.claim(&mut both).is_err());
+    both_are_had(&rt, &minors, opener);
     Ok(())
 }
 
@@ -112,17 +119,23 @@ fn passed_on(
     Ok(again)
 }
 
-#[test]
-fn two_openers_claim_all_in_turn(rt: HostRuntime) -> Result<(), Fail> {
-    let (minors, opener) = Minors::new(rt.alloc(), 64)?;
+// All of 64 minors are claimed in turn, one is passed on, and one opener of both holds them all.
+fn all_are_claimed(
+    rt: &impl Abort,
+    alloc: Global,
+    minors: &Minors,
+    opener: Opener,
+) -> Result<(), Fail>
+    requires { IsOf minors.now opener }
+{
     let TwoOpeners {
         mut even,
         mut odd,
         mut claimed,
-    } = claimed_in_turn(&rt, rt.alloc(), &minors, opener)?;
+    } = claimed_in_turn(rt, alloc, minors, opener)?;
     assert_eq!(rt; claimed.len(), 64);
     let seventh = claimed.swap_remove(7);
-    let again = passed_on(&rt, &minors, &mut odd, &mut even, seventh)?;
+    let again = passed_on(rt, minors, &mut odd, &mut even, seventh)?;
     assert_eq!(rt; again.number(), 7);
     claimed.push(again)?;
 
@@ -134,15 +147,27 @@ fn two_openers_claim_all_in_turn(rt: HostRuntime) -> Result<(), Fail> {
 }
 
 #[test]
-fn a_single_pair_is_claimed_again_once_it_is_released(rt: HostRuntime) -> Result<(), Fail> {
-    let (minors, opener) = Minors::new(rt.alloc(), 1)?;
+fn two_openers_claim_all_in_turn(rt: HostRuntime) -> Result<(), Fail> {
+    let (minors, opener) = Minors::new(rt.alloc(), 64)?;
+    all_are_claimed(&rt, rt.alloc(), &minors, opener)
+}
+
+// The only minor is taken while one opener holds it, and the other's once it is released.
+fn only_is_passed_on(rt: &impl Abort, minors: &Minors, opener: Opener) -> Result<(), NoMinor>
+    requires { IsOf minors.now opener }
+{
     let (mut first, mut second) = minors.split_opener(opener);
     let only = minors.claim(&mut second)?;
     assert_eq!(rt; only.number(), 0);
     assert!(rt; minors.claim(&mut first).is_err());
-    minors.release(&mut second, only);
-    let only = minors.claim(&mut first)?;
+    let only = passed_on(rt, minors, &mut second, &mut first, only)?;
     assert_eq!(rt; only.number(), 0);
-    assert!(rt; first.holds(&only) && !second.holds(&only));
+    Ok(())
+}
+
+#[test]
+fn a_single_pair_is_claimed_again_once_it_is_released(rt: HostRuntime) -> Result<(), Fail> {
+    let (minors, opener) = Minors::new(rt.alloc(), 1)?;
+    only_is_passed_on(&rt, &minors, opener)?;
     Ok(())
 }

@@ -13,7 +13,10 @@ use crate::hosting::serve;
 use crate::load::make_load;
 use crate::plans::{Asked, read_plan};
 use crate::storms::{StormReport, storm};
-use strm_system::{Locked, Store};
+use std::alloc::Global;
+use std::sync::Wait;
+use std::thread::Threads;
+use strm_system::{Fresh, Locked, Store};
 
 // What stands under each lock.
 type Pair = Locked<Store>;
@@ -27,42 +30,56 @@ fn all_of(report: &StormReport) -> u64 {
     all
 }
 
+// What a storm came to, in words: all calls together, or the whole report.
+fn tell_storm<R: Print>(rt: &R, report: &StormReport, whole: bool) -> anyhow::Result<()> {
+    let end = if report.settled {
+        "settled"
+    } else {
+        "not settled"
+    };
+    if whole {
+        println!(rt;
+            "{} granted, refused by number {:?}, {end}",
+            report.calls, report.refused
+        )?;
+    } else {
+        println!(rt; "{} {end}", all_of(report))?;
+    }
+    Ok(())
+}
+
+// Carries out what a line asks for with pairs of a kind, and tells what it came to.
+fn answer<P: Fresh + Send, R: Threads + Wait + Sync + Print>(
+    rt: &R,
+    alloc: Global,
+    asked: Asked,
+) -> anyhow::Result<()> {
+    match asked {
+        Asked::Storm { plan, whole } => {
+            let report = storm::<P, R>(rt, alloc, plan);
+            tell_storm(rt, &report, whole)?;
+        }
+        Asked::Host(plan) => {
+            let report = serve::<P, R>(rt, alloc, plan)?;
+            println!(rt;
+                "{} pairs settled, {} refused",
+                report.settled, report.refused
+            )?;
+        }
+        Asked::Load(plan) => match make_load::<P, R>(rt, alloc, &plan) {
+            Some(told) => println!(rt; "{} {} {}", told.calls, told.written, told.read)?,
+            None => println!(rt; "refused")?,
+        },
+    }
+    Ok(())
+}
+
 fn main(rt: HostRuntime) -> anyhow::Result<()> {
     for line in rt.lines(rt.alloc()) {
         let line = line?;
         let words: Vec<&str> = line.split_whitespace().collect(rt.alloc())?;
-        let (plan, whole) = match read_plan(&words)? {
-            Asked::Storm { plan, whole } => (plan, whole),
-            Asked::Host(plan) => {
-                let report = serve::<Pair, HostRuntime>(&rt, rt.alloc(), plan)?;
-                println!(rt;
-                    "{} pairs settled, {} refused",
-                    report.settled, report.refused
-                )?;
-                continue;
-            }
-            Asked::Load(plan) => {
-                match make_load::<Pair, HostRuntime>(&rt, rt.alloc(), &plan) {
-                    Some(told) => println!(rt; "{} {} {}", told.calls, told.written, told.read)?,
-                    None => println!(rt; "refused")?,
-                }
-                continue;
-            }
-        };
-        let report = storm::<Pair, HostRuntime>(&rt, rt.alloc(), plan);
-        let end = if report.settled {
-            "settled"
-        } else {
-            "not settled"
-        };
-        if whole {
-            println!(rt;
-                "{} granted, refused by number {:?}, {end}",
-                report.calls, report.refused
-            )?;
-        } else {
-            println!(rt; "{} {end}", all_of(&report))?;
-        }
+        let asked = read_plan(&words)?;
+        answer::<Pair, HostRuntime>(&rt, rt.alloc(), asked)?;
     }
     Ok(())
 }
