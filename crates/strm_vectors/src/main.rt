@@ -19,12 +19,17 @@ use strm_raw::RawStore;
 fn answer(rt: &impl Print, alloc: Global, line: &str) -> Result<bool> {
     let fields: Vec<&str> = line.split('\t').collect(alloc)?;
     let vector = vector_of(alloc, fields.as_slice())?;
-    if let Vector::Untold { text } = &vector {
+    tell(rt, alloc, &vector)
+}
+
+// Tells whether what a line says holds, or the image that it asks for.
+fn tell(rt: &impl Print, alloc: Global, vector: &Vector) -> Result<bool> {
+    if let Vector::Untold { text } = vector {
         let told = restored_as::<RawStore>(alloc, text.as_slice())?;
         println!(rt; "{told}")?;
         return Ok(true);
     }
-    match check::<RawStore>(alloc, &vector) {
+    match check::<RawStore>(alloc, vector) {
         Ok(()) => {
             println!(rt; "holds")?;
             Ok(true)

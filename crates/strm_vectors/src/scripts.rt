@@ -1,6 +1,6 @@
 //! Scripts in one field.
 
-ghost use Rattle.std.specs.Prelude.{◌≡◌, [], ◌∷◌, ◌++◌, IfOk};
+ghost use Rattle.std.specs.Prelude.{◌≡◌, [], ◌∷◌, ◌++◌, IfOk, OnOk};
 ghost use Rattle.strm_vectors.specs.Scripts.{so_far, spelled, spelling};
 
 use anyhow::{Result, bail};
@@ -12,14 +12,23 @@ pub fn script_in(alloc: Global, field: &str) -> Result<Vec<u8>>
     ensures { IfOk result (λ script. spelled script.items ≡ field.now) }
 {
     let mut script = Vec::new(alloc);
+    take_field(&mut script, field)?;
+    Ok(script)
+}
+
+// Takes a field into an empty script.
+fn take_field(script: &mut Vec<u8>, field: &str) -> Result<()>
+    requires { script.old.items ≡ [] }
+    ensures { OnOk result (spelled script.new.items ≡ field.now) }
+{
     let mut behind = false;
     for byte in field.as_bytes() {
-        behind = take_byte(&mut script, behind, *byte)?;
+        behind = take_byte(script, behind, *byte)?;
     }
     if behind {
         bail!("a backslash at the end of a script");
     }
-    Ok(script)
+    Ok(())
 }
 
 // Takes the next byte of a field, behind a backslash or not; whether it is a backslash that waits for the next one.
