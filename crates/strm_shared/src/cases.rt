@@ -9,7 +9,8 @@ use crate::rows::{AMPLE, all_is_told};
 use crate::server::serves_eight;
 use crate::systems::{
     NO_JOURNAL, SIZES, carries_and_is_cut, carries_and_settles, job_reads, joins_two_pairs,
-    opens_and_refuses, parts_settle_nothing, runs_out_of_minors, splits_to_one_part, strange_minor,
+    opens_and_refuses, parts_settle_nothing, refuses_hosts, refuses_sizes, runs_out_of_minors,
+    splits_to_one_part, strange_minor,
 };
 use crate::threads::{hand_over, workers_meet};
 use crate::workers::{visits_none, visits_round, visits_two};
@@ -45,6 +46,8 @@ enum Case {
     Round,
     NoPair,
     FourTold,
+    BadSizes,
+    BadHosts,
 }
 
 // What a case does at a system.
@@ -77,6 +80,8 @@ fn play<P: Fresh + Send, R: Threads + Wait + Sync + Abort>(
         Case::Round => visits_round(rt, alloc, system, opener),
         Case::NoPair => visits_none(rt, alloc, system),
         Case::FourTold => all_is_told(rt, system, opener),
+        Case::BadSizes => refuses_sizes::<P, R>(rt, alloc),
+        Case::BadHosts => refuses_hosts::<P, R>(rt, alloc),
     }
     Ok(())
 }
@@ -189,6 +194,16 @@ fn a_worker_visits_pairs_round(rt: HostRuntime) -> Result<(), Fail> {
 #[test]
 fn where_there_is_no_pair_no_visit_is_made(rt: HostRuntime) -> Result<(), Fail> {
     on(&rt, rt.alloc(), 0, SIZES, Case::NoPair)
+}
+
+#[test]
+fn sizes_are_refused(rt: HostRuntime) -> Result<(), Fail> {
+    on(&rt, rt.alloc(), 0, SIZES, Case::BadSizes)
+}
+
+#[test]
+fn hosts_are_refused(rt: HostRuntime) -> Result<(), Fail> {
+    on(&rt, rt.alloc(), 0, SIZES, Case::BadHosts)
 }
 
 #[test]

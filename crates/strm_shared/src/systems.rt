@@ -17,7 +17,7 @@ use std::thread::Threads;
 use strm_image::Trace;
 use strm_locks::{ALL_PARTS, NoGate, Object, PairEnd, Settled, System, Told};
 use strm_minors::{Minor, Minors, NoMinor, Opener};
-use strm_system::{Fresh, Locked, Store, host, system};
+use strm_system::{Fresh, host, system};
 use strm_types::{Answer, Config, Content, Event, Refusal, StopSignal, TIOCSPGRP};
 
 pub(crate) const SIZES: Config = Config {
@@ -139,19 +139,18 @@ fn are_refused<P: Fresh>(alloc: Global, pairs: u32, sizes: Config) -> bool
 }
 
 // No pair has a journal and no block, nor more than a store may have.
-#[test]
-fn sizes_are_refused(rt: HostRuntime) {
+pub(crate) fn refuses_sizes<P: Fresh, R: Abort>(rt: &R, alloc: Global) {
     for blocks in [0, 65537] {
         let few = Config {
             mblks: blocks,
             ..SIZES
         };
-        assert!(rt; are_refused::<Locked<Store>>(rt.alloc(), 1, few));
+        assert!(rt; are_refused::<P>(alloc, 1, few));
         let few = Config {
             dblks: blocks,
             ..SIZES
         };
-        assert!(rt; are_refused::<Locked<Store>>(rt.alloc(), 0, few));
+        assert!(rt; are_refused::<P>(alloc, 0, few));
     }
 }
 
@@ -452,11 +451,10 @@ fn isnt_had<P: Fresh>(alloc: Global, pairs: u32, sizes: Config) -> bool {
 }
 
 // No host has no pair, nor more than 65,536.
-#[test]
-fn hosts_are_refused(rt: HostRuntime) {
+pub(crate) fn refuses_hosts<P: Fresh, R: Abort>(rt: &R, alloc: Global) {
     for pairs in [0, 65537] {
-        assert!(rt; isnt_had::<Locked<Store>>(rt.alloc(), pairs, SIZES));
+        assert!(rt; isnt_had::<P>(alloc, pairs, SIZES));
     }
     let few = Config { mblks: 0, ..SIZES };
-    assert!(rt; isnt_had::<Locked<Store>>(rt.alloc(), 65, few));
+    assert!(rt; isnt_had::<P>(alloc, 65, few));
 }

@@ -16,6 +16,7 @@ use Rattle.strm_locks.specs.Settles.{IsSettled, ShowsPair}
 use Rattle.strm_locks.specs.Shares.{opener}
 use Rattle.strm_locks.specs.Systems.{IsOne, Numbered, Plan}
 use Rattle.strm_locks.specs.Turns.{Visited}
+use Rattle.strm_storm.specs.declared.ends.Ends.{Ends}
 use Rattle.strm_storm.specs.declared.hosting.Rounds.{Rounds}
 use Rattle.strm_storm.specs.declared.rounds.Round.{Round}
 
@@ -67,6 +68,10 @@ AreRounds host asked r = All (λ x. IsRoundOf host x) r.made.items × (length r.
 pub record HasMade (calls : List PlainEntry) (e : Share) : Type 0 where
   pub made : e.made ≡ calls
   pub bytes : (i : ℕ) → pick (suc i) e.told ≡ weigh (λ x. pick (suc i) (tally_of x)) calls
+
+-- ends of this system
+abbrev pub AreEnds : {P : Type 0} → Plan → Ends P → Type 0
+AreEnds system e = IsOne system e.master × IsOne system e.slave
 
 -- both ends of the pair of a minor, of which the master's opened it, unlocked it and opened the slave
 pub record AreOpened (system : Plan) (minor : ℕ) (master slave : Numbered) : Type 0 where

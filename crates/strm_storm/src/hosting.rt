@@ -98,6 +98,18 @@ fn serial_rounds<P: Object, R: Wait>(
     Ok(Rounds { made, refused })
 }
 
+// The opener, and one for a second thread.
+fn two_openers<P: Object>(
+    alloc: Global,
+    host: &Host<P>,
+    opener: HostOpener,
+) -> Result<(HostOpener, HostOpener), AllocError>
+    requires { AreOf host.now opener }
+    ensures { IfOk result (λ two. AreOf host.now two.0 × AreOf host.now two.1) }
+{
+    host.split_opener(alloc, opener).ok().ok_or(AllocError)
+}
+
 // The rounds of so many threads, each with an opener of its own.
 fn all_rounds<P: Object + Send, R: Threads + Wait + Sync>(
     rt: &R,
@@ -113,9 +125,7 @@ fn all_rounds<P: Object + Send, R: Threads + Wait + Sync>(
         return serial_rounds(rt, alloc, host, opener, share.rounds);
     }
     let (few, rest) = share.halves();
-    let Ok((opener, other)) = host.split_opener(alloc, opener) else {
-        return Err(AllocError);
-    };
+    let (opener, other) = two_openers(alloc, host, opener)?;
     let (first, second) = join(
         rt,
         || -> Result<Rounds<P>, AllocError>

@@ -6,6 +6,7 @@ ghost use Rattle.strm_minors.specs.Openers.{IsOf};
 mod crews;
 mod plans;
 
+use crate::ends::opened;
 use crews::{Crew, share};
 pub use plans::LoadPlan;
 use plans::Sums;
@@ -15,7 +16,7 @@ use std::thread::{Threads, map_vec};
 use strm_locks::{Object, System};
 use strm_minors::{Minor, Opener};
 use strm_system::{Fresh, system};
-use strm_types::{Config, Content, Event};
+use strm_types::Config;
 
 // What each pair of a plan has.
 fn sizes_of(plan: &LoadPlan) -> Config {
@@ -59,11 +60,8 @@ fn at_pair<P: Object + Send, R: Threads + Wait + Sync>(
     if minor.number() >= system.pairs() {
         return None;
     }
-    let mut master = system.open(rt, minor).ok()?;
-    let unlocked = system.call(rt, &mut master, &Event::Unlock, &mut Content::new());
-    unlocked.ok()?;
-    let slave = system.open_slave(rt, &mut master).ok()?;
-    let all = share(rt, system, master, slave, crew)?;
+    let ends = opened(rt, system, minor).ok()?;
+    let all = share(rt, system, ends, crew)?;
     let (closed, minor) = system.settle(rt, all).ok()?;
     let told = closed.settled.told;
     let sums = Sums {
@@ -74,28 +72,42 @@ fn at_pair<P: Object + Send, R: Threads + Wait + Sync>(
     Some((sums, minor))
 }
 
-// The rounds at all pairs at once, and the minors. A pair that was refused is none.
+// What was told at pairs that settled, and their minors.
+#[derive(Drop)]
+struct Loaded {
+    sums: Sums,
+    minors: Vec<Minor>,
+}
+
+// Those of one pair more. A pair that was refused is none.
+fn add(all: &mut Loaded, one: Option<(Sums, Minor)>) -> Option<()> {
+    let (more, minor) = one?;
+    all.sums = all.sums.plus(&more);
+    all.minors.push(minor).ok()
+}
+
+// The rounds at all pairs at once.
 fn at_all<P: Object + Send, R: Threads + Wait + Sync>(
     rt: &R,
     alloc: Global,
     system: &System<P>,
     minors: Vec<Minor>,
     crew: Crew,
-) -> Option<(Sums, Vec<Minor>)>
+) -> Option<Loaded>
     requires { 0 < crew.threads }
 {
     let each = |minor: Minor| -> Option<(Sums, Minor)>
         requires { 0 < crew.threads }
     { at_pair(rt, system, minor, crew) };
-    let all = map_vec(rt, minors, &each).ok()?;
-    let mut sums = Sums::none();
-    let mut minors = Vec::with_capacity(alloc, all.len()).ok()?;
-    for one in all {
-        let (more, minor) = one?;
-        sums = sums.plus(&more);
-        minors.push(minor).ok()?;
+    let told = map_vec(rt, minors, &each).ok()?;
+    let mut all = Loaded {
+        sums: Sums::none(),
+        minors: Vec::new(alloc),
+    };
+    for one in told {
+        add(&mut all, one)?;
     }
-    Some((sums, minors))
+    Some(all)
 }
 
 // Carries out a plan at a system of its pairs, none of them opened.
@@ -113,12 +125,12 @@ fn load_on<P: Object + Send, R: Threads + Wait + Sync>(
         rounds: plan.rounds,
     };
     let minors = claimed(alloc, system, opener, plan)?;
-    let (sums, minors) = at_all(rt, alloc, system, minors, crew)?;
+    let Loaded { sums, minors } = at_all(rt, alloc, system, minors, crew)?;
     if !plan.warm {
         return Some(sums);
     }
-    let (more, _minors) = at_all(rt, alloc, system, minors, crew)?;
-    Some(sums.plus(&more))
+    let more = at_all(rt, alloc, system, minors, crew)?;
+    Some(sums.plus(&more.sums))
 }
 
 /// Carries out a plan: what the ends of all pairs were told. It tells nothing where memory was refused, or a pair couldn't be opened or

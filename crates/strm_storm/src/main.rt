@@ -3,6 +3,7 @@
 //! status 1.
 #![tactic(auto)]
 
+mod ends;
 mod hosting;
 mod load;
 mod plans;

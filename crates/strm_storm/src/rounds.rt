@@ -5,6 +5,7 @@ ghost use Rattle.strm_system.specs.Hosts.{AreOf, Claims};
 ghost use Rattle.strm_locks.specs.Systems.{IsOne};
 ghost use Rattle.strm_storm.specs.Rounds.{AreOpened, Asks, IsRoundAt, IsRoundOf, Settles, reading, writing};
 
+use crate::ends::{Ends, opened};
 use std::sync::Wait;
 use strm_locks::{Closed, Object, PairEnd, System};
 use strm_minors::Minor;
@@ -16,24 +17,6 @@ use strm_types::{Answer, Content, Event, Refusal};
 pub struct Round<P: Object> {
     pub minor: HostMinor,
     pub closed: Closed<P>,
-}
-
-// Both ends of the pair of a minor, the master's and the slave's.
-fn opened<P: Object, R: Wait>(
-    rt: &R,
-    system: &System<P>,
-    minor: Minor,
-) -> Result<(PairEnd<P>, PairEnd<P>), Refusal>
-    requires { minor < length system.now.locks }
-    ensures { IfOk result (λ two. AreOpened system.now minor two.0 two.1) }
-{
-    let mut master = match system.open(rt, minor) {
-        Ok(end) => end,
-        Err((why, _minor)) => return Err(why.refusal),
-    };
-    system.call(rt, &mut master, &Event::Unlock, &mut Content::new())?;
-    let slave = system.open_slave(rt, &mut master)?;
-    Ok((master, slave))
 }
 
 // Writes three bytes. That fewer are taken counts as EAGAIN.
@@ -97,7 +80,10 @@ fn serve<P: Object, R: Wait>(
     requires { minor < length system.now.locks }
     ensures { IfOk result (λ r. (r.1 ≡ minor) × IsRoundAt system.now minor r.0.settled r.0.visit) }
 {
-    let (mut master, mut slave) = opened(rt, system, minor)?;
+    let Ends {
+        mut master,
+        mut slave,
+    } = opened(rt, system, minor)?;
     write(rt, system, &mut master)?;
     system.turn(rt, master.pair());
     read(rt, system, &mut slave)?;

@@ -67,8 +67,33 @@ pub(crate) struct Gathered<P: Object> {
 
 type Thread<'s, P> = PromisedHandle<Done<P>, Keeps<'s, P>>;
 
-// Starts a thread for each job. One that can't be had is left out.
+// Starts a thread for a job, unless it can't be had.
 fn started<'s, E, P: Object + Send, R: Threads + Wait + Sync>(
+    scope: &Scope<'s, E>,
+    rt: &'s R,
+    alloc: Global,
+    system: &'s System<P>,
+    job: Job<P>,
+) -> Option<Thread<'s, P>>
+    requires { IsJob system.now job.calls job × (job.calls ≤ 65536) }
+    ensures { IfSome result (λ t. (t.promise.system.now ≡ system.now) × (t.promise.calls ≡ job.calls)) }
+{
+    let keeps = Keeps {
+        system,
+        calls: job.calls,
+    };
+    let thread = scope.spawn_with(
+        keeps,
+        move || -> Done<P>
+            requires { IsJob system.now job.calls job × (job.calls ≤ 65536) }
+            ensures { AreHands system.entry.now result.hands.items × (all_counted result.counts ≡ job.calls) }
+        { work(rt, alloc, system, job) },
+    );
+    thread.ok()
+}
+
+// Starts a thread for each job. One that can't be had is left out.
+fn all_started<'s, E, P: Object + Send, R: Threads + Wait + Sync>(
     scope: &Scope<'s, E>,
     rt: &'s R,
     alloc: Global,
@@ -81,17 +106,7 @@ fn started<'s, E, P: Object + Send, R: Threads + Wait + Sync>(
 {
     let mut threads = Vec::with_capacity(alloc, jobs.len())?;
     for job in jobs {
-        let keeps = Keeps {
-            system,
-            calls: job.calls,
-        };
-        let Ok(thread) = scope.spawn_with(
-            keeps,
-            move || -> Done<P>
-                requires { IsJob system.now job.calls job × (job.calls ≤ 65536) }
-                ensures { AreHands system.entry.now result.hands.items × (all_counted result.counts ≡ job.calls) }
-            { work(rt, alloc, system, job) },
-        ) else {
+        let Some(thread) = started(scope, rt, alloc, system, job) else {
             continue;
         };
         threads.push(thread)?;
@@ -165,7 +180,7 @@ pub(crate) fn blow<P: Object + Send, R: Threads + Wait + Sync>(
             ensures { IfOk result (λ g. IsGathered system.entry.now wanted calls g) }
         {
             let mut crew = system.crew(alloc, wanted)?;
-            let threads = started(scope, rt, alloc, system, jobs)?;
+            let threads = all_started(scope, rt, alloc, system, jobs)?;
             let whole = threads.len() == wanted as usize;
             system.run_crew(rt, &mut crew, calls, &NoGate);
             let (hands, counts) = joined(rt, alloc, system, hands, threads);

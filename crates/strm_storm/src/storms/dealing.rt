@@ -1,17 +1,17 @@
 //! How the ends of a storm's pairs are made, and given to its threads.
 
-ghost use Rattle.std.specs.Prelude.{◌≡◌, All, IfOk, length};
+ghost use Rattle.std.specs.Prelude.{◌≡◌, All, IfOk, OnOk, [], ◌∷◌, ◌++◌, length};
 ghost use Rattle.strm_minors.specs.Openers.{IsOf};
 ghost use Rattle.strm_locks.specs.Systems.{IsOne};
 ghost use Rattle.strm_storm.specs.Storms.{AreHands, AreOf, IsJob};
 
 use super::hands::Hand;
 use super::plans::StormPlan;
+use crate::ends::{Ends, opened};
 use std::alloc::{AllocError, Global};
 use std::sync::Wait;
 use strm_locks::{Object, System, Told};
 use strm_minors::Opener;
-use strm_types::{Content, Event};
 
 /// The ends of all pairs, each side's in the order of the pairs.
 #[derive(Drop)]
@@ -28,8 +28,28 @@ pub(crate) struct Job<P: Object> {
     pub calls: u32,
 }
 
+// Two lists of hands, to which two are put at a time.
+type Lists<P> = (Vec<Hand<P>>, Vec<Hand<P>>);
+
+fn no_hands<P: Object>(alloc: Global, count: usize) -> Result<Lists<P>, AllocError>
+    ensures { IfOk result (λ both. (both.0.items ≡ []) × (both.1.items ≡ [])) }
+{
+    let first = Vec::with_capacity(alloc, count)?;
+    Ok((first, Vec::with_capacity(alloc, count)?))
+}
+
+// Puts one hand at the end of each list.
+fn put<P: Object>(both: &mut Lists<P>, two: (Hand<P>, Hand<P>)) -> Result<(), AllocError>
+    ensures { OnOk result ((both.new.0.items ≡ both.old.0.items ++ two.0 ∷ []) × (both.new.1.items ≡ both.old.1.items ++ two.1 ∷ [])) }
+{
+    let (first, second) = two;
+    both.0.push(first)?;
+    both.1.push(second)?;
+    Ok(())
+}
+
 // Both ends of the pair of a new minor, which is unlocked. The master's hand counts the three calls of that.
-fn opened<P: Object, R: Wait>(
+fn new_hands<P: Object, R: Wait>(
     rt: &R,
     system: &System<P>,
     opener: &mut Opener,
@@ -41,21 +61,14 @@ fn opened<P: Object, R: Wait>(
     let Ok(minor) = system.claim(opener) else {
         return Err(AllocError);
     };
-    let Ok(mut end) = system.open(rt, minor) else {
-        return Err(AllocError);
-    };
-    let unlocked = system.call(rt, &mut end, &Event::Unlock, &mut Content::new());
-    if unlocked.is_err() {
-        return Err(AllocError);
-    }
-    let Ok(slave) = system.open_slave(rt, &mut end) else {
+    let Ok(Ends { master, slave }) = opened(rt, system, minor) else {
         return Err(AllocError);
     };
     let own = Told {
         calls: 3,
         ..Told::nothing()
     };
-    Ok((Hand { end, own }, Hand::new(slave)))
+    Ok((Hand { end: master, own }, Hand::new(slave)))
 }
 
 /// Opens so many pairs, of each both sides. It is refused where one can't be had.
@@ -70,13 +83,12 @@ pub(crate) fn all_opened<P: Object, R: Wait>(
     ensures masters { IfOk result (λ s. AreOf system.now pairs s.masters.items) }
     ensures slaves { IfOk result (λ s. AreOf system.now pairs s.slaves.items) }
 {
-    let mut masters = Vec::with_capacity(alloc, pairs as usize)?;
-    let mut slaves = Vec::with_capacity(alloc, pairs as usize)?;
+    let mut both = no_hands(alloc, pairs as usize)?;
     for made in 0..pairs {
-        let (master, slave) = opened(rt, system, opener)?;
-        masters.push(master)?;
-        slaves.push(slave)?;
+        let two = new_hands(rt, system, opener)?;
+        put(&mut both, two)?;
     }
+    let (masters, slaves) = both;
     Ok(Sides { masters, slaves })
 }
 
@@ -85,19 +97,17 @@ fn dealt<P: Object>(
     alloc: Global,
     system: &System<P>,
     hands: Vec<Hand<P>>,
-) -> Result<(Vec<Hand<P>>, Vec<Hand<P>>), AllocError>
+) -> Result<Lists<P>, AllocError>
     requires { AreHands system.now hands.items }
     ensures left { IfOk result (λ two. AreOf system.now (length hands.items) two.0.items) }
     ensures given { IfOk result (λ two. AreOf system.now (length hands.items) two.1.items) }
 {
-    let mut left = Vec::with_capacity(alloc, hands.len())?;
-    let mut given = Vec::with_capacity(alloc, hands.len())?;
+    let mut both = no_hands(alloc, hands.len())?;
     for hand in hands {
-        let (kept, other) = hand.split(system)?;
-        left.push(kept)?;
-        given.push(other)?;
+        let two = hand.split(system)?;
+        put(&mut both, two)?;
     }
-    Ok((left, given))
+    Ok(both)
 }
 
 // The ends of the thread of this number, masters' where it is even and else slaves', and those that are left.

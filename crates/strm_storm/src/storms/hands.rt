@@ -5,6 +5,7 @@ ghost use Rattle.strm_locks.specs.Systems.{IsOne};
 ghost use Rattle.strm_storm.specs.Storms.{AreHands};
 
 use super::random::event_of;
+use crate::ends::{halves, joined};
 use std::alloc::{AllocError, Global};
 use std::sync::Wait;
 use strm_locks::{Each, Object, PairEnd, Settled, System, Told};
@@ -113,10 +114,8 @@ impl<P: Object> Hand<P> {
         ensures { IfOk result (λ two. IsOne system.now two.0.end × IsOne system.now two.1.end) }
     {
         let Hand { end, own } = self;
-        match system.split_end(end) {
-            Ok((end, other)) => Ok((Hand { end, own }, Hand::new(other))),
-            Err(_) => Err(AllocError),
-        }
+        let (end, other) = halves(system, end).ok_or(AllocError)?;
+        Ok((Hand { end, own }, Hand::new(other)))
     }
 
     /// One hand of two of a pair. Those of two pairs can't be joined.
@@ -130,13 +129,9 @@ impl<P: Object> Hand<P> {
             end: rest,
             own: more,
         } = other;
-        match system.join_ends(end, rest) {
-            Ok(end) => Ok(Hand {
-                end,
-                own: together(&own, &more),
-            }),
-            Err(_) => Err(AllocError),
-        }
+        let end = joined(system, end, rest).ok_or(AllocError)?;
+        let own = together(&own, &more);
+        Ok(Hand { end, own })
     }
 
     /// Whether the pair is settled, its ends were told what was counted, and both ledgers balance.

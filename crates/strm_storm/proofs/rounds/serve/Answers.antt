@@ -11,5 +11,5 @@ returns g c =
     let master = c.write.new.end in
     let slave = c.read.new.end in
     if-ok (λ r. (r.1 ≡ master.pair) × Settles system master slave r.0.settled r.0.visit) (λ r. (r.1 ≡ c.args.minor) × IsRoundAt system c.args.minor r.0.settled r.0.visit)
-    (λ r s. (s.0 ∙ wrote.pair ∙ o.pair, round-at system c.args.minor c.in_ok-master.master c.in_ok-master.slave master slave r.0.settled r.0.visit o wrote c.in_ok-read.ensures.asks c.write.ensures.one s.1))
+    (λ r s. (s.0 ∙ wrote.pair ∙ o.pair, round-at system c.args.minor c.in_ok-master.field-0.master c.in_ok-master.field-0.slave master slave r.0.settled r.0.visit o wrote c.in_ok-read.ensures.asks c.write.ensures.one s.1))
     c.settled.result c.settled.ensures

@@ -1,5 +1,5 @@
-use Rattle.strm_locks.specs.Systems.{IsOne}
+use Rattle.strm_storm.specs.Rounds.{AreEnds}
 use Rattle.strm_storm.proofs.load.crews.rounds.Given as goal
 
 abbrev pub invariant-loop : goal.invariant-loop
-invariant-loop g l = IsOne l.system l.master × IsOne l.system l.slave
+invariant-loop g l = AreEnds l.system l.ends

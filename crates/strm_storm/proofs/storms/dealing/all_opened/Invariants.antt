@@ -5,6 +5,6 @@ use Rattle.strm_storm.proofs.storms.dealing.all_opened.Given as goal
 abbrev pub invariant-loop-made : goal.invariant-loop-made
 invariant-loop-made g l = record {
   opener : IsOf l.system.minors l.opener;
-  masters : AreOf l.system l.made l.masters.items;
-  slaves : AreOf l.system l.made l.slaves.items;
+  masters : AreOf l.system l.made l.both.0.items;
+  slaves : AreOf l.system l.made l.both.1.items;
 }

@@ -1,7 +1,7 @@
 use Rattle.std.proofs.Common.{◌≡◌, ℕ, ◌+◌, ◌≤◌, length}
 use Rattle.std.specs.Prelude.{All}
 use Rattle.strm_storm.specs.Storms.{IsJob}
-use Rattle.strm_storm.proofs.storms.crew.started.Given as goal
+use Rattle.strm_storm.proofs.storms.crew.all_started.Given as goal
 
 abbrev pub invariant-loop-job : goal.invariant-loop-job
 invariant-loop-job g l = record {

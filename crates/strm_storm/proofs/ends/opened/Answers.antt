@@ -1,5 +1,5 @@
 use Rattle.strm_storm.proofs.Calls.{are_opened}
-use Rattle.strm_storm.proofs.rounds.opened.Goals as goal
+use Rattle.strm_storm.proofs.ends.opened.Goals as goal
 
 pub returns : goal.returns
 returns g c =

@@ -3,7 +3,7 @@ use Rattle.std.specs.Prelude.{All}
 use Rattle.std.proofs.lemmas.List.Elements.{All-head, All-rest}
 use Rattle.strm_storm.specs.Storms.{IsJob}
 use Rattle.strm_storm.proofs.Hands.{kept_more}
-use Rattle.strm_storm.proofs.storms.crew.started.Goals as goal
+use Rattle.strm_storm.proofs.storms.crew.all_started.Goals as goal
 
 pub loop-job-preserved-in_default : goal.loop-job-preserved-in_default
 loop-job-preserved-in_default g c =
@@ -26,8 +26,8 @@ loop-job-preserved g c =
       kept = λ calls each. let k = i.kept calls each in (
         All-rest (λ j. j.calls ≡ calls) _ _ _ is k.0,
         kept_more (λ t. (t.promise.system.now ≡ c.args.system.now) × (t.promise.calls ≡ calls)) _ _ _ c.in_ok-push.ensures.items k.1 (
-          ap (λ p. p.system.now) c.in-Ok.ensures.ok,
-          ap (λ p. p.calls) c.in-Ok.ensures.ok ∙ All-head (λ j. j.calls ≡ calls) _ _ (subst (λ js. All (λ j. j.calls ≡ calls) js) is k.0),
+          c.in-Some-started.ensures.0,
+          c.in-Some-started.ensures.1 ∙ All-head (λ j. j.calls ≡ calls) _ _ (subst (λ js. All (λ j. j.calls ≡ calls) js) is k.0),
         ),
       );
     }
