@@ -13,24 +13,23 @@ use crate::vectors::{Vector, vector_of};
 use anyhow::{Context, Result, bail};
 use std::alloc::Global;
 use std::io::{BufRead, BufReader};
-use strm_blocks::Reserve;
 use strm_raw::RawStore;
 
-// Answers a line over a store; whether what it says holds.
-fn answer<B: Reserve, R: Print>(rt: &R, alloc: Global, line: &str) -> Result<bool> {
+// Answers a line; whether what it says holds.
+fn answer(rt: &impl Print, alloc: Global, line: &str) -> Result<bool> {
     let fields: Vec<&str> = line.split('\t').collect(alloc)?;
     let vector = vector_of(alloc, fields.as_slice())?;
-    tell::<B, R>(rt, alloc, &vector)
+    tell(rt, alloc, &vector)
 }
 
 // Tells whether what a line says holds, or the image that it asks for.
-fn tell<B: Reserve, R: Print>(rt: &R, alloc: Global, vector: &Vector) -> Result<bool> {
+fn tell(rt: &impl Print, alloc: Global, vector: &Vector) -> Result<bool> {
     if let Vector::Untold { text } = vector {
-        let told = restored_as::<B>(alloc, text.as_slice())?;
+        let told = restored_as::<RawStore>(alloc, text.as_slice())?;
         println!(rt; "{told}")?;
         return Ok(true);
     }
-    match check::<B>(alloc, vector) {
+    match check::<RawStore>(alloc, vector) {
         Ok(()) => {
             println!(rt; "holds")?;
             Ok(true)
@@ -47,8 +46,7 @@ fn main(rt: HostRuntime) -> Result<()> {
     for line in BufReader::new(rt.alloc(), rt.reader())?.lines(rt.alloc()) {
         let line = line?;
         number = number.saturating_add(1);
-        let holds = answer::<RawStore, HostRuntime>(&rt, rt.alloc(), line.as_str());
-        if !holds.context(format_args!("line {number}"))? {
+        if !answer(&rt, rt.alloc(), line.as_str()).context(format_args!("line {number}"))? {
             differ = differ.saturating_add(1);
         }
     }

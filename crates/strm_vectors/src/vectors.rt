@@ -34,45 +34,22 @@ pub enum Vector {
 /// for the end of a line and `\\` for a backslash.
 pub fn vector_of(alloc: Global, fields: &[&str]) -> Result<Vector> {
     match fields {
-        ["bad", text, _] | ["flip", text, "EINVAL"] => bad(alloc, text),
-        ["flip" | "also" | "from1", text, "accepted", other, blocks] => {
-            image(alloc, text, other, blocks)
-        }
-        ["restore", text] => untold(alloc, text),
-        [script, text, blocks] => left(alloc, script, text, blocks),
+        ["bad", text, _] | ["flip", text, "EINVAL"] => Ok(Vector::Bad {
+            text: hex::decode(alloc, *text)?,
+        }),
+        ["flip" | "also" | "from1", text, "accepted", other, blocks] => Ok(Vector::Image {
+            text: hex::decode(alloc, *text)?,
+            other: hex::decode(alloc, *other)?,
+            blocks: blocks.parse::<u16>()?,
+        }),
+        ["restore", text] => Ok(Vector::Untold {
+            text: hex::decode(alloc, *text)?,
+        }),
+        [script, text, blocks] => Ok(Vector::Script {
+            script: script_in(alloc, script)?,
+            text: hex::decode(alloc, *text)?,
+            blocks: blocks.parse::<u16>()?,
+        }),
         _ => bail!("{} fields", fields.len()),
     }
-}
-
-fn bad(alloc: Global, text: &str) -> Result<Vector> {
-    let text = hex::decode(alloc, text)?;
-    Ok(Vector::Bad { text })
-}
-
-fn image(alloc: Global, text: &str, other: &str, blocks: &str) -> Result<Vector> {
-    let text = hex::decode(alloc, text)?;
-    let other = hex::decode(alloc, other)?;
-    let blocks = blocks.parse::<u16>()?;
-    Ok(Vector::Image {
-        text,
-        other,
-        blocks,
-    })
-}
-
-fn untold(alloc: Global, text: &str) -> Result<Vector> {
-    let text = hex::decode(alloc, text)?;
-    Ok(Vector::Untold { text })
-}
-
-// The pair that a script leaves.
-fn left(alloc: Global, script: &str, text: &str, blocks: &str) -> Result<Vector> {
-    let script = script_in(alloc, script)?;
-    let text = hex::decode(alloc, text)?;
-    let blocks = blocks.parse::<u16>()?;
-    Ok(Vector::Script {
-        script,
-        text,
-        blocks,
-    })
 }
